@@ -1,0 +1,3 @@
+-- Laws and theorems of `tape`.
+pub mod Parts
+pub mod RecordLaws

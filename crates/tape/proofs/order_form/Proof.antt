@@ -1,0 +1,14 @@
+use mathlib.Core.Path.{refl}
+use Rattle.tape.specs.Form.{orderFormed, orderTests}
+use Rattle.tape.proofs.order_form.Statement.{statement}
+use Rattle.tape.proofs.order_form.Tie as tie
+use Rattle.tape.proofs.order_form.Reads as reads
+use Rattle.tape.proofs.order_form.Lts as lts
+
+-- src/lib.rt:83:1
+returns : tie.Need-returns
+unfolding orderFormed orderTests
+returns c = refl
+
+pub order-form-spec : {M : Type 1} → statement M
+order-form-spec = tie.close (tie.spec returns)

@@ -1,0 +1,51 @@
+-- Worked examples, by computation. Assumes nothing.
+use mathlib.Core.Path.{_≡_, refl}
+use mathlib.Core.Bool.{true, false}
+use Rattle.words.specs.Bits.{bitAt, withBit, withoutBit, onesIn, clearIn, setIn}
+
+-- bits 0, 2 and 63, of 0x8000_0000_0000_0005
+top : bitAt 0x8000_0000_0000_0005 63 ≡ true
+top = refl
+
+past : bitAt 0xFFFF_FFFF_FFFF_FFFF 64 ≡ false
+past = refl
+
+sets : withBit 0x8000_0000_0000_0005 1 ≡ 0x8000_0000_0000_0007
+unfolding withBit
+sets = refl
+
+sets-again : withBit 0x8000_0000_0000_0005 63 ≡ 0x8000_0000_0000_0005
+unfolding withBit
+sets-again = refl
+
+sets-past : withBit 5 64 ≡ 5
+unfolding withBit
+sets-past = refl
+
+clears : withoutBit 0x8000_0000_0000_0005 63 ≡ 5
+unfolding withoutBit
+clears = refl
+
+clears-again : withoutBit 5 1 ≡ 5
+unfolding withoutBit
+clears-again = refl
+
+counts : onesIn 64 0x8000_0000_0000_0005 ≡ 3
+unfolding onesIn
+counts = refl
+
+first-clear : clearIn 64 0x8000_0000_0000_0005 ≡ 1
+unfolding clearIn
+first-clear = refl
+
+none-clear : clearIn 64 0xFFFF_FFFF_FFFF_FFFF ≡ 64
+unfolding clearIn
+none-clear = refl
+
+first-set : setIn 64 0x8000_0000_0000_0000 ≡ 63
+unfolding setIn
+first-set = refl
+
+none-set : setIn 64 0 ≡ 64
+unfolding setIn
+none-set = refl

@@ -1,0 +1,242 @@
+-- Laws of words in bytes: what was written is read, what was read is written back, other bytes stay. Assumes nothing.
+use mathlib.Core.Path.{_≡_, refl, ap, sym, _∙_}
+use mathlib.Core.List.{List, [], _∷_, _++_, append-assoc}
+use mathlib.Core.Logic.{_⊎_, ⊎-elim}
+use Prim.Native.Nat.{ℕ, zero, suc, _+_, _*_, _/_, _%_, _≤_, _<_, _^_}
+use native.Mathlib.Nat.{add-zero, zero-add, div-add-mod', div-div-eq-div-mul}
+use borrow.Author.Tests.{le-leb, lt-leb}
+use native.Mathlib.Omega.{arith}
+use lib.ListN.{length, getD, set, take, drop, take-append-drop, length-append}
+use lib.Seq.{sets, sets-eq, take-suc, drop-cons, length-take-le, getD-append-add, getD-set-other}
+use native.Mathlib.Numerals.{add-one}
+use Rattle.words.proofs.BitLaws.{le-or-lt}
+use Rattle.words.specs.Bytes.{AllBytes, joined, u32Bytes, wordBytes, wordAt, wordsFrom, withWord, withWords}
+
+-- four stores in a row, as code writes their places
+pub sets4 : (s : List ℕ) (i a b c d : ℕ) → set (set (set (set s i a) (i + 1) b) (i + 2) c) (i + 3) d ≡ sets s i (a ∷ b ∷ c ∷ d ∷ [])
+sets4 s i a b c d =
+    let e1 : i + 1 ≡ suc i = omega arith in
+    let e2 : i + 2 ≡ suc (suc i) = omega arith in
+    let e3 : i + 3 ≡ suc (suc (suc i)) = omega arith in
+    rw (e1, e2, e3)
+
+-- a run of stores is the one of its first part, then that of the rest
+pub sets-append : (xs ys s : List ℕ) (i : ℕ) → sets s i (xs ++ ys) ≡ sets (sets s i xs) (i + length xs) ys
+sets-append [] ys s i = rw add-zero
+sets-append (x ∷ xs) ys s i = sets-append xs ys (set s i x) (suc i) ∙ ap (λ (k : ℕ). sets (sets (set s i x) (suc i) xs) k ys) (omega arith)
+
+-- four digits of 256 make the number, in plain variables: linear
+four : (v q1 q2 q3 r0 r1 r2 : ℕ) → q1 * 256 + r0 ≡ v → q2 * 256 + r1 ≡ q1 → q3 * 256 + r2 ≡ q2 → r0 + r1 * 256 + r2 * 65536 + q3 * 16777216 ≡ v
+four v q1 q2 q3 r0 r1 r2 e0 e1 e2 = omega arith
+
+-- the number comes back from its bytes
+pub joined-bytes : (v : ℕ) → v < 2 ^ 32 → joined (v % 256) (v / 256 % 256) (v / 65536 % 256) (v / 16777216 % 256) ≡ v
+joined-bytes v h =
+    let d2 : v / 256 / 256 ≡ v / 65536 = div-div-eq-div-mul v 256 256 in
+    let d3 : v / 65536 / 256 ≡ v / 16777216 = div-div-eq-div-mul v 65536 256 in
+    let top : v / 16777216 < 256 = omega arith in
+    let last : v / 16777216 % 256 ≡ v / 16777216 = omega arith in
+    rw last
+    (four v (v / 256) (v / 65536) (v / 16777216) (v % 256) (v / 256 % 256) (v / 65536 % 256)
+    (div-add-mod' v 256)
+    (rw d2 at (div-add-mod' (v / 256) 256))
+    (rw d3 at (div-add-mod' (v / 65536) 256)))
+
+-- the bytes come back from the number
+pub bytes-joined : (a b c d : ℕ) → a < 256 → b < 256 → c < 256 → d < 256 → u32Bytes (joined a b c d) ≡ a ∷ b ∷ c ∷ d ∷ []
+bytes-joined a b c d ha hb hc hd =
+    let q1 : joined a b c d / 256 ≡ b + c * 256 + d * 65536 = omega arith in
+    let q2 : joined a b c d / 65536 ≡ c + d * 256 = omega arith in
+    let q3 : joined a b c d / 16777216 ≡ d = omega arith in
+    let e0 : joined a b c d % 256 ≡ a = omega arith in
+    let e1 : (b + c * 256 + d * 65536) % 256 ≡ b = omega arith in
+    let e2 : (c + d * 256) % 256 ≡ c = omega arith in
+    let e3 : d % 256 ≡ d = omega arith in
+    rw (q1, q2, q3, e0, e1, e2, e3)
+
+-- ---- rows of words
+
+pub length-wordBytes : (ws : List ℕ) → length (wordBytes ws) ≡ length ws * 4
+length-wordBytes [] = refl
+length-wordBytes (w ∷ ws) = omega (arith, length-wordBytes ws)
+
+pub wordBytes-append : (xs ys : List ℕ) → wordBytes (xs ++ ys) ≡ wordBytes xs ++ wordBytes ys
+wordBytes-append [] ys = refl
+wordBytes-append (x ∷ xs) ys = ap (λ (l : List ℕ). u32Bytes x ++ l) (wordBytes-append xs ys)
+
+-- one word more
+pub word-more : (s ws : List ℕ) (at i : ℕ) → i < length ws → sets (sets s at (wordBytes (take i ws))) (at + i * 4) (u32Bytes (getD ws i 0)) ≡ sets s at (wordBytes (take (i + 1) ws))
+word-more s ws at i h =
+    let e : take (i + 1) ws ≡ take i ws ++ (getD ws i 0 ∷ []) = rw (add-one, take-suc ws i 0) in
+    let n : length (wordBytes (take i ws)) ≡ i * 4 = omega (arith, length-wordBytes (take i ws), length-take-le i ws (omega arith)) in
+    sym
+    (ap (λ (l : List ℕ). sets s at (wordBytes l)) e
+    ∙ ap (λ (l : List ℕ). sets s at l) (wordBytes-append (take i ws) (getD ws i 0 ∷ []))
+    ∙ sets-append (wordBytes (take i ws)) (u32Bytes (getD ws i 0)) s at
+    ∙ ap (λ (k : ℕ). sets (sets s at (wordBytes (take i ws))) (at + k) (u32Bytes (getD ws i 0))) n)
+
+-- stores from the front on replace the first bytes, and no other
+pub sets-front : (vs l : List ℕ) (n : ℕ) → length vs ≡ n → n ≤ length l → sets l 0 vs ≡ vs ++ drop n l
+sets-front vs l n e h =
+    let z : 0 + length vs ≡ n = omega arith in
+    sets-eq vs l 0 (omega arith) ∙ ap (λ (k : ℕ). vs ++ drop k l) z
+
+-- ---- one word
+
+-- the four bytes that stand at `at`
+abbrev pub fourAt : List ℕ → ℕ → ℕ
+fourAt s at = joined (getD s at 0) (getD s (at + 1) 0) (getD s (at + 2) 0) (getD s (at + 3) 0)
+
+pub word-in : (s : List ℕ) (at : ℕ) → at + 4 ≤ length s → wordAt s at ≡ fourAt s at
+unfolding wordAt
+word-in s at h = simp (le-leb (at + 4) (length s) h)
+
+pub word-out : (s : List ℕ) (at : ℕ) → length s < at + 4 → wordAt s at ≡ 0
+unfolding wordAt
+word-out s at h = simp (lt-leb (at + 4) (length s) h)
+
+pub with-in : (s : List ℕ) (at v : ℕ) → at + 4 ≤ length s → withWord s at v ≡ sets s at (u32Bytes v)
+unfolding withWord
+with-in s at v h = simp (le-leb (at + 4) (length s) h)
+
+pub with-out : (s : List ℕ) (at v : ℕ) → length s < at + 4 → withWord s at v ≡ s
+unfolding withWord
+with-out s at v h = simp (lt-leb (at + 4) (length s) h)
+
+pub row-in : (s : List ℕ) (at : ℕ) (ws : List ℕ) → at + length ws * 4 ≤ length s → withWords s at ws ≡ sets s at (wordBytes ws)
+unfolding withWords
+row-in s at ws h = simp (le-leb (at + length ws * 4) (length s) h)
+
+pub row-out : (s : List ℕ) (at : ℕ) (ws : List ℕ) → length s < at + length ws * 4 → withWords s at ws ≡ s
+unfolding withWords
+row-out s at ws h = simp (lt-leb (at + length ws * 4) (length s) h)
+
+-- what stands after k elements, counted from there
+past : (xs l : List ℕ) (k i : ℕ) → length xs ≡ k → getD (xs ++ l) (k + i) 0 ≡ getD l i 0
+past xs l k i e = ap (λ (n : ℕ). getD (xs ++ l) (n + i) 0) (sym e) ∙ getD-append-add xs l i 0
+
+-- a word counts from the start of what is left
+pub word-past : (xs l : List ℕ) (k at : ℕ) → length xs ≡ k → wordAt (xs ++ l) (k + at) ≡ wordAt l at
+word-past xs l k at e = ⊎-elim inside outside (le-or-lt (at + 4) (length l))
+  where
+    n : length (xs ++ l) ≡ k + length l
+    n = length-append xs l ∙ ap (λ (m : ℕ). m + length l) e
+
+    g : (i : ℕ) → getD (xs ++ l) (k + at + i) 0 ≡ getD l (at + i) 0
+    g i = ap (λ (m : ℕ). getD (xs ++ l) m 0) (omega arith) ∙ past xs l k (at + i) e
+
+    inside : at + 4 ≤ length l → wordAt (xs ++ l) (k + at) ≡ wordAt l at
+    inside h =
+        let same : fourAt (xs ++ l) (k + at) ≡ fourAt l at = simp (past xs l k at e, g 1, g 2, g 3) in
+        word-in (xs ++ l) (k + at) (omega (arith, n)) ∙ same ∙ sym (word-in l at h)
+
+    outside : length l < at + 4 → wordAt (xs ++ l) (k + at) ≡ wordAt l at
+    outside h = word-out (xs ++ l) (k + at) (omega (arith, n)) ∙ sym (word-out l at h)
+
+-- a word that was put in front is read
+pub word-front : (v : ℕ) (l : List ℕ) → v < 2 ^ 32 → wordAt (u32Bytes v ++ l) 0 ≡ v
+word-front v l h = word-in (u32Bytes v ++ l) 0 (omega arith) ∙ joined-bytes v h
+
+-- what was written is read
+pub read-written : (s : List ℕ) (at v : ℕ) → at + 4 ≤ length s → v < 2 ^ 32 → wordAt (withWord s at v) at ≡ v
+read-written s at v h hv =
+    let t : length (take at s) ≡ at = length-take-le at s (omega arith) in
+    let e : withWord s at v ≡ take at s ++ (u32Bytes v ++ drop (at + 4) s) = with-in s at v h ∙ sets-eq (u32Bytes v) s at h ∙ append-assoc (take at s) (u32Bytes v) (drop (at + 4) s) in
+    ap (λ (l : List ℕ). wordAt l at) e
+    ∙ ap (λ (k : ℕ). wordAt (take at s ++ (u32Bytes v ++ drop (at + 4) s)) k) (sym (add-zero at))
+    ∙ word-past (take at s) (u32Bytes v ++ drop (at + 4) s) at 0 t
+    ∙ word-front v (drop (at + 4) s) hv
+
+-- the bytes of the word at `at`, and what is after them
+pub word-back : (s : List ℕ) (at : ℕ) → AllBytes s → at + 4 ≤ length s → u32Bytes (wordAt s at) ++ drop (at + 4) s ≡ drop at s
+word-back s at b h =
+    let e1 : suc at ≡ at + 1 = omega arith in
+    let e2 : suc (at + 1) ≡ at + 2 = omega arith in
+    let e3 : suc (at + 2) ≡ at + 3 = omega arith in
+    let e4 : suc (at + 3) ≡ at + 4 = omega arith in
+    let d0 : drop at s ≡ getD s at 0 ∷ drop (at + 1) s = rw e1 at (drop-cons s at 0 (omega arith)) in
+    let d1 : drop (at + 1) s ≡ getD s (at + 1) 0 ∷ drop (at + 2) s = rw e2 at (drop-cons s (at + 1) 0 (omega arith)) in
+    let d2 : drop (at + 2) s ≡ getD s (at + 2) 0 ∷ drop (at + 3) s = rw e3 at (drop-cons s (at + 2) 0 (omega arith)) in
+    let d3 : drop (at + 3) s ≡ getD s (at + 3) 0 ∷ drop (at + 4) s = rw e4 at (drop-cons s (at + 3) 0 (omega arith)) in
+    ap (λ (v : ℕ). u32Bytes v ++ drop (at + 4) s) (word-in s at h)
+    ∙ ap (λ (l : List ℕ). l ++ drop (at + 4) s) (bytes-joined (getD s at 0) (getD s (at + 1) 0) (getD s (at + 2) 0) (getD s (at + 3) 0) (b at) (b (at + 1)) (b (at + 2)) (b (at + 3)))
+    ∙ sym (d0 ∙ ap (λ (l : List ℕ). getD s at 0 ∷ l) (d1 ∙ ap (λ (l : List ℕ). getD s (at + 1) 0 ∷ l) (d2 ∙ ap (λ (l : List ℕ). getD s (at + 2) 0 ∷ l) d3)))
+
+-- what was read, written back, changes nothing
+pub written-read : (s : List ℕ) (at : ℕ) → AllBytes s → withWord s at (wordAt s at) ≡ s
+written-read s at b = ⊎-elim inside outside (le-or-lt (at + 4) (length s))
+  where
+    inside : at + 4 ≤ length s → withWord s at (wordAt s at) ≡ s
+    inside h =
+        with-in s at (wordAt s at) h
+        ∙ sets-eq (u32Bytes (wordAt s at)) s at h
+        ∙ append-assoc (take at s) (u32Bytes (wordAt s at)) (drop (at + 4) s)
+        ∙ ap (λ (l : List ℕ). take at s ++ l) (word-back s at b h)
+        ∙ take-append-drop at s
+
+    outside : length s < at + 4 → withWord s at (wordAt s at) ≡ s
+    outside h = with-out s at (wordAt s at) h
+
+-- no other byte changes
+pub other-stays : (s : List ℕ) (at v j : ℕ) → (j < at) ⊎ (at + 4 ≤ j) → getD (withWord s at v) j 0 ≡ getD s j 0
+other-stays s at v j o = ⊎-elim inside outside (le-or-lt (at + 4) (length s))
+  where
+    far : (k : ℕ) → k < 4 → j ≡ at + k → ⊥
+    far k h e = ⊎-elim (λ x. omega arith) (λ x. omega arith) o
+
+    s0 : List ℕ
+    s0 = set s at (v % 256)
+
+    s1 : List ℕ
+    s1 = set s0 (suc at) (v / 256 % 256)
+
+    s2 : List ℕ
+    s2 = set s1 (suc (suc at)) (v / 65536 % 256)
+
+    stores : getD (sets s at (u32Bytes v)) j 0 ≡ getD s j 0
+    stores =
+        getD-set-other s2 (suc (suc (suc at))) j (v / 16777216 % 256) 0 (λ e. far 3 (omega arith) (omega arith))
+        ∙ getD-set-other s1 (suc (suc at)) j (v / 65536 % 256) 0 (λ e. far 2 (omega arith) (omega arith))
+        ∙ getD-set-other s0 (suc at) j (v / 256 % 256) 0 (λ e. far 1 (omega arith) (omega arith))
+        ∙ getD-set-other s at j (v % 256) 0 (λ e. far 0 (omega arith) (omega arith))
+
+    inside : at + 4 ≤ length s → getD (withWord s at v) j 0 ≡ getD s j 0
+    inside h = ap (λ (l : List ℕ). getD l j 0) (with-in s at v h) ∙ stores
+
+    outside : length s < at + 4 → getD (withWord s at v) j 0 ≡ getD s j 0
+    outside h = ap (λ (l : List ℕ). getD l j 0) (with-out s at v h)
+
+-- ---- rows of words: a record of any length is one
+
+-- every word of a row fits 32 bits
+pub data Fit : List ℕ → Type 0 where
+  none : Fit []
+  more : {w : ℕ} {ws : List ℕ} → w < 2 ^ 32 → Fit ws → Fit (w ∷ ws)
+
+-- a row counts from the start of what is left
+row-past : (xs l : List ℕ) (k n at : ℕ) → length xs ≡ k → wordsFrom (xs ++ l) (k + at) n ≡ wordsFrom l at n
+row-past xs l k zero at e = refl
+row-past xs l k (suc n) at e =
+    let a : k + at + 4 ≡ k + (at + 4) = omega arith in
+    simp (word-past xs l k at e, a, row-past xs l k n (at + 4) e)
+
+-- the words that were written in front are read
+pub row-read : {ws : List ℕ} → Fit ws → (l : List ℕ) → wordsFrom (wordBytes ws ++ l) 0 (length ws) ≡ ws
+row-read none l = refl
+row-read (more {w} {ws} h f) l =
+    ap (λ (x : ℕ). x ∷ wordsFrom (u32Bytes w ++ (wordBytes ws ++ l)) 4 (length ws)) (word-front w (wordBytes ws ++ l) h)
+    ∙ ap (λ (r : List ℕ). w ∷ r) (row-past (u32Bytes w) (wordBytes ws ++ l) 4 (length ws) 0 refl ∙ row-read f l)
+
+-- n words that were read, written back, are the bytes
+pub row-back : (s : List ℕ) (n at : ℕ) → AllBytes s → at + n * 4 ≤ length s → wordBytes (wordsFrom s at n) ++ drop (at + n * 4) s ≡ drop at s
+row-back s zero at b h = ap (λ (k : ℕ). drop k s) (add-zero at)
+row-back s (suc n) at b h =
+    let e : at + suc n * 4 ≡ at + 4 + n * 4 = omega arith in
+    append-assoc (u32Bytes (wordAt s at)) (wordBytes (wordsFrom s (at + 4) n)) (drop (at + suc n * 4) s)
+    ∙ ap (λ (k : ℕ). u32Bytes (wordAt s at) ++ (wordBytes (wordsFrom s (at + 4) n) ++ drop k s)) e
+    ∙ ap (λ (l : List ℕ). u32Bytes (wordAt s at) ++ l) (row-back s n (at + 4) b (omega arith))
+    ∙ word-back s at b (omega arith)
+
+-- a row written at the start replaces its own bytes, and no other
+pub row-front : (s ws : List ℕ) → length ws * 4 ≤ length s → withWords s 0 ws ≡ wordBytes ws ++ drop (length ws * 4) s
+row-front s ws h = row-in s 0 ws (omega arith) ∙ sets-front (wordBytes ws) s (length ws * 4) (length-wordBytes ws) h

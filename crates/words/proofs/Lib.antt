@@ -1,0 +1,5 @@
+-- Laws of words.
+pub mod ByteLaws
+pub mod BitLaws
+pub mod BitMachine
+pub mod BitExamples

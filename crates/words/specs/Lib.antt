@@ -1,0 +1,3 @@
+-- What the contracts of `words` cite.
+pub mod Bytes
+pub mod Bits
