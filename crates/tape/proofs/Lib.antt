@@ -1,3 +1,6 @@
 -- Laws and theorems of `tape`.
 pub mod Parts
 pub mod RecordLaws
+pub mod FormLaws
+pub mod RoundTrip
+pub mod TapeBack

@@ -2,3 +2,4 @@
 pub mod Form
 pub mod Records
 pub mod Tape
+pub mod Demands

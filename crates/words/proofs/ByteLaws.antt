@@ -209,9 +209,9 @@ other-stays s at v j o = ⊎-elim inside outside (le-or-lt (at + 4) (length s))
 -- ---- rows of words: a record of any length is one
 
 -- every word of a row fits 32 bits
-pub data Fit : List ℕ → Type 0 where
-  none : Fit []
-  more : {w : ℕ} {ws : List ℕ} → w < 2 ^ 32 → Fit ws → Fit (w ∷ ws)
+abbrev pub Fit : List ℕ → Type 0
+Fit [] = Unit {0}
+Fit (w ∷ ws) = (w < 2 ^ 32) × Fit ws
 
 -- a row counts from the start of what is left
 row-past : (xs l : List ℕ) (k n at : ℕ) → length xs ≡ k → wordsFrom (xs ++ l) (k + at) n ≡ wordsFrom l at n
@@ -221,11 +221,11 @@ row-past xs l k (suc n) at e =
     simp (word-past xs l k at e, a, row-past xs l k n (at + 4) e)
 
 -- the words that were written in front are read
-pub row-read : {ws : List ℕ} → Fit ws → (l : List ℕ) → wordsFrom (wordBytes ws ++ l) 0 (length ws) ≡ ws
-row-read none l = refl
-row-read (more {w} {ws} h f) l =
-    ap (λ (x : ℕ). x ∷ wordsFrom (u32Bytes w ++ (wordBytes ws ++ l)) 4 (length ws)) (word-front w (wordBytes ws ++ l) h)
-    ∙ ap (λ (r : List ℕ). w ∷ r) (row-past (u32Bytes w) (wordBytes ws ++ l) 4 (length ws) 0 refl ∙ row-read f l)
+pub row-read : (ws l : List ℕ) → Fit ws → wordsFrom (wordBytes ws ++ l) 0 (length ws) ≡ ws
+row-read [] l f = refl
+row-read (w ∷ ws) l f =
+    ap (λ (x : ℕ). x ∷ wordsFrom (u32Bytes w ++ (wordBytes ws ++ l)) 4 (length ws)) (word-front w (wordBytes ws ++ l) (f .0))
+    ∙ ap (λ (r : List ℕ). w ∷ r) (row-past (u32Bytes w) (wordBytes ws ++ l) 4 (length ws) 0 refl ∙ row-read ws l (f .1))
 
 -- n words that were read, written back, are the bytes
 pub row-back : (s : List ℕ) (n at : ℕ) → AllBytes s → at + n * 4 ≤ length s → wordBytes (wordsFrom s at n) ++ drop (at + n * 4) s ≡ drop at s

@@ -1,0 +1,138 @@
+-- What the tests of a form say, and that the words of what is in form fit 32 bits. Assumes nothing.
+use mathlib.Core.Path.{_≡_, refl, sym, subst, _∙_}
+use mathlib.Core.Bool.{Bool, true, false, cond, not, _&&_, _||_, or-false}
+use mathlib.Core.List.{List, [], _∷_}
+use Prim.Native.Nat.{ℕ, zero, suc, _+_, _*_, _<_, _≤_, _^_}
+use native.Mathlib.Omega.{arith}
+use lib.ListN.{getD}
+use lib.Dec.{leb, ltb, eqb}
+use borrow.Author.Tests.{leb-true, ltb-true, eqb-true}
+use Rattle.words.specs.Bytes.{joined}
+use Rattle.words.proofs.ByteLaws.{Fit}
+use Rattle.tape.specs.declared.Order.{Order}
+use Rattle.tape.specs.declared.Event.{Event}
+use Rattle.tape.specs.declared.Shape.{Shape}
+use Rattle.tape.specs.declared.Range.{Range}
+use Rattle.tape.specs.Form.{allFrom, within, orderTests, orderFormed, range, inside, unused, sides, sizes, prices, anyNumber, bids, offers, row, shapeOf, shapeTests, eventFormed}
+use Rattle.tape.specs.Records.{orderWords, eventWords}
+use Rattle.tape.specs.Demands.{Word}
+use Rattle.tape.proofs.RecordLaws.{and-left, and-right}
+
+all-start : (ts : List Bool) (b : Bool) → allFrom b ts ≡ true → b ≡ true
+all-start [] b h = h
+all-start (t ∷ ts) b h = and-left b t (all-start ts (b && t) h)
+
+-- where all tests hold, the one at any place does (and past the end `true` stands)
+pub each : (ts : List Bool) (b : Bool) → allFrom b ts ≡ true → (i : ℕ) → getD ts i true ≡ true
+each [] b h i = refl
+each (t ∷ ts) b h zero = and-right b t (all-start ts (b && t) h)
+each (t ∷ ts) b h (suc i) = each ts (b && t) h i
+
+pub within-le : (x low high : ℕ) → within x low high ≡ true → x ≤ high
+within-le x low high h = leb-true x high (and-right (leb low x) (leb x high) h)
+
+pub within-ge : (x low high : ℕ) → within x low high ≡ true → low ≤ x
+within-ge x low high h = leb-true low x (and-left (leb low x) (leb x high) h)
+
+four-fit : (a b c : ℕ) → a < 256 → b < 256 → c < 256 → Word (joined a b c 0)
+four-fit a b c ha hb hc = omega arith
+
+-- ---- orders
+
+-- no stop is above the highest price
+stop-le : (s : ℕ) (a : Bool) → ((a && eqb s 0) || (not a && within s 1 999999)) ≡ true → s ≤ 999999
+stop-le s true h = let z : s ≡ 0 = eqb-true s 0 (sym (or-false (eqb s 0)) ∙ h) in omega arith
+stop-le s false h = within-le s 1 999999 h
+
+-- the bounds of an order in form
+pub record OrderBounds (o : Order) : Type 0 where
+  pub side : o .side ≤ 2
+  pub mode : o .mode ≤ 3
+  pub marks : o .marks ≤ 15
+  pub size : o .size ≤ 100000
+  pub limit : o .limit ≤ 999999
+  pub stop : o .stop ≤ 999999
+  pub nbb : o .nbb ≤ 999999
+  pub nbo : o .nbo ≤ 999999
+  pub bb : o .bb ≤ 999999
+  pub bo : o .bo ≤ 1000000
+  pub time : o .time ≤ 86400000
+  pub opens : o .opens < o .closes
+  pub closes : o .closes ≤ 86400000
+  pub interval : o .interval ≤ 1000
+
+pub order-bounds : (o : Order) → orderFormed o ≡ true → OrderBounds o
+unfolding orderFormed orderTests
+order-bounds o h =
+    let t : (i : ℕ) → getD (orderTests o) i true ≡ true = each (orderTests o) true h in
+    record {
+      side = within-le (o .side) 1 2 (t 0);
+      mode = within-le (o .mode) 1 3 (t 1);
+      marks = leb-true (o .marks) 15 (t 2);
+      size = leb-true (o .size) 100000 (t 3);
+      limit = within-le (o .limit) 1 999999 (t 4);
+      stop = stop-le (o .stop) (eqb (o .mode) 2) (t 5);
+      nbb = within-le (o .nbb) 1 999999 (t 6);
+      nbo = within-le (o .nbo) 1 999999 (t 7);
+      bb = leb-true (o .bb) 999999 (t 8);
+      bo = within-le (o .bo) 1 1000000 (t 9);
+      time = leb-true (o .time) 86400000 (t 10);
+      opens = ltb-true (o .opens) (o .closes) (t 11);
+      closes = leb-true (o .closes) 86400000 (t 12);
+      interval = within-le (o .interval) 100 1000 (t 13);
+    }
+
+pub order-fit : (o : Order) → OrderBounds o → Fit (orderWords o)
+unfolding orderWords
+order-fit o b =
+    (four-fit (o .side) (o .mode) (o .marks) (omega arith) (omega arith) (omega arith), (omega arith, (omega arith, (omega arith, (omega arith, (omega arith, (omega arith, (omega arith, (omega arith, (omega arith, (omega arith, (omega arith, (omega arith, (omega arith, (omega arith, (omega arith, tt))))))))))))))))
+
+-- ---- events
+
+-- what holds of each row of the table holds of the row of any kind
+choose : (P : ℕ → Shape → Type 0) (k n : ℕ) (x y : Shape) → P n x → P k y → P k (cond (eqb k n) x y)
+choose P k n x y px py = go (eqb k n) refl
+  where
+    go : (b : Bool) → eqb k n ≡ b → P k (cond b x y)
+    go true e = subst (λ (m : ℕ). P m x) (sym (eqb-true k n e)) px
+    go false e = py
+
+-- the highest numbers that a row lets through
+pub record RowBounds (k : ℕ) (s : Shape) : Type 0 where
+  pub kind : (m : ℕ) → inside m (s .marks) ≡ true → k ≤ 5
+  pub marks : s .marks .high ≤ 15
+  pub side : s .side .high ≤ 2
+  pub f12 : s .f12 .high ≤ 4294967295
+  pub f16 : s .f16 .high ≤ 999999
+  pub f20 : s .f20 .high ≤ 999999
+  pub f24 : s .f24 .high ≤ 1000000
+
+known : {k : ℕ} (marks : Range) (low : Bool) (side f12 f16 f20 f24 : Range) → k ≤ 5 → marks .high ≤ 15 → side .high ≤ 2 → f12 .high ≤ 4294967295 → f16 .high ≤ 999999 → f20 .high ≤ 999999 → f24 .high ≤ 1000000 → RowBounds k (row marks low side f12 f16 f20 f24)
+known marks low side f12 f16 f20 f24 hk a b c d e f = record { kind = λ m h. hk; marks = a; side = b; f12 = c; f16 = d; f20 = e; f24 = f }
+
+pub row-bounds : (k : ℕ) → RowBounds k (shapeOf k)
+unfolding shapeOf
+row-bounds k =
+    choose RowBounds k 1 _ _ (known (range 0 1) true sides sizes prices unused unused (omega arith) (omega arith) (omega arith) (omega arith) (omega arith) (omega arith) (omega arith))
+    (choose RowBounds k 2 _ _ (known unused true unused anyNumber unused unused unused (omega arith) (omega arith) (omega arith) (omega arith) (omega arith) (omega arith) (omega arith))
+    (choose RowBounds k 3 _ _ (known (range 0 3) true sides sizes prices unused unused (omega arith) (omega arith) (omega arith) (omega arith) (omega arith) (omega arith) (omega arith))
+    (choose RowBounds k 4 _ _ (known (range 0 1) true sides sizes unused unused unused (omega arith) (omega arith) (omega arith) (omega arith) (omega arith) (omega arith) (omega arith))
+    (choose RowBounds k 5 _ _ (known (range 0 15) false unused prices prices bids offers (omega arith) (omega arith) (omega arith) (omega arith) (omega arith) (omega arith) (omega arith))
+    (record { kind = λ m h. absurd (omega (arith, within-ge m 1 0 h, within-le m 1 0 h)); marks = omega arith; side = omega arith; f12 = omega arith; f16 = omega arith; f20 = omega arith; f24 = omega arith })))))
+
+pub event-fit : (e : Event) → Word (e .sequence) → eventFormed e ≡ true → Fit (eventWords e) × (e .kind < 256) × (e .marks < 256) × (e .side < 256)
+unfolding eventFormed shapeTests eventWords
+event-fit e w h =
+    let s : Shape = shapeOf (e .kind) in
+    let b : RowBounds (e .kind) s = row-bounds (e .kind) in
+    let t : (i : ℕ) → getD (shapeTests s e) i true ≡ true = each (shapeTests s e) true h in
+    let time : e .time ≤ 86400000 = leb-true (e .time) 86400000 (t 0) in
+    let kind : e .kind ≤ 5 = b .kind (e .marks) (t 1) in
+    let marks : e .marks ≤ s .marks .high = within-le (e .marks) (s .marks .low) (s .marks .high) (t 1) in
+    let side : e .side ≤ s .side .high = within-le (e .side) (s .side .low) (s .side .high) (t 3) in
+    let f12 : e .f12 ≤ s .f12 .high = within-le (e .f12) (s .f12 .low) (s .f12 .high) (t 4) in
+    let f16 : e .f16 ≤ s .f16 .high = within-le (e .f16) (s .f16 .low) (s .f16 .high) (t 5) in
+    let f20 : e .f20 ≤ s .f20 .high = within-le (e .f20) (s .f20 .low) (s .f20 .high) (t 6) in
+    let f24 : e .f24 ≤ s .f24 .high = within-le (e .f24) (s .f24 .low) (s .f24 .high) (t 7) in
+    let words : Fit (eventWords e) = (w, (omega arith, (four-fit (e .kind) (e .marks) (e .side) (omega arith) (omega arith) (omega arith), (omega arith, (omega arith, (omega arith, (omega arith, (omega arith, tt)))))))) in
+    (words, omega arith, omega arith, omega arith)
