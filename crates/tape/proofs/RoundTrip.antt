@@ -140,8 +140,7 @@ order-read : (s : List ℕ) (o : Order) → AllBytes s → readOrder s ≡ GotOr
 unfolding readOrder
 order-read s o b h =
     let t : (ltb (length s) 64 ≡ false) × ((orderSpare s && orderFormed (orderOf s)) ≡ true) × (orderOf s ≡ o) = took-order (ltb (length s) 64) (orderSpare s && orderFormed (orderOf s)) (orderOf s) o h in
-    let n : 64 ≤ length s = ltb-false (length s) 64 (t .0) in
-    (
+    let n : 64 ≤ length s = ltb-false (length s) 64 (t .0) in (
       ap orderFormed (sym (t .2)) ∙ and-right (orderSpare s) (orderFormed (orderOf s)) (t .1),
       ap (λ (x : Order). wordBytes (orderWords x)) (sym (t .2)) ∙ ap wordBytes (order-words s n (and-left (orderSpare s) (orderFormed (orderOf s)) (t .1))) ∙ record-back s 16 b n,
     )
@@ -190,8 +189,7 @@ event-read : (s : List ℕ) (e : Event) → AllBytes s → readEvent s ≡ GotEv
 unfolding readEvent
 event-read s e b h =
     let t : (ltb (length s) 32 ≡ false) × ((eventSpare s && eventFormed (eventOf s)) ≡ true) × (eventOf s ≡ e) = took-event (ltb (length s) 32) (eventSpare s && eventFormed (eventOf s)) (eventOf s) e h in
-    let n : 32 ≤ length s = ltb-false (length s) 32 (t .0) in
-    (
+    let n : 32 ≤ length s = ltb-false (length s) 32 (t .0) in (
       ap eventFormed (sym (t .2)) ∙ and-right (eventSpare s) (eventFormed (eventOf s)) (t .1),
       ap (λ (x : Event). wordBytes (eventWords x)) (sym (t .2)) ∙ ap wordBytes (event-words s n (and-left (eventSpare s) (eventFormed (eventOf s)) (t .1))) ∙ record-back s 8 b n,
     )

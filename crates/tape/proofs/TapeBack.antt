@@ -49,8 +49,7 @@ events-append (e ∷ es) fs = ap (λ (l : List ℕ). wordBytes (eventWords e) ++
 -- a record at the start of lent bytes: itself, and what is after it
 record-parts : (ws out after : List ℕ) (n : ℕ) → length ws * 4 ≡ n → after ≡ withRecord ws out → (take n after ≡ wordBytes ws) × (drop n after ≡ drop n out)
 record-parts ws out after n e w =
-    let l : length (wordBytes ws) ≡ n = length-wordBytes ws ∙ e in
-    (
+    let l : length (wordBytes ws) ≡ n = length-wordBytes ws ∙ e in (
       ap (take n) w ∙ take-at (wordBytes ws) (drop (length ws * 4) out) n l,
       ap (drop n) w ∙ drop-at (wordBytes ws) (drop (length ws * 4) out) n l ∙ ap (λ (k : ℕ). drop k out) e,
     )

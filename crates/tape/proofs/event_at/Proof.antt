@@ -15,13 +15,13 @@ use Rattle.tape.proofs.read_event.Reads as read-event-reads
 
 -- src/lib.rt:491:9
 returns : tie.Need-returns
-returns c = 
+returns c =
     let a = c .before .before .args in
     sym (event-short (drop (eventPlace (a .at) (a .k)) (now (a .s))) (few (now (a .s)) (eventPlace (a .at) (a .k)) 32 (omega arith) (omega arith)))
 
 -- src/lib.rt:494:9
 returns-2 : tie.Need-returns-2
-returns-2 c = 
+returns-2 c =
     let a = c .before .before .before .args in
     sym (event-short (drop (eventPlace (a .at) (a .k)) (now (a .s))) (few (now (a .s)) (eventPlace (a .at) (a .k)) 32 (omega arith) (omega arith)))
 
@@ -31,7 +31,7 @@ sub-if3 c = search needs
 
 -- src/lib.rt:497:9
 returns-3 : tie.Need-returns-3
-returns-3 c = 
+returns-3 c =
     let a = c .before .before .before .before .args in
     sym (event-short (drop (eventPlace (a .at) (a .k)) (now (a .s))) (few (now (a .s)) (eventPlace (a .at) (a .k)) 32 (omega arith) (omega arith)))
 
@@ -65,7 +65,7 @@ read-event-requires c κs = search needs
 
 -- src/lib.rt:486:1
 returns-4 : tie.Need-returns-4
-returns-4 c = 
+returns-4 c =
     let a = c .before .before .before .before .before .before .args in
     c .read-event .ensures ∙ ap readEvent (rest-is (now (a .s)) (eventPlace (a .at) (a .k)))
 

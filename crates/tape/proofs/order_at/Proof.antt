@@ -14,7 +14,7 @@ use Rattle.tape.proofs.read_order.Reads as read-order-reads
 
 -- src/lib.rt:480:9
 returns : tie.Need-returns
-returns c = 
+returns c =
     let a = c .before .before .args in
     sym (order-short (drop (a .at) (now (a .s))) (few (now (a .s)) (a .at) 64 (omega arith) (omega arith)))
 
@@ -36,7 +36,7 @@ read-order-requires c κs = search needs
 
 -- src/lib.rt:476:1
 returns-2 : tie.Need-returns-2
-returns-2 c = 
+returns-2 c =
     let a = c .before .before .before .before .args in
     c .read-order .ensures ∙ ap readOrder (rest-is (now (a .s)) (a .at))
 

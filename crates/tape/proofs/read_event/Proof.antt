@@ -33,7 +33,7 @@ event-form-requires c κs = search needs
 -- src/lib.rt:373:1
 returns-2 : tie.Need-returns-2
 unfolding readEvent
-returns-2 c = 
+returns-2 c =
     let s = now (c .before .before .before .before .before .before .args .s) in
     let e : (eventSpare s && eventFormed (eventOf s)) ≡ true = cc in
     simp (le-ltb _ _ (c .before .before .before .before .if1 .left), e, c .before .before .before .event-of .ensures)
@@ -41,7 +41,7 @@ returns-2 c =
 -- src/lib.rt:373:1
 returns-3 : tie.Need-returns-3
 unfolding readEvent
-returns-3 c = 
+returns-3 c =
     let s = now (c .before .before .before .before .before .before .args .s) in
     let e : (eventSpare s && eventFormed (eventOf s)) ≡ false = cc in
     simp (le-ltb _ _ (c .before .before .before .before .if1 .left), e)

@@ -33,7 +33,7 @@ order-form-requires c κs = search needs
 -- src/lib.rt:297:1
 returns-2 : tie.Need-returns-2
 unfolding readOrder
-returns-2 c = 
+returns-2 c =
     let s = now (c .before .before .before .before .before .before .args .s) in
     let e : (orderSpare s && orderFormed (orderOf s)) ≡ true = cc in
     simp (le-ltb _ _ (c .before .before .before .before .if1 .left), e, c .before .before .before .order-of .ensures)
@@ -41,7 +41,7 @@ returns-2 c =
 -- src/lib.rt:297:1
 returns-3 : tie.Need-returns-3
 unfolding readOrder
-returns-3 c = 
+returns-3 c =
     let s = now (c .before .before .before .before .before .before .args .s) in
     let e : (orderSpare s && orderFormed (orderOf s)) ≡ false = cc in
     simp (le-ltb _ _ (c .before .before .before .before .if1 .left), e)

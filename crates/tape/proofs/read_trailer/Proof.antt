@@ -36,7 +36,7 @@ read-word-requires-4 c κs = search needs
 -- src/lib.rt:418:1
 returns-2 : tie.Need-returns-2
 unfolding readTrailer trailerOf
-returns-2 c = 
+returns-2 c =
     let s = now (c .before .before .before .before .before .before .before .args .s) in
     let e : (eqb (wordAt s 0) cubt && eqb (wordAt s 12) 0) ≡ true = cc in
     simp (le-ltb _ _ (c .before .before .before .before .before .if1 .left), e, c .before .read-word3 .ensures, c .read-word4 .ensures)
@@ -44,7 +44,7 @@ returns-2 c =
 -- src/lib.rt:418:1
 returns-3 : tie.Need-returns-3
 unfolding readTrailer
-returns-3 c = 
+returns-3 c =
     let s = now (c .before .before .before .before .before .args .s) in
     let e : (eqb (wordAt s 0) cubt && eqb (wordAt s 12) 0) ≡ false = cc in
     simp (le-ltb _ _ (c .before .before .before .if1 .left), e)

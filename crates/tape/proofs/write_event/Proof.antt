@@ -22,14 +22,14 @@ event-form-requires c κs = search needs
 -- src/lib.rt:393:9
 returns : tie.Need-returns
 unfolding eventAnswer eventWrote
-returns c = 
+returns c =
     let a = c .before .before .before .args in
     wrote-formless 32 (eventWords (a .e)) (now (a .out)) (sym (c .before .event-form .ensures) ∙ not-true _ (c .if1 .taken))
 
 -- src/lib.rt:396:9
 returns-2 : tie.Need-returns-2
 unfolding eventAnswer eventWrote eventWords
-returns-2 c = 
+returns-2 c =
     let a = c .before .before .before .before .args in
     wrote-short 32 (eventWords (a .e)) (now (a .out)) (sym (c .before .before .event-form .ensures) ∙ not-false _ (c .before .if1 .left)) (omega arith)
 
@@ -52,7 +52,7 @@ same-length c = search needs
 -- src/lib.rt:388:1
 returns-3 : tie.Need-returns-3
 unfolding eventAnswer eventWrote eventWords
-returns-3 c = 
+returns-3 c =
     let a = c .before .before .before .before .before .before .before .before .before .before .args in
     wrote-done 32 (eventWords (a .e)) (now (a .out)) (sym (c .before .before .before .before .before .before .before .before .event-form .ensures) ∙ not-false _ (c .before .before .before .before .before .before .before .if1 .left)) (omega arith) (cc)
 

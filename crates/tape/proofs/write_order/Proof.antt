@@ -22,14 +22,14 @@ order-form-requires c κs = search needs
 -- src/lib.rt:317:9
 returns : tie.Need-returns
 unfolding orderAnswer orderWrote
-returns c = 
+returns c =
     let a = c .before .before .before .args in
     wrote-formless 1 (orderWords (a .o)) (now (a .out)) (sym (c .before .order-form .ensures) ∙ not-true _ (c .if1 .taken))
 
 -- src/lib.rt:320:9
 returns-2 : tie.Need-returns-2
 unfolding orderAnswer orderWrote orderWords
-returns-2 c = 
+returns-2 c =
     let a = c .before .before .before .before .args in
     wrote-short 1 (orderWords (a .o)) (now (a .out)) (sym (c .before .before .order-form .ensures) ∙ not-false _ (c .before .if1 .left)) (omega arith)
 
@@ -52,7 +52,7 @@ same-length c = search needs
 -- src/lib.rt:312:1
 returns-3 : tie.Need-returns-3
 unfolding orderAnswer orderWrote orderWords
-returns-3 c = 
+returns-3 c =
     let a = c .before .before .before .before .before .before .before .before .before .before .args in
     wrote-done 1 (orderWords (a .o)) (now (a .out)) (sym (c .before .before .before .before .before .before .before .before .order-form .ensures) ∙ not-false _ (c .before .before .before .before .before .before .before .if1 .left)) (omega arith) (cc)
 

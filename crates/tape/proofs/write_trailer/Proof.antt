@@ -13,7 +13,7 @@ use Rattle.words.proofs.bytes.write_words.Reads as write-words-reads
 -- src/lib.rt:440:9
 returns : tie.Need-returns
 unfolding trailerAnswer trailerWrote trailerWords
-returns c = 
+returns c =
     let a = c .before .before .args in
     wrote-short 24 (trailerWords (a .t)) (now (a .out)) refl (omega arith)
 
@@ -32,7 +32,7 @@ same-length c = search needs
 -- src/lib.rt:435:1
 returns-2 : tie.Need-returns-2
 unfolding trailerAnswer trailerWrote trailerWords
-returns-2 c = 
+returns-2 c =
     let a = c .before .before .before .before .before .before .before .args in
     wrote-done 24 (trailerWords (a .t)) (now (a .out)) refl (omega arith) (cc)
 
