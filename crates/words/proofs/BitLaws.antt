@@ -1,12 +1,12 @@
 -- What the bits of a word mean. Assumes nothing.
 use mathlib.Core.Path.{_≡_, refl, sym, ap, _∙_}
-use mathlib.Core.Bool.{Bool, true, false, cond}
+use mathlib.Core.Bool.{Bool, true, false, cond, true≢false}
 use mathlib.Core.Logic.{_⊎_, inl, inr, ⊎-elim}
 use Prim.Native.Nat.{ℕ, zero, suc, _+_, _-_, _*_, _/_, _%_, _^_, _≤_, _<_}
 use native.Mathlib.Nat.{pow-suc, div-one, not-suc-le-zero, le-of-suc-le-suc, one-mul, suc-mul, mul-le-mul-right, mod-lt, div-eq-of-lt, div-div-eq-div-mul}
 use native.Mathlib.Omega.{arith}
 use lib.Dec.{leb, eqb}
-use lib.Pow.{pow-pos, split, high}
+use lib.Pow.{pow-pos, pow-mono, split, high}
 use borrow.Author.Tests.{leb-true, leb-false, lt-ltb, le-ltb, eqb-true, eqb-false, eq-eqb, ne-eqb}
 use Rattle.words.specs.Bits.{bitAt, withBit, withoutBit, onesIn, clearIn, setIn}
 
@@ -38,12 +38,18 @@ zero-bit w i e = ne-eqb (w / 2 ^ i % 2) 1 (omega arith)
 pub half-bit : (w i : ℕ) → w / 2 / 2 ^ i ≡ w / 2 ^ suc i
 half-bit w i = div-div-eq-div-mul w 2 (2 ^ i) ∙ ap (λ (n : ℕ). w / n) (omega (arith, pow-suc 2 i))
 
-pub next-bit : (w i : ℕ) → w / 2 ^ i / 2 ≡ w / 2 ^ suc i
-next-bit w i = div-div-eq-div-mul w (2 ^ i) 2 ∙ ap (λ (n : ℕ). w / n) (omega (arith, pow-suc 2 i))
+pub bit-half : (w i : ℕ) → bitAt (w / 2) i ≡ bitAt w (suc i)
+bit-half w i = ap (λ (n : ℕ). eqb (n % 2) 1) (half-bit w i)
+
+pub bit-low : (w : ℕ) → bitAt w 0 ≡ eqb (w % 2) 1
+bit-low w = ap (λ (n : ℕ). eqb (n % 2) 1) (div-one w)
 
 -- a word below 2 ^ i has no bit from i on, and a bit that is set is part of its word
 pub no-bit : (w i : ℕ) → w < 2 ^ i → bitAt w i ≡ false
 no-bit w i h = zero-bit w i (ap (λ (n : ℕ). n % 2) (div-eq-of-lt h))
+
+pub past-bit : (w i : ℕ) → w < 2 ^ 64 → 64 ≤ i → bitAt w i ≡ false
+past-bit w i h l = no-bit w i (omega (arith, pow-mono l))
 
 pub bit-le : (w i : ℕ) → bitAt w i ≡ true → 2 ^ i ≤ w
 bit-le w i t =
@@ -52,23 +58,20 @@ bit-le w i t =
     omega (arith, split w i, one-mul (2 ^ i))
 
 -- ---- 2 ^ i more, where bit i is clear
-add-same : (w i : ℕ) → bitAt w i ≡ false → bitAt (w + 2 ^ i) i ≡ true
+pub add-same : (w i : ℕ) → bitAt w i ≡ false → bitAt (w + 2 ^ i) i ≡ true
 add-same w i t =
     let m : suc (w / 2 ^ i) * 2 ^ i ≡ w / 2 ^ i * 2 ^ i + 2 ^ i = suc-mul (w / 2 ^ i) (2 ^ i) in
     let e : w + 2 ^ i ≡ suc (w / 2 ^ i) * 2 ^ i + w % 2 ^ i = omega (arith, split w i) in
     let h = bit-zero w i t in
     one-bit (w + 2 ^ i) i (rw (e, high (suc (w / 2 ^ i)) i (mod-lt w (pow-pos i))) (omega arith))
 
-add-half : (w i : ℕ) → (w + 2 ^ suc i) / 2 ≡ w / 2 + 2 ^ i
+pub add-half : (w i : ℕ) → (w + 2 ^ suc i) / 2 ≡ w / 2 + 2 ^ i
 add-half w i = omega (arith, pow-suc 2 i)
 
-add-odd : (w i : ℕ) → (w + 2 ^ suc i) % 2 ≡ w % 2
+pub add-odd : (w i : ℕ) → (w + 2 ^ suc i) % 2 ≡ w % 2
 add-odd w i = omega (arith, pow-suc 2 i)
 
-half-clear : (w i : ℕ) → bitAt w (suc i) ≡ false → bitAt (w / 2) i ≡ false
-half-clear w i t = rw half-bit t
-
-add-other : (w i j : ℕ) → bitAt w i ≡ false → (j ≡ i → ⊥) → bitAt (w + 2 ^ i) j ≡ bitAt w j
+pub add-other : (w i j : ℕ) → bitAt w i ≡ false → (j ≡ i → ⊥) → bitAt (w + 2 ^ i) j ≡ bitAt w j
 add-other w zero zero t n = absurd (n refl)
 add-other w zero (suc j) t n =
     let h = bit-zero w 0 t in
@@ -76,10 +79,10 @@ add-other w zero (suc j) t n =
     rw (← half-bit (w + 1) j, ← half-bit w j, e)
 add-other w (suc i) zero t n = rw (div-one (w + 2 ^ suc i), div-one w, add-odd)
 add-other w (suc i) (suc j) t n =
-    let ih = add-other (w / 2) i j (half-clear w i t) (λ e. n (ap suc e)) in
+    let ih = add-other (w / 2) i j (bit-half w i ∙ t) (λ e. n (ap suc e)) in
     rw (← half-bit (w + 2 ^ suc i) j, ← half-bit w j, add-half) ih
 
-add-ones : (k w i : ℕ) → i < k → bitAt w i ≡ false → onesIn k (w + 2 ^ i) ≡ suc (onesIn k w)
+pub add-ones : (k w i : ℕ) → i < k → bitAt w i ≡ false → onesIn k (w + 2 ^ i) ≡ suc (onesIn k w)
 unfolding onesIn
 add-ones zero w i l t = absurd (not-suc-le-zero l)
 add-ones (suc k) w zero l t =
@@ -87,11 +90,11 @@ add-ones (suc k) w zero l t =
     let e : (w + 1) / 2 ≡ w / 2 = omega arith in
     rw e (omega arith)
 add-ones (suc k) w (suc i) l t =
-    let ih = add-ones k (w / 2) i (le-of-suc-le-suc l) (half-clear w i t) in
+    let ih = add-ones k (w / 2) i (le-of-suc-le-suc l) (bit-half w i ∙ t) in
     rw (add-half, add-odd, ih) (omega arith)
 
 -- ---- 2 ^ i less, where bit i is set: the word that 2 ^ i more makes of it again
-cut-same : (w i : ℕ) → bitAt w i ≡ true → bitAt (w - 2 ^ i) i ≡ false
+pub cut-same : (w i : ℕ) → bitAt w i ≡ true → bitAt (w - 2 ^ i) i ≡ false
 cut-same w i t =
     let h = bit-one w i t in
     let q : w / 2 ^ i ≡ suc (w / 2 ^ i - 1) = omega arith in
@@ -99,7 +102,7 @@ cut-same w i t =
     let e : w - 2 ^ i ≡ (w / 2 ^ i - 1) * 2 ^ i + w % 2 ^ i = omega (arith, split w i) in
     zero-bit (w - 2 ^ i) i (rw (e, high (w / 2 ^ i - 1) i (mod-lt w (pow-pos i))) (omega arith))
 
-cut-back : (w i : ℕ) → bitAt w i ≡ true → w - 2 ^ i + 2 ^ i ≡ w
+pub cut-back : (w i : ℕ) → bitAt w i ≡ true → w - 2 ^ i + 2 ^ i ≡ w
 cut-back w i t = omega (arith, bit-le w i t)
 
 -- ---- a bit set, and cleared
@@ -145,6 +148,13 @@ without-other w i j n =
     (λ t. rw (without-clear w i t))
     (bool-or (bitAt w i))
 
+-- a bit that is still set is another one, and was set before
+pub without-not : (w i j : ℕ) → bitAt (withoutBit w i) j ≡ true → j ≡ i → ⊥
+without-not w i j t e = true≢false (sym t ∙ ap (bitAt (withoutBit w i)) e ∙ without-same w i)
+
+pub without-in : (w i j : ℕ) → bitAt (withoutBit w i) j ≡ true → bitAt w j ≡ true
+without-in w i j t = sym (without-other w i j (without-not w i j t)) ∙ t
+
 -- the count: one more, and one less
 pub with-ones : (w i : ℕ) → i < 64 → bitAt w i ≡ false → onesIn 64 (withBit w i) ≡ suc (onesIn 64 w)
 with-ones w i l t = rw (with-clear w i l t) (add-ones 64 w i l t)
@@ -168,11 +178,14 @@ with-fits w i h =
     add-fits zero w i h l t = absurd (not-suc-le-zero l)
     add-fits (suc k) w zero h l t = let e = bit-zero w 0 t in omega (arith, pow-suc 2 k)
     add-fits (suc k) w (suc i) h l t =
-        let ih = add-fits k (w / 2) i (omega (arith, pow-suc 2 k)) (le-of-suc-le-suc l) (half-clear w i t) in
+        let ih = add-fits k (w / 2) i (omega (arith, pow-suc 2 k)) (le-of-suc-le-suc l) (bit-half w i ∙ t) in
         omega (arith, pow-suc 2 k, pow-suc 2 i)
 
 pub without-le : (w i : ℕ) → withoutBit w i ≤ w
 without-le w i = ⊎-elim (λ t. rw (without-set w i t) (omega arith)) (λ t. rw (without-clear w i t) (omega arith)) (bool-or (bitAt w i))
+
+pub without-lt : (w i : ℕ) → bitAt w i ≡ true → withoutBit w i < w
+without-lt w i t = rw (without-set w i t) (omega (arith, bit-le w i t, pow-pos i))
 
 -- ---- the lowest clear bit
 pub clear-even : (k w : ℕ) → w % 2 ≡ 0 → clearIn (suc k) w ≡ 0
@@ -296,3 +309,14 @@ pub none-set : (k : ℕ) → setIn k 0 ≡ k
 unfolding setIn
 none-set zero = refl
 none-set (suc k) = set-even k 0 refl ∙ ap suc (none-set k)
+
+-- all of it together: what a loop over the set bits of a word knows of the one that it looks at
+pub record Lowest (w i : ℕ) : Type 0 where
+  pub place : i < 64
+  pub set : bitAt w i ≡ true
+  pub none : (j : ℕ) → j < i → bitAt w j ≡ false
+
+pub lowest-set : (w i : ℕ) → 0 < w → w < 2 ^ 64 → i ≡ setIn 64 w → Lowest w i
+lowest-set w i p h e =
+    let l = some-set 64 w p h in
+    record { place = omega arith; set = rw e (set-is 64 w l); none = λ j m. set-least 64 w j (omega arith) }

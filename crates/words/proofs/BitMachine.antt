@@ -2,16 +2,16 @@
 use mathlib.Core.Path.{_≡_, refl, sym, ap, _∙_}
 use mathlib.Core.Bool.{true, false}
 use mathlib.Core.Logic.{⊎-elim}
-use Prim.Native.Nat.{ℕ, zero, suc, _+_, _-_, _*_, _/_, _%_, _^_, _≤_, _<_, min}
+use Prim.Native.Nat.{ℕ, zero, suc, _+_, _-_, _*_, _/_, _%_, _^_, _<_, min}
 use native.Mathlib.Nat.{pow-suc, zero-mul, one-mul}
 use native.Mathlib.Numerals.{one-add}
 use native.Mathlib.Omega.{arith}
 use lib.Dec.{lit<}
-use lib.Pow.{pow-lt, pow-mono, shl-exact}
+use lib.Pow.{pow-lt, shl-exact}
 use lib.Count.{ones, ones-step, trailingZeros}
 use lib.Bits.{bitAnd, bitOr, and-step, and-high, or-add-and}
 use Rattle.words.specs.Bits.{bitAt, withBit, withoutBit, onesIn, clearIn, setIn}
-use Rattle.words.proofs.BitLaws.{bool-or, bit-or, bit-one, bit-zero, no-bit, with-clear, with-set, without-set, without-clear, clear-even, clear-odd}
+use Rattle.words.proofs.BitLaws.{bool-or, bit-or, bit-one, bit-zero, with-clear, with-set, without-set, without-clear, clear-even, clear-odd}
 
 -- ---- one bit
 and-bit : (w i : ℕ) → bitAnd w (2 ^ i) ≡ (w / 2 ^ i % 2) * 2 ^ i
@@ -59,9 +59,6 @@ and-not-is w i h l =
     (λ t. omega (arith, and-not 64 w (2 ^ i) h (pow-lt l), and-set w i t, without-set w i t))
     (λ t. omega (arith, and-not 64 w (2 ^ i) h (pow-lt l), and-clear w i t, without-clear w i t))
     (bool-or (bitAt w i))
-
-pub past-bit : (w i : ℕ) → w < 2 ^ 64 → 64 ≤ i → bitAt w i ≡ false
-past-bit w i h l = no-bit w i (omega (arith, pow-mono l))
 
 -- ---- the counts
 pub ones-is : (k w : ℕ) → w < 2 ^ k → ones w ≡ onesIn k w

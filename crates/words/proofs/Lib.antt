@@ -1,5 +1,6 @@
--- Laws of words.
+-- Laws and theorems of `words`.
 pub mod ByteLaws
 pub mod BitLaws
-pub mod BitMachine
+pub mod BitTheorems
 pub mod BitExamples
+mod BitMachine

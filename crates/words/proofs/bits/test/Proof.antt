@@ -4,7 +4,7 @@ use Prim.Native.Nat.{ℕ, _/_, _^_}
 use lib.Dec.{eqb}
 use lib.Bits.{and-mask}
 use borrow.Author.Needs.{needs}
-use Rattle.words.proofs.BitMachine.{past-bit}
+use Rattle.words.proofs.BitLaws.{past-bit}
 use Rattle.words.proofs.bits.test.Statement.{statement}
 use Rattle.words.proofs.bits.test.Tie as tie
 

@@ -10,7 +10,7 @@ shl-result : tie.Need-shl-result
 shl-result c = search needs
 
 returns : tie.Need-returns
-returns c = or-is (c .before .args .w) (c .before .args .i) (c .if1 .taken)
+returns c = or-is (c .before .args .w) (c .before .args .i) (search needs)
 
 returns-2 : tie.Need-returns-2
 returns-2 c = sym (with-past (c .before .args .w) (c .before .args .i) (c .if1 .left))

@@ -1,8 +1,8 @@
 -- `words::bits::without_bit` meets its contract. Assumes nothing.
 use mathlib.Core.Path.{sym}
 use borrow.Author.Needs.{needs}
-use Rattle.words.proofs.BitLaws.{without-clear}
-use Rattle.words.proofs.BitMachine.{and-not-is, past-bit}
+use Rattle.words.proofs.BitLaws.{past-bit, without-clear}
+use Rattle.words.proofs.BitMachine.{and-not-is}
 use Rattle.words.proofs.bits.without_bit.Statement.{statement}
 use Rattle.words.proofs.bits.without_bit.Tie as tie
 

@@ -1,0 +1,5 @@
+-- What the contracts of `auction` cite, and the statements of its theorems.
+pub mod Mirror
+pub mod Accept
+pub mod Step
+pub mod Fills

@@ -1,0 +1,163 @@
+-- Laws of placing, clearing and finding on a board. Assumes nothing.
+use mathlib.Core.Path.{_≡_, sym, ap, _∙_}
+use mathlib.Core.Bool.{true, false, true≢false}
+use mathlib.Core.List.{[]}
+use mathlib.Core.Logic.{⊎-elim}
+use Prim.Native.Nat.{ℕ, _≤_, _<_}
+use native.Mathlib.Omega.{arith}
+use lib.Dec.{lit<}
+use lib.ListN.{length, getD, set, replicate, length-set, length-replicate}
+use lib.Seq.{getD-set-same, getD-set-other}
+use borrow.Author.Tests.{lt-ltb, le-ltb, eq-eqb, eqb-true}
+use Rattle.words.specs.Bits.{bitAt, withBit, withoutBit, onesIn}
+use Rattle.words.proofs.BitLaws.{le-or-lt, past-bit, with-same, with-other, with-ones, with-fits, with-clear, without-same, without-ones, without-le, without-clear, clear-is, clear-least}
+use Rattle.board.specs.Lists.{Inserts}
+use Rattle.board.specs.Board.{noResponse, responseAt, emptyBoard, isLive, liveCount, firstFree, liveIn, liveOf, placed, cleared, isGtx, findGtx}
+use Rattle.board.specs.Theorems.{Good, Placing, Clearing, GtxAt}
+use Rattle.board.specs.declared.Response.{Response}
+use Rattle.board.specs.declared.Board.{Board}
+use Rattle.board.proofs.ListLaws.{inserts-sum}
+use Rattle.board.proofs.LiveLaws.{none-live, count-live, live-same, more-live, less-live}
+use Rattle.board.proofs.FindLaws.{and-left, and-right, and-both, find-le, find-is, find-first, find-unseen}
+
+-- a live place is one of the 64
+pub live-lt : (b : Board) (i : ℕ) → Good b → isLive b i ≡ true → i < 64
+live-lt b i g t =
+    ⊎-elim
+    (λ le. absurd (true≢false (sym t ∙ past-bit (b .live) i (g .live-fits) le)))
+    (λ lt. lt)
+    (le-or-lt 64 i)
+
+-- ---- the empty board
+pub empty-good : Good emptyBoard
+unfolding emptyBoard
+empty-good = record { places-are = length-replicate 64 noResponse; live-fits = lit< tt }
+
+pub empty-live : liveOf emptyBoard ≡ []
+unfolding emptyBoard
+empty-live = none-live (replicate 64 noResponse)
+
+-- ---- the count
+pub live-count : (b : Board) → Good b → liveCount b ≡ length (liveOf b)
+live-count b g = ap (λ (n : ℕ). onesIn n (b .live)) (sym (g .places-are)) ∙ count-live (b .live) (b .places)
+
+-- ---- placing
+pub placed-is : (b : Board) (r : Response) → firstFree b < 64 → placed b r ≡ record { places = set (b .places) (firstFree b) r; live = withBit (b .live) (firstFree b) }
+unfolding placed
+placed-is b r h = rw (lt-ltb (firstFree b) 64 h)
+
+pub placed-full : (b : Board) (r : Response) → 64 ≤ firstFree b → placed b r ≡ b
+unfolding placed
+placed-full b r h = rw (le-ltb (firstFree b) 64 h)
+
+module _ (b : Board) (r : Response) (g : Good b) (h : firstFree b < 64) where
+  free : isLive b (firstFree b) ≡ false
+  free = clear-is 64 (b .live) h
+
+  room : firstFree b < length (b .places)
+  room = omega (arith, g .places-are)
+
+  -- the places of the new board, without the new one: nothing was seen there
+  before : liveIn (b .live) (set (b .places) (firstFree b) r) ≡ liveOf b
+  before =
+      live-same (b .live) (set (b .places) (firstFree b) r) (b .places) noResponse (length-set (b .places) (firstFree b) r)
+      (λ j t. getD-set-other (b .places) (firstFree b) j r noResponse (λ e. true≢false (sym t ∙ ap (bitAt (b .live)) e ∙ free)))
+
+  pub placing : Placing b r
+  placing =
+      let ps = set (b .places) (firstFree b) r in
+      let i = firstFree b in
+      let stands : getD ps i noResponse ≡ r = getD-set-same (b .places) i r noResponse room in
+      let in-ps : i < length ps = omega (arith, length-set (b .places) i r, room) in
+      let adds : Inserts r (liveOf b) (liveOf (placed b r)) =
+      rw (placed-is b r h, with-clear (b .live) i h free)
+      (rw (stands, before) at (more-live (b .live) i ps noResponse in-ps free)) in
+      record {
+        free = free;
+        lowest = λ j l. clear-least 64 (b .live) j l;
+        adds = adds;
+        sums = λ f. inserts-sum f adds;
+        count = rw (placed-is b r h) (with-ones (b .live) i h free);
+        stands = rw (placed-is b r h) stands;
+        live = rw (placed-is b r h) (with-same (b .live) i h);
+        others = λ j n. rw (placed-is b r h) (getD-set-other (b .places) i j r noResponse n, with-other (b .live) i j n);
+      }
+
+pub placed-good : (b : Board) (r : Response) → Good b → Good (placed b r)
+placed-good b r g =
+    ⊎-elim
+    (λ h. rw (placed-full b r h) g)
+    (λ h.
+    rw (placed-is b r h)
+    (record {
+      places-are = length-set (b .places) (firstFree b) r ∙ g .places-are;
+      live-fits = with-fits (b .live) (firstFree b) (g .live-fits);
+    }))
+    (le-or-lt 64 (firstFree b))
+
+-- ---- clearing
+pub clearing : (b : Board) (i : ℕ) → Good b → isLive b i ≡ true → Clearing b i
+clearing b i g t =
+    let l = live-lt b i g t in
+    let takes = less-live (b .live) i (b .places) noResponse (omega (arith, g .places-are)) t in
+    record {
+      takes = takes;
+      sums = λ f. inserts-sum f takes;
+      count = without-ones (b .live) i l t;
+      dead = without-same (b .live) i;
+      free =
+          ⊎-elim
+          (λ le. le)
+          (λ lt. absurd (true≢false (sym (clear-least 64 (withoutBit (b .live) i) i lt) ∙ without-same (b .live) i)))
+          (le-or-lt (firstFree (cleared b i)) i);
+    }
+
+pub cleared-dead : (b : Board) (i : ℕ) → isLive b i ≡ false → cleared b i ≡ b
+cleared-dead b i t = rw (without-clear (b .live) i t)
+
+pub cleared-good : (b : Board) (i : ℕ) → Good b → Good (cleared b i)
+cleared-good b i g =
+    record { places-are = g .places-are; live-fits = omega (arith, g .live-fits, without-le (b .live) i) }
+
+-- ---- what is not live can't be seen
+module _ (b c : Board) (g : Good b) (k : Good c) (e : b .live ≡ c .live) (same : (j : ℕ) → isLive b j ≡ true → responseAt (b .places) j ≡ responseAt (c .places) j) where
+  both : length (b .places) ≡ length (c .places)
+  both = g .places-are ∙ sym (k .places-are)
+
+  pub unseen-live : liveOf b ≡ liveOf c
+  unseen-live = live-same (b .live) (b .places) (c .places) noResponse both same ∙ ap (λ (w : ℕ). liveIn w (c .places)) e
+
+  pub unseen-find : (s : ℕ) → findGtx b s ≡ findGtx c s
+  unseen-find s =
+      find-unseen (isGtx s) (b .live) (b .places) (c .places) noResponse both same
+      ∙ ap (λ (w : ℕ). findGtx (record { places = c .places; live = w }) s) e
+
+-- ---- finding
+module _ (b : Board) (s : ℕ) (g : Good b) where
+  pub find-gtx : findGtx b s < 64 → GtxAt b s (findGtx b s)
+  find-gtx h =
+      let i = findGtx b s in
+      let r = responseAt (b .places) i in
+      let hits = find-is (isGtx s) (b .live) (b .places) noResponse (omega (arith, g .places-are)) in
+      let right = and-right (isLive b i) (isGtx s r) hits in
+      record {
+        live = and-left (isLive b i) (isGtx s r) hits;
+        gtx = and-left (r .gtx) _ right;
+        sequence = eqb-true (r .sequence) s (and-right (r .gtx) _ right);
+      }
+
+  pub gtx-found : (i : ℕ) → GtxAt b s i → findGtx b s ≤ i
+  gtx-found i a =
+      ⊎-elim
+      (λ le. le)
+      (λ lt.
+      let hits = and-both (a .live) (and-both (a .gtx) (eq-eqb (responseAt (b .places) i .sequence) s (a .sequence))) in
+      absurd (true≢false (sym hits ∙ find-first (isGtx s) (b .live) (b .places) noResponse i lt)))
+      (le-or-lt (findGtx b s) i)
+
+  pub no-gtx : ((i : ℕ) → GtxAt b s i → ⊥) → findGtx b s ≡ 64
+  no-gtx none =
+      ⊎-elim
+      (λ le. omega (arith, g .places-are, find-le (isGtx s) (b .live) (b .places)))
+      (λ lt. absurd (none (findGtx b s) (find-gtx lt)))
+      (le-or-lt 64 (findGtx b s))

@@ -1,0 +1,228 @@
+-- Laws of the first place in rising order of sequence. Assumes nothing.
+use mathlib.Core.Path.{_≡_, sym, _∙_}
+use mathlib.Core.Bool.{true, false, cond, true≢false}
+use mathlib.Core.List.{List, [], _∷_}
+use mathlib.Core.Logic.{_⊎_, inl, inr, ⊎-elim}
+use Prim.Native.Nat.{ℕ, zero, suc, _+_, _-_, _/_, _%_, _^_, _≤_, _<_, min}
+use native.Mathlib.Nat.{not-suc-le-zero, le-of-suc-le-suc}
+use native.Mathlib.Omega.{arith}
+use lib.Dec.{ltb}
+use lib.ListN.{length}
+use lib.Pow.{pow-pos}
+use borrow.Author.Tests.{lt-ltb, le-ltb, eqb-true, eq-eqb, ne-eqb}
+use Rattle.words.specs.Bits.{bitAt, withoutBit, setIn}
+use Rattle.words.proofs.BitLaws.{bool-or, le-or-lt, bit-or, bit-zero, bit-half, bit-low, no-bit, add-half, add-odd, cut-same, cut-back, without-set, without-not, without-in, without-other, set-is, some-set, Lowest}
+use Rattle.board.specs.Lists.{Every, Inserts}
+use Rattle.board.specs.Lists.Inserts.{here, there}
+use Rattle.board.specs.Board.{noResponse, responseAt, liveIn, inSequence, lowestFrom, lowest, bears, firstInSequence}
+use Rattle.board.specs.Theorems.{Earliest}
+use Rattle.board.specs.declared.Response.{Response}
+use Rattle.board.proofs.ListLaws.{every-inserts}
+use Rattle.board.proofs.LiveLaws.{dead-step, live-step, live-every, less-live}
+use Rattle.board.proofs.FindLaws.{hit, and-left, and-right, and-both, and-no-left, and-no-right, eq-or, find-is, find-first, find-unique, find-none}
+use Rattle.board.proofs.SequenceLaws.{From, Leads, leads-sequence}
+use Rattle.board.proofs.SequenceLaws.Leads.{first, later}
+
+-- ---- the lowest sequence of a list
+from-le : (m : ℕ) (xs : List Response) → (lowestFrom m xs ≤ m) × From (lowestFrom m xs) xs
+unfolding lowestFrom
+from-le m [] = (omega arith, tt)
+from-le m (x ∷ xs) = let ih = from-le (min m (x .sequence)) xs in (omega (arith, ih .0), (omega (arith, ih .0), ih .1))
+
+from-most : (n m : ℕ) (xs : List Response) → n ≤ m → From n xs → n ≤ lowestFrom m xs
+unfolding lowestFrom
+from-most n m [] h e = h
+from-most n m (x ∷ xs) h e = from-most n (min m (x .sequence)) xs (omega (arith, e .0)) (e .1)
+
+pub lowest-le : (xs : List Response) → From (lowest xs) xs
+lowest-le [] = tt
+lowest-le (x ∷ xs) = from-le (x .sequence) xs
+
+-- the greatest number that is no higher than any, where there is one
+pub lowest-most : {r : Response} {xs ys : List Response} → Inserts r xs ys → (n : ℕ) → From n ys → n ≤ lowest ys
+lowest-most {r} (here {xs = xs}) n e = from-most n (r .sequence) xs (e .0) (e .1)
+lowest-most (there {x = x} {ys = ys} i) n e = from-most n (x .sequence) ys (e .0) (e .1)
+
+-- one of them bears it
+pub lowest-borne : {r : Response} {xs ys : List Response} → Inserts r xs ys → Every (λ (y : Response). y .sequence ≡ lowest ys → ⊥) ys → ⊥
+lowest-borne {ys = ys} i e = omega (arith, lowest-most i (suc (lowest ys)) (both ys (lowest ys) e (lowest-le ys)))
+  where
+    both : (ys : List Response) (n : ℕ) → Every (λ (y : Response). y .sequence ≡ n → ⊥) ys → From n ys → From (suc n) ys
+    both [] n e f = tt
+    both (y ∷ ys) n e f = (let g = e .0 in omega (arith, f .0), both ys n (e .1) (f .1))
+
+-- ---- an earliest place comes first of the live ones
+leads-at : (v k : ℕ) (ps : List Response) → k < length ps → bitAt v k ≡ false
+    → ((j : ℕ) → j < k → bitAt v j ≡ true → responseAt ps k .sequence < responseAt ps j .sequence)
+    → ((j : ℕ) → j < length ps → bitAt v j ≡ true → responseAt ps k .sequence ≤ responseAt ps j .sequence)
+    → Leads (responseAt ps k) (liveIn v ps) (liveIn (v + 2 ^ k) ps)
+leads-at v k [] l b low least = absurd (not-suc-le-zero l)
+leads-at v zero (p ∷ ps) l b low least =
+    let e = bit-zero v 0 b in
+    let z : v % 2 ≡ 0 = omega arith in
+    let f : (v + 1) % 2 ≡ 1 = omega arith in
+    let g : (v + 1) / 2 ≡ v / 2 = omega arith in
+    rw (dead-step v p ps z, live-step _ p ps f, g)
+    (first (live-every (λ (x : Response). p .sequence ≤ x .sequence) (v / 2) ps noResponse (λ j h t. least (suc j) (omega arith) (sym (bit-half v j) ∙ t))))
+leads-at v (suc k) (p ∷ ps) l b low least =
+    let ih =
+    leads-at (v / 2) k ps (le-of-suc-le-suc l) (bit-half v k ∙ b)
+    (λ j h t. low (suc j) (omega arith) (sym (bit-half v j) ∙ t))
+    (λ j h t. least (suc j) (omega arith) (sym (bit-half v j) ∙ t)) in
+    ⊎-elim
+    (λ e. rw (dead-step v p ps e, dead-step _ p ps (add-odd v k ∙ e), add-half) ih)
+    (λ e. rw (live-step v p ps e, live-step _ p ps (add-odd v k ∙ e), add-half) (later (low 0 (omega arith) (bit-low v ∙ eq-eqb (v % 2) 1 e)) ih))
+    (bit-or v)
+
+module _ (ps : List Response) (w k : ℕ) (l : k < length ps) (e : Earliest ps w k) where
+  leads : Leads (responseAt ps k) (liveIn (withoutBit w k) ps) (liveIn w ps)
+  leads =
+      rw (without-set w k (e .set))
+      (rw (cut-back w k (e .set)) at
+      (leads-at (w - 2 ^ k) k ps l (cut-same w k (e .set)) (λ j h t. e .lowest j h (was j t)) (λ j h t. e .least j h (was j t))))
+    where
+      was : (j : ℕ) → bitAt (w - 2 ^ k) j ≡ true → bitAt w j ≡ true
+      was j t = without-in w k j (rw (without-set w k (e .set)) t)
+
+  pub earliest-sequence : inSequence (liveIn w ps) ≡ responseAt ps k ∷ inSequence (liveIn (withoutBit w k) ps)
+  earliest-sequence = leads-sequence leads
+
+-- ---- the place that is found is the earliest
+module _ (ps : List Response) (w : ℕ) where
+  -- the lowest sequence of the live ones
+  abbrev floor : ℕ
+  floor = lowest (liveIn w ps)
+
+  low-le : (j : ℕ) → j < length ps → bitAt w j ≡ true → floor ≤ responseAt ps j .sequence
+  low-le j l b = every-inserts (λ (x : Response). floor ≤ x .sequence) (less-live w j ps noResponse l b) (lowest-le (liveIn w ps)) .0
+
+  -- a place that bears it is looked for
+  low-hit : (j : ℕ) → bitAt w j ≡ true → responseAt ps j .sequence ≡ floor → hit (bears floor) w ps noResponse j ≡ true
+  low-hit j b e = and-both b (eq-eqb (responseAt ps j .sequence) floor e)
+
+  pub first-earliest : firstInSequence ps w < length ps → Earliest ps w (firstInSequence ps w)
+  first-earliest l = record {
+    set = and-left (bitAt w k) (bears floor (responseAt ps k)) hits;
+    least = λ j h b. rw is (low-le j h b);
+    lowest = λ j h b.
+        ⊎-elim
+        (λ e. absurd (true≢false (sym (low-hit j b e) ∙ find-first (bears floor) w ps noResponse j h)))
+        (λ n. rw is (omega (arith, low-le j (omega arith) b)))
+        (eq-or (responseAt ps j .sequence) floor);
+  }
+    where
+      k : ℕ
+      k = firstInSequence ps w
+
+      hits : hit (bears floor) w ps noResponse k ≡ true
+      hits = find-is (bears floor) w ps noResponse l
+
+      is : responseAt ps k .sequence ≡ floor
+      is = eqb-true (responseAt ps k .sequence) floor (and-right (bitAt w k) (bears floor (responseAt ps k)) hits)
+
+  -- and an earliest place is the one that is found
+  pub earliest-first : (k : ℕ) → k < length ps → Earliest ps w k → firstInSequence ps w ≡ k
+  earliest-first k l e = find-unique (bears floor) w ps noResponse k l (low-hit k (e .set) is) none
+    where
+      is : responseAt ps k .sequence ≡ floor
+      is =
+          let up : From (responseAt ps k .sequence) (liveIn w ps) = live-every (λ (x : Response). responseAt ps k .sequence ≤ x .sequence) w ps noResponse (e .least) in
+          omega (arith, low-le k l (e .set), lowest-most (less-live w k ps noResponse l (e .set)) (responseAt ps k .sequence) up)
+
+      none : (j : ℕ) → j < k → hit (bears floor) w ps noResponse j ≡ false
+      none j h =
+          ⊎-elim
+          (λ b. and-no-right (bitAt w j) (ne-eqb (responseAt ps j .sequence) floor (λ q. omega (arith, e .lowest j h b, is))))
+          (λ b. and-no-left _ b)
+          (bool-or (bitAt w j))
+
+  -- there is one where the word is not 0
+  pub some-first : 0 < w → w < 2 ^ length ps → firstInSequence ps w < length ps
+  some-first p h =
+      let k = setIn (length ps) w in
+      let l = some-set (length ps) w p h in
+      ⊎-elim
+      (λ le.
+      let nobody = live-every (λ (y : Response). y .sequence ≡ floor → ⊥) w ps noResponse (λ j m b q. true≢false (sym (low-hit j b q) ∙ find-first (bears floor) w ps noResponse j (omega arith))) in
+      absurd (lowest-borne (less-live w k ps noResponse l (set-is (length ps) w l)) nobody))
+      (λ lt. lt)
+      (le-or-lt (length ps) (firstInSequence ps w))
+
+-- and none where it is
+pub none-first : (ps : List Response) → firstInSequence ps 0 ≡ length ps
+none-first ps = find-none (bears (lowest (liveIn 0 ps))) ps
+
+-- it comes first of the live ones in order
+pub first-takes : (ps : List Response) (w k : ℕ) → k ≡ firstInSequence ps w → k < length ps → inSequence (liveIn w ps) ≡ responseAt ps k ∷ inSequence (liveIn (withoutBit w k) ps)
+first-takes ps w k e l = earliest-sequence ps w k l (rw e (first-earliest ps w (rw (← e) l)))
+
+-- ---- a loop that finds it: of w the places of rest are still to come, and best is the earliest of the others
+pub record Best (ps : List Response) (w best rest : ℕ) : Type 0 where
+  pub place : best < length ps
+  pub set : bitAt w best ≡ true
+  pub inside : (j : ℕ) → bitAt rest j ≡ true → bitAt w j ≡ true
+  pub ahead : (j : ℕ) → bitAt rest j ≡ true → best < j
+  pub least : (j : ℕ) → j < length ps → bitAt w j ≡ true → bitAt rest j ≡ false → responseAt ps best .sequence ≤ responseAt ps j .sequence
+  pub lowest : (j : ℕ) → j < best → bitAt w j ≡ true → bitAt rest j ≡ false → responseAt ps best .sequence < responseAt ps j .sequence
+
+pub best-end : (ps : List Response) (w best : ℕ) → Best ps w best 0 → firstInSequence ps w ≡ best
+best-end ps w best s =
+    earliest-first ps w best (s .place)
+    (record {
+      set = s .set;
+      least = λ j l b. s .least j l b (no-bit 0 j (pow-pos j));
+      lowest = λ j l b. s .lowest j l b (no-bit 0 j (pow-pos j));
+    })
+
+-- a turn: i is the lowest place still to come
+module _ (ps : List Response) (rest i : ℕ) (l : i < length ps) (low : Lowest rest i) where
+  -- what comes after it is above it
+  above : (j : ℕ) → bitAt (withoutBit rest i) j ≡ true → i < j
+  above j t =
+      let n = without-not rest i j t in
+      ⊎-elim
+      (λ le. ⊎-elim (λ ge. absurd (n (omega arith))) (λ lt. absurd (true≢false (sym (without-in rest i j t) ∙ low .none j lt))) (le-or-lt i j))
+      (λ lt. lt)
+      (le-or-lt j i)
+
+  -- what no longer comes is i, or came before
+  gone : (j : ℕ) → bitAt (withoutBit rest i) j ≡ false → (j ≡ i) ⊎ (bitAt rest j ≡ false)
+  gone j f = ⊎-elim (λ e. inl e) (λ n. inr (sym (without-other rest i j n) ∙ f)) (eq-or j i)
+
+  pub best-start : Best ps rest i (withoutBit rest i)
+  best-start = record {
+    place = l;
+    set = low .set;
+    inside = λ j t. without-in rest i j t;
+    ahead = above;
+    least = λ j h t f.
+        ⊎-elim (λ e. rw e (omega arith)) (λ g. absurd (true≢false (sym t ∙ g))) (gone j f);
+    lowest = λ j h t f. absurd (true≢false (sym t ∙ low .none j h));
+  }
+
+  pub best-step : (w best : ℕ) → Best ps w best rest → Best ps w (cond (ltb (responseAt ps i .sequence) (responseAt ps best .sequence)) i best) (withoutBit rest i)
+  best-step w best s =
+      ⊎-elim
+      (λ le. rw (le-ltb (responseAt ps i .sequence) (responseAt ps best .sequence) le) (stays le))
+      (λ lt. rw (lt-ltb (responseAt ps i .sequence) (responseAt ps best .sequence) lt) (moves lt))
+      (le-or-lt (responseAt ps best .sequence) (responseAt ps i .sequence))
+    where
+      stays : responseAt ps best .sequence ≤ responseAt ps i .sequence → Best ps w best (withoutBit rest i)
+      stays le = record {
+        place = s .place;
+        set = s .set;
+        inside = λ j t. s .inside j (without-in rest i j t);
+        ahead = λ j t. s .ahead j (without-in rest i j t);
+        least = λ j h t f. ⊎-elim (λ e. rw e le) (λ g. s .least j h t g) (gone j f);
+        lowest = λ j h t f. ⊎-elim (λ e. absurd (omega (arith, s .ahead i (low .set)))) (λ g. s .lowest j h t g) (gone j f);
+      }
+
+      moves : responseAt ps i .sequence < responseAt ps best .sequence → Best ps w i (withoutBit rest i)
+      moves lt = record {
+        place = l;
+        set = s .inside i (low .set);
+        inside = λ j t. s .inside j (without-in rest i j t);
+        ahead = above;
+        least = λ j h t f. ⊎-elim (λ e. rw e (omega arith)) (λ g. omega (arith, s .least j h t g)) (gone j f);
+        lowest = λ j h t f. ⊎-elim (λ e. absurd (omega arith)) (λ g. omega (arith, s .least j (omega arith) t g)) (gone j f);
+      }

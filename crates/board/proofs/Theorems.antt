@@ -1,0 +1,49 @@
+-- The statements of specs/Theorems.antt, proved. Assumes nothing.
+use Rattle.words.proofs.BitLaws.{without-other, ones-clear, clear-ones}
+use Rattle.board.specs.Theorems.{Changes, Seen, Finding, Ordering}
+use Rattle.board.proofs.BoardLaws.{placing, placed-full, placed-good, clearing, cleared-dead, cleared-good, empty-good, empty-live, live-count, unseen-live, unseen-find, find-gtx, gtx-found, no-gtx}
+use Rattle.board.proofs.ListLaws.{shuffles-length, shuffles-sum}
+use Rattle.board.proofs.LiveLaws.{word-filters}
+use Rattle.board.proofs.SequenceLaws.{sequence-shuffles, sequence-rises, sequence-stable, sequence-filter}
+use Rattle.board.proofs.FirstLaws.{first-earliest, earliest-first, some-first, none-first, first-takes}
+
+pub changes : Changes
+changes = record {
+  places = placing;
+  clears = clearing;
+  full = placed-full;
+  dead = cleared-dead;
+  others = λ b i j n. without-other (b .live) i j n;
+  good-empty = empty-good;
+  good-placed = placed-good;
+  good-cleared = cleared-good;
+}
+
+pub seen : Seen
+seen = record {
+  empty = empty-live;
+  count = live-count;
+  room = λ b h. ones-clear 64 (b .live) h;
+  no-room = λ b h. clear-ones 64 (b .live) h;
+  live = unseen-live;
+  find = λ b c s g k e same. unseen-find b c g k e same s;
+}
+
+pub finding : Finding
+finding = record { found = find-gtx; some = λ b s i g a. gtx-found b s g i a; none = no-gtx }
+
+pub ordering : Ordering
+ordering = record {
+  shuffles = sequence-shuffles;
+  rises = sequence-rises;
+  stable = sequence-stable;
+  length-stays = λ xs. shuffles-length (sequence-shuffles xs);
+  sums-stay = λ f xs. shuffles-sum f (sequence-shuffles xs);
+  filters = sequence-filter;
+  earliest = first-earliest;
+  only = earliest-first;
+  some = some-first;
+  none = none-first;
+  takes = first-takes;
+  word = λ t w ps. word-filters t w ps;
+}

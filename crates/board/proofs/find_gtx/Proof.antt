@@ -1,0 +1,99 @@
+-- `board::find_gtx` meets its contract. The invariant: a search of the places still to come finds what a search of all finds. Assumes nothing.
+use Prim.Native.Nat.{ℕ, _^_, _<_}
+use mathlib.Core.Path.{_≡_, sym, ap, _∙_}
+use native.Mathlib.Omega.{arith}
+use borrow.Author.Needs.{needs}
+use lib.ListN.{length}
+use Rattle.words.proofs.BitLaws.{without-le, without-lt, Lowest, lowest-set}
+use Rattle.board.specs.Board.{noResponse, findIn, isGtx, findGtx}
+use Rattle.board.proofs.Facts.{length-mapped}
+use Rattle.board.proofs.FindLaws.{find-low, find-rest, find-none}
+use Rattle.board.proofs.find_gtx.Statement.{statement}
+use Rattle.board.proofs.find_gtx.Tie as tie
+
+abbrev Inv-loop : tie.InvT-loop
+Inv-loop sequence b rest₀ rest =
+    (rest < 2 ^ 64) × (findIn (isGtx sequence) rest (b .places) ≡ findGtx b sequence)
+
+abbrev μ-loop : tie.MeasureT-loop
+μ-loop sequence b rest₀ rest = rest
+
+len : (c : tie.Start Inv-loop μ-loop) → length (c .args .t1 .places) ≡ 64
+len c = search (needs, length-mapped)
+
+-- the place that a turn looks at
+low : (c : tie.After-first-set Inv-loop μ-loop) → Lowest (c .before .before .loop .rest) (c .first-set .result)
+low c = lowest-set _ _ (omega arith) (c .before .before .loop .inv .0) (c .first-set .ensures)
+
+loop-holds : tie.Need-loop-holds Inv-loop μ-loop
+loop-holds c = search needs
+
+first-set-requires : tie.Need-first-set-requires Inv-loop μ-loop
+first-set-requires c κs = search needs
+
+cast-i : tie.Need-cast-i Inv-loop μ-loop
+cast-i c = search needs
+
+mul-is-gtx : tie.Need-mul-is-gtx Inv-loop μ-loop
+mul-is-gtx c = omega (arith, low c .place)
+
+element-copy-out-is-gtx : tie.Need-element-copy-out-is-gtx Inv-loop μ-loop
+element-copy-out-is-gtx c = low c .place
+
+is-gtx-requires : tie.Need-is-gtx-requires Inv-loop μ-loop
+is-gtx-requires c κs = search needs
+
+returns : tie.Need-returns Inv-loop μ-loop
+returns c =
+    let f = c .before .before .before in
+    let s = f .before .before .before in
+    let i = f .first-set .result in
+    let h : i < length (s .args .t1 .places) = omega (arith, len s, low f .place) in
+    sym (find-low (isGtx (s .args .sequence)) (f .before .before .loop .rest) (s .args .t1 .places) noResponse i h (low f) (sym (c .before .is-gtx .ensures) ∙ c .if1 .taken))
+    ∙ f .before .before .loop .inv .1
+
+without-bit-requires : tie.Need-without-bit-requires Inv-loop μ-loop
+without-bit-requires c κs = search needs
+
+loop-less : tie.Need-loop-less Inv-loop μ-loop
+loop-less c =
+    let f = c .before .before .before .before in
+    omega (arith, c .without-bit .ensures, without-lt (f .before .before .loop .rest) (f .first-set .result) (low f .set))
+
+loop-again : tie.Need-loop-again Inv-loop μ-loop
+loop-again c =
+    let f = c .before .before .before .before in
+    let l = f .before .before in
+    let s = l .before in
+    let t = isGtx (s .args .sequence) in
+    let ps = s .args .t1 .places in (
+      omega (arith, c .without-bit .ensures, without-le (l .loop .rest) (f .first-set .result)),
+      ap (λ (v : ℕ). findIn t v ps) (c .without-bit .ensures)
+          ∙ find-rest t (l .loop .rest) ps noResponse (f .first-set .result) (sym (c .before .before .is-gtx .ensures) ∙ c .before .if1 .left)
+          ∙ l .loop .inv .1,
+    )
+
+returns-2 : tie.Need-returns-2 Inv-loop μ-loop
+returns-2 c =
+    let s = c .before .before in
+    let t = isGtx (s .args .sequence) in
+    let ps = s .args .t1 .places in
+    sym (ap (λ (v : ℕ). findIn t v ps) (c .loop-test .left) ∙ find-none t ps ∙ len s) ∙ c .before .loop .inv .1
+
+pub find-gtx-spec : {M : Type 1} → statement M
+find-gtx-spec =
+    tie.close
+    (tie.spec
+    Inv-loop
+    μ-loop
+    loop-holds
+    first-set-requires
+    cast-i
+    mul-is-gtx
+    element-copy-out-is-gtx
+    is-gtx-requires
+    returns
+    without-bit-requires
+    loop-less
+    loop-again
+    returns-2)
