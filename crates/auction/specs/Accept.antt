@@ -50,7 +50,7 @@ unfoldable pub rangeRefusal : Order → ℕ
 rangeRefusal o =
     cond (ltb (o .limit) (firstBound o)) 10
     (cond (ltb (initiatingOf o) (o .stop)) 11
-    (cond (ltb (o .size) 50 && eqb (o .nbo) (o .nbb + 1) && not (eqb (guaranteedOf o + 1) (o .nbo))) 12
+    (cond (ltb (o .size) 50 && eqb (o .nbo) (o .nbb + 1) && not (eqb (o .nbo) (guaranteedOf o + 1))) 12
     0))
 
 unfoldable pub buyRefusal : Order → ℕ

@@ -2,4 +2,3 @@
 pub mod Mirror
 pub mod Accept
 pub mod Step
-pub mod Fills

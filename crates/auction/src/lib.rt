@@ -1,0 +1,98 @@
+// A CUBE auction: which orders are accepted, what each event does, how it ends, and its fills. The engine knows only buys: a sell is its mirror.
+use board::Board;
+use board::Response;
+
+mod decide;
+mod events;
+mod mirror;
+mod orders;
+
+pub use events::close;
+pub use events::step;
+pub use orders::accept;
+
+// What is fixed at acceptance. `floor` is the NBB at initiation, `stop` the stop or auto-match limit as it was given.
+pub struct Terms {
+    pub sell: bool,
+    pub mode: u8,
+    pub size: u32,
+    pub initiating: u32,
+    pub floor: u32,
+    pub stop: u32,
+    pub interval: u32,
+}
+
+// The quotes that events move, with the Customer marks at the best bid and offer.
+pub struct Quotes {
+    pub nbb: u32,
+    pub nbo: u32,
+    pub bb: u32,
+    pub bo: u32,
+    pub bid: bool,
+    pub offer: bool,
+}
+
+// The market order that ended an auction; of size 0 where none did.
+pub struct Market {
+    pub sequence: u32,
+    pub size: u32,
+}
+
+// Why an auction ended, or that it is open.
+pub enum Ending {
+    Open,
+    Time,
+    Same,
+    Opposite,
+    Improve,
+}
+
+// An auction; `sequence` is the highest taken, `clock` the time of the last event taken.
+pub struct Auction {
+    pub terms: Terms,
+    pub quotes: Quotes,
+    pub sequence: u32,
+    pub clock: u32,
+    pub board: Board,
+    pub ending: Ending,
+    pub market: Market,
+}
+
+// What an order is answered.
+pub enum Entry {
+    Accepted,
+    Refused(u32),
+}
+
+pub struct Opening {
+    pub answer: Entry,
+    pub auction: Auction,
+}
+
+// What an event is answered.
+pub enum Answer {
+    Taken,
+    Ended,
+    Late,
+    Refused(u32),
+}
+
+pub struct Stepped {
+    pub answer: Answer,
+    pub auction: Auction,
+}
+
+// What an event changes besides the sequence, the clock and the ending.
+pub enum Change {
+    Nothing,
+    Place(Response),
+    Clear(usize),
+    Quote(Quotes),
+    Sell(Market),
+}
+
+// What is decided of an event: its refusal, or its change and the ending after it.
+pub enum Outcome {
+    Refuses(u32),
+    Does(Change, Ending),
+}

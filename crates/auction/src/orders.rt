@@ -1,0 +1,256 @@
+// Acceptance: the numbers 1 to 12, and the auction that an accepted order opens.
+ghost use mathlib.Core.Path.{_≡_};
+ghost use mathlib.Core.Bool.{cond, _||_};
+ghost use Prim.Native.Nat.{_+_, _-_, _≤_, min, max};
+ghost use lib.Dec.{ltb, eqb};
+ghost use Rattle.words.specs.Bits.{bitAt};
+ghost use Rattle.auction.specs.Accept.{initiatingOf, tickOf, boundOf, firstBound, guaranteedOf, rangeRefusal, buyRefusal, orderRefusal, termsOf, quotesOf, openedBy, noAuction, acceptOf};
+use crate::Auction;
+use crate::Ending;
+use crate::Entry;
+use crate::Market;
+use crate::Opening;
+use crate::Quotes;
+use crate::Terms;
+use crate::mirror::buy_order;
+use tape::Order;
+use words::bits;
+
+// A word in 64 bits, where no sum of two wraps.
+pub(crate) fn wide(x: u32) -> u64
+    ensures { λ r. ⌜ (r ≡ x) × (r ≤ 4294967295) ⌝ }
+{
+    x as u64
+}
+
+pub(crate) fn lower(x: u32, y: u32) -> u32
+    ensures { λ r. ⌜ r ≡ min x y ⌝ }
+{
+    if x < y { x } else { y }
+}
+
+// Mark bit i.
+pub(crate) fn mark(marks: u8, i: usize) -> bool
+    ensures { λ r. ⌜ r ≡ bitAt marks i ⌝ }
+{
+    bits::test(marks as u64, i)
+}
+
+// One cent below.
+fn below(x: u32) -> u32
+    ensures { λ r. ⌜ r ≡ x - 1 ⌝ }
+{
+    if x == 0 { 0 } else { x - 1 }
+}
+
+fn initiating(o: Order) -> u32
+    ensures { λ r. ⌜ r ≡ initiatingOf o ⌝ }
+{
+    if o.size < 50 {
+        return lower(lower(o.limit, o.nbo), below(o.bo));
+    }
+    lower(o.limit, o.nbo)
+}
+
+// The added cent.
+fn tick(size: u32, bid: bool) -> u64
+    ensures { λ r. ⌜ (r ≡ tickOf size bid) × (r ≤ 1) ⌝ }
+{
+    if (size < 50) | bid { 1 } else { 0 }
+}
+
+// The lower bound of the range.
+pub(crate) fn bound(size: u32, floor: u32, bb: u32, bid: bool) -> u64
+    ensures { λ r. ⌜ (r ≡ boundOf size floor bb bid) × (r ≤ 4294967296) ⌝ }
+{
+    let f = wide(floor);
+    let b = wide(bb) + tick(size, bid);
+    if f < b { b } else { f }
+}
+
+fn first_bound(o: Order) -> u64
+    ensures { λ r. ⌜ (r ≡ firstBound o) × (r ≤ 4294967296) ⌝ }
+{
+    bound(o.size, o.nbb, o.bb, mark(o.marks, 2))
+}
+
+fn higher(x: u64, y: u64) -> u64
+    ensures { λ r. ⌜ r ≡ max x y ⌝ }
+{
+    if x < y { y } else { x }
+}
+
+fn guaranteed(o: Order) -> u64
+    ensures { λ r. ⌜ (r ≡ guaranteedOf o) × (r ≤ 4294967296) ⌝ }
+{
+    if o.mode == 2 {
+        return wide(initiating(o));
+    }
+    higher(wide(o.stop), first_bound(o))
+}
+
+// Is y the price one cent above x?
+fn is_next(x: u64, y: u32) -> bool
+    requires { ⌜ x ≤ 4294967296 ⌝ }
+    ensures { λ r. ⌜ r ≡ eqb y (x + 1) ⌝ }
+{
+    wide(y) == x + 1
+}
+
+// 10 to 12.
+fn range_refusal(o: Order) -> u32
+    ensures { λ r. ⌜ r ≡ rangeRefusal o ⌝ }
+{
+    if wide(o.limit) < first_bound(o) {
+        return 10;
+    }
+    if initiating(o) < o.stop {
+        return 11;
+    }
+    if (o.size < 50) & is_next(wide(o.nbb), o.nbo) & !is_next(guaranteed(o), o.nbo) {
+        return 12;
+    }
+    0
+}
+
+// 2 to 12, of a buy in form.
+fn buy_refusal(o: Order) -> u32
+    ensures { λ r. ⌜ r ≡ buyRefusal o ⌝ }
+{
+    if (o.nbb < o.bb) | (o.bo < o.nbo) {
+        return 2;
+    }
+    if o.size == 0 {
+        return 3;
+    }
+    if o.time < o.opens {
+        return 4;
+    }
+    if wide(o.closes) <= wide(o.time) + 1000 {
+        return 5;
+    }
+    if mark(o.marks, 0) {
+        return 6;
+    }
+    if mark(o.marks, 1) {
+        return 7;
+    }
+    if o.nbo <= o.nbb {
+        return 8;
+    }
+    if (o.size < 50) & is_next(wide(o.bb), o.bo) {
+        return 9;
+    }
+    range_refusal(o)
+}
+
+// The number that refuses an order; 0 where none does.
+fn order_refusal(o: Order) -> u32
+    ensures { λ r. ⌜ r ≡ orderRefusal o ⌝ }
+{
+    if tape::order_form(o) {
+        return buy_refusal(buy_order(o));
+    }
+    1
+}
+
+fn terms_of(sell: bool, b: Order) -> Terms
+    ensures { λ r. ⌜ r ≡ termsOf sell b ⌝ }
+{
+    Terms {
+        sell,
+        mode: b.mode,
+        size: b.size,
+        initiating: initiating(b),
+        floor: b.nbb,
+        stop: b.stop,
+        interval: b.interval,
+    }
+}
+
+fn quotes_of(b: Order) -> Quotes
+    ensures { λ r. ⌜ r ≡ quotesOf b ⌝ }
+{
+    Quotes {
+        nbb: b.nbb,
+        nbo: b.nbo,
+        bb: b.bb,
+        bo: b.bo,
+        bid: mark(b.marks, 2),
+        offer: mark(b.marks, 3),
+    }
+}
+
+// The open auction of a buy.
+fn opened_by(sell: bool, b: Order) -> Auction
+    ensures { λ r. ⌜ r ≡ openedBy sell b ⌝ }
+{
+    let terms = terms_of(sell, b);
+    let quotes = quotes_of(b);
+    let board = board::empty();
+    Auction {
+        terms,
+        quotes,
+        sequence: 0,
+        clock: 0,
+        board,
+        ending: Ending::Open,
+        market: Market {
+            sequence: 0,
+            size: 0,
+        },
+    }
+}
+
+// What stands beside a refusal.
+fn no_auction() -> Auction
+    ensures { λ r. ⌜ r ≡ noAuction ⌝ }
+{
+    let board = board::empty();
+    Auction {
+        terms: Terms {
+            sell: false,
+            mode: 0,
+            size: 0,
+            initiating: 0,
+            floor: 0,
+            stop: 0,
+            interval: 0,
+        },
+        quotes: Quotes {
+            nbb: 0,
+            nbo: 0,
+            bb: 0,
+            bo: 0,
+            bid: false,
+            offer: false,
+        },
+        sequence: 0,
+        clock: 0,
+        board,
+        ending: Ending::Time,
+        market: Market {
+            sequence: 0,
+            size: 0,
+        },
+    }
+}
+
+// An order's refusal, or the auction that it opens.
+pub fn accept(o: Order) -> Opening
+    ensures { λ r. ⌜ r ≡ acceptOf o ⌝ }
+{
+    let number = order_refusal(o);
+    if number == 0 {
+        let auction = opened_by(o.side == 2, buy_order(o));
+        return Opening {
+            answer: Entry::Accepted,
+            auction,
+        };
+    }
+    let auction = no_auction();
+    Opening {
+        answer: Entry::Refused(number),
+        auction,
+    }
+}
