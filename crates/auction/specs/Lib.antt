@@ -2,3 +2,4 @@
 pub mod Mirror
 pub mod Accept
 pub mod Step
+pub mod Fills

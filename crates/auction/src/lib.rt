@@ -4,11 +4,17 @@ use board::Response;
 
 mod decide;
 mod events;
+mod fills;
 mod mirror;
 mod orders;
 
 pub use events::close;
 pub use events::step;
+pub use fills::ending_of;
+pub use fills::has_ended;
+pub use fills::live_responses;
+pub use fills::price_range;
+pub use fills::write_fills;
 pub use orders::accept;
 
 // What is fixed at acceptance. `floor` is the NBB at initiation, `stop` the stop or auto-match limit as it was given.
@@ -56,6 +62,12 @@ pub struct Auction {
     pub board: Board,
     pub ending: Ending,
     pub market: Market,
+}
+
+// Prices from low to high.
+pub struct Range {
+    pub low: u32,
+    pub high: u32,
 }
 
 // What an order is answered.

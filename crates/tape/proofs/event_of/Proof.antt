@@ -2,47 +2,34 @@ use Rattle.tape.specs.Records.{eventOf}
 use borrow.Author.Needs.{needs}
 use Rattle.tape.proofs.event_of.Statement.{statement}
 use Rattle.tape.proofs.event_of.Tie as tie
-use Rattle.tape.proofs.event_of.Reads as reads
-use Rattle.tape.proofs.event_of.Lts as lts
-use Rattle.words.proofs.bytes.read_word.Reads as read-word-reads
 
--- src/lib.rt:360:19
 read-word-requires : tie.Need-read-word-requires
 read-word-requires c κs = search needs
 
--- src/lib.rt:361:15
 read-word-requires-2 : tie.Need-read-word-requires-2
 read-word-requires-2 c κs = search needs
 
--- src/lib.rt:362:15
 shared-slice-read-t5 : tie.Need-shared-slice-read-t5
 shared-slice-read-t5 c = search needs
 
--- src/lib.rt:363:16
 shared-slice-read-t7 : tie.Need-shared-slice-read-t7
 shared-slice-read-t7 c = search needs
 
--- src/lib.rt:364:15
 shared-slice-read-t9 : tie.Need-shared-slice-read-t9
 shared-slice-read-t9 c = search needs
 
--- src/lib.rt:365:14
 read-word-requires-3 : tie.Need-read-word-requires-3
 read-word-requires-3 c κs = search needs
 
--- src/lib.rt:366:14
 read-word-requires-4 : tie.Need-read-word-requires-4
 read-word-requires-4 c κs = search needs
 
--- src/lib.rt:367:14
 read-word-requires-5 : tie.Need-read-word-requires-5
 read-word-requires-5 c κs = search needs
 
--- src/lib.rt:368:14
 read-word-requires-6 : tie.Need-read-word-requires-6
 read-word-requires-6 c κs = search needs
 
--- src/lib.rt:355:1
 returns : tie.Need-returns
 unfolding eventOf
 returns c = cc

@@ -2,19 +2,13 @@ use Rattle.tape.specs.Records.{eventSpare}
 use borrow.Author.Needs.{needs}
 use Rattle.tape.proofs.event_spare.Statement.{statement}
 use Rattle.tape.proofs.event_spare.Tie as tie
-use Rattle.tape.proofs.event_spare.Reads as reads
-use Rattle.tape.proofs.event_spare.Lts as lts
-use Rattle.words.proofs.bytes.read_word.Reads as read-word-reads
 
--- src/lib.rt:351:6
 shared-slice-read-result : tie.Need-shared-slice-read-result
 shared-slice-read-result c = search needs
 
--- src/lib.rt:351:21
 read-word-requires : tie.Need-read-word-requires
 read-word-requires c κs = search needs
 
--- src/lib.rt:347:1
 returns : tie.Need-returns
 unfolding eventSpare
 returns c = cc

@@ -1,55 +1,38 @@
-use mathlib.Core.Path.{refl}
 use Rattle.tape.specs.Form.{shapeTests}
 use borrow.Author.Needs.{needs}
 use Rattle.tape.proofs.fits.Statement.{statement}
 use Rattle.tape.proofs.fits.Tie as tie
-use Rattle.tape.proofs.fits.Reads as reads
-use Rattle.tape.proofs.fits.Lts as lts
-use Rattle.tape.proofs.mark.Reads as mark-reads
-use Rattle.tape.proofs.wide.Reads as wide-reads
-use Rattle.tape.proofs.within.Reads as within-reads
 
--- src/lib.rt:243:18
 wide-requires : tie.Need-wide-requires
 wide-requires c κs = search needs
 
--- src/lib.rt:243:11
 within-requires : tie.Need-within-requires
 within-requires c κs = search needs
 
--- src/lib.rt:244:22
 mark-requires : tie.Need-mark-requires
 mark-requires c κs = search needs
 
--- src/lib.rt:244:42
 mark-requires-2 : tie.Need-mark-requires-2
 mark-requires-2 c κs = search needs
 
--- src/lib.rt:245:18
 wide-requires-2 : tie.Need-wide-requires-2
 wide-requires-2 c κs = search needs
 
--- src/lib.rt:245:11
 within-requires-2 : tie.Need-within-requires-2
 within-requires-2 c κs = search needs
 
--- src/lib.rt:246:11
 within-requires-3 : tie.Need-within-requires-3
 within-requires-3 c κs = search needs
 
--- src/lib.rt:247:11
 within-requires-4 : tie.Need-within-requires-4
 within-requires-4 c κs = search needs
 
--- src/lib.rt:248:11
 within-requires-5 : tie.Need-within-requires-5
 within-requires-5 c κs = search needs
 
--- src/lib.rt:249:11
 within-requires-6 : tie.Need-within-requires-6
 within-requires-6 c κs = search needs
 
--- src/lib.rt:239:1
 returns : tie.Need-returns
 unfolding shapeTests
 returns c = cc

@@ -1,7 +1,5 @@
 use mathlib.Core.Path.{_≡_, sym, ap, _∙_}
-use mathlib.Core.Bool.{true, false}
 use Prim.Native.Nat.{_-_}
-use native.Mathlib.Omega.{arith}
 use lib.ListN.{length, drop}
 use borrow.Author.Tests.{ltb-false, eq-eqb, ne-eqb}
 use denote.Ref.{now}
@@ -13,49 +11,35 @@ use Rattle.tape.specs.declared.ReadTrailer.the-variants.{Trailer as GotT
 use borrow.Author.Needs.{needs}
 use Rattle.tape.proofs.open_tape.Statement.{statement}
 use Rattle.tape.proofs.open_tape.Tie as tie
-use Rattle.tape.proofs.open_tape.Reads as reads
-use Rattle.tape.proofs.open_tape.Lts as lts
-use Rattle.tape.proofs.length_of.Reads as length-of-reads
-use Rattle.tape.proofs.read_trailer.Reads as read-trailer-reads
 
--- src/lib.rt:460:9
 returns : tie.Need-returns
 unfolding openTape
 returns c = simp (c .if1 .taken)
 
--- src/lib.rt:462:14
 sub-at : tie.Need-sub-at
 sub-at c = ltb-false _ _ (or-left _ _ (c .if1 .left))
 
--- src/lib.rt:463:24
 sub-read-trailer : tie.Need-sub-read-trailer
 sub-read-trailer c = search needs
 
--- src/lib.rt:463:24
 part-read-trailer-start : tie.Need-part-read-trailer-start
 part-read-trailer-start c = search needs
 
--- src/lib.rt:463:24
 part-read-trailer-end : tie.Need-part-read-trailer-end
 part-read-trailer-end c = search needs
 
--- src/lib.rt:463:11
 read-trailer-requires : tie.Need-read-trailer-requires
 read-trailer-requires c κs = search needs
 
--- src/lib.rt:464:30
 enum-known-t : tie.Need-enum-known-t
 enum-known-t c = search needs
 
--- src/lib.rt:465:16
 length-of-requires : tie.Need-length-of-requires
 length-of-requires c κs = search needs
 
--- src/lib.rt:471:30
 enum-known-number : tie.Need-enum-known-number
 enum-known-number c = search needs
 
--- src/lib.rt:455:1
 returns-2 : tie.Need-returns-2
 unfolding openTape
 returns-2 c =
@@ -63,7 +47,6 @@ returns-2 c =
     let got : readTrailer (drop (length s - 16) s) ≡ GotTrailer (c .before .before .before .t .given .0 .0) = ap readTrailer (sym (rest-is s (length s - 16))) ∙ sym (c .before .before .before .before .before .read-trailer .ensures) ∙ c .before .before .before .t .given .1 in
     simp (c .before .before .before .before .before .before .before .if1 .left, got, ← c .before .length-of .ensures, eq-eqb _ _ (c .if2 .taken))
 
--- src/lib.rt:455:1
 returns-3 : tie.Need-returns-3
 unfolding openTape
 returns-3 c =
@@ -71,7 +54,6 @@ returns-3 c =
     let got : readTrailer (drop (length s - 16) s) ≡ GotTrailer (c .before .before .before .t .given .0 .0) = ap readTrailer (sym (rest-is s (length s - 16))) ∙ sym (c .before .before .before .before .before .read-trailer .ensures) ∙ c .before .before .before .t .given .1 in
     simp (c .before .before .before .before .before .before .before .if1 .left, got, ← c .before .length-of .ensures, ne-eqb _ _ (c .if2 .left))
 
--- src/lib.rt:455:1
 returns-4 : tie.Need-returns-4
 unfolding openTape
 returns-4 c =

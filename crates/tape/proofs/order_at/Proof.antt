@@ -8,33 +8,24 @@ use Rattle.tape.proofs.RecordLaws.{order-short, few}
 use borrow.Author.Needs.{needs}
 use Rattle.tape.proofs.order_at.Statement.{statement}
 use Rattle.tape.proofs.order_at.Tie as tie
-use Rattle.tape.proofs.order_at.Reads as reads
-use Rattle.tape.proofs.order_at.Lts as lts
-use Rattle.tape.proofs.read_order.Reads as read-order-reads
 
--- src/lib.rt:480:9
 returns : tie.Need-returns
 returns c =
     let a = c .before .before .args in
     sym (order-short (drop (a .at) (now (a .s))) (few (now (a .s)) (a .at) 64 (omega arith) (omega arith)))
 
--- src/lib.rt:482:16
 sub-read-order : tie.Need-sub-read-order
 sub-read-order c = search needs
 
--- src/lib.rt:482:16
 part-read-order-start : tie.Need-part-read-order-start
 part-read-order-start c = search needs
 
--- src/lib.rt:482:16
 part-read-order-end : tie.Need-part-read-order-end
 part-read-order-end c = search needs
 
--- src/lib.rt:482:5
 read-order-requires : tie.Need-read-order-requires
 read-order-requires c κs = search needs
 
--- src/lib.rt:476:1
 returns-2 : tie.Need-returns-2
 returns-2 c =
     let a = c .before .before .before .before .args in

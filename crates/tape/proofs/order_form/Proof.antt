@@ -2,10 +2,7 @@ use mathlib.Core.Path.{refl}
 use Rattle.tape.specs.Form.{orderFormed, orderTests}
 use Rattle.tape.proofs.order_form.Statement.{statement}
 use Rattle.tape.proofs.order_form.Tie as tie
-use Rattle.tape.proofs.order_form.Reads as reads
-use Rattle.tape.proofs.order_form.Lts as lts
 
--- src/lib.rt:83:1
 returns : tie.Need-returns
 unfolding orderFormed orderTests
 returns c = refl

@@ -2,67 +2,49 @@ use Rattle.tape.specs.Records.{orderOf}
 use borrow.Author.Needs.{needs}
 use Rattle.tape.proofs.order_of.Statement.{statement}
 use Rattle.tape.proofs.order_of.Tie as tie
-use Rattle.tape.proofs.order_of.Reads as reads
-use Rattle.tape.proofs.order_of.Lts as lts
-use Rattle.words.proofs.bytes.read_word.Reads as read-word-reads
 
--- src/lib.rt:279:15
 shared-slice-read-t3 : tie.Need-shared-slice-read-t3
 shared-slice-read-t3 c = search needs
 
--- src/lib.rt:280:15
 shared-slice-read-t5 : tie.Need-shared-slice-read-t5
 shared-slice-read-t5 c = search needs
 
--- src/lib.rt:281:16
 shared-slice-read-t7 : tie.Need-shared-slice-read-t7
 shared-slice-read-t7 c = search needs
 
--- src/lib.rt:282:15
 read-word-requires : tie.Need-read-word-requires
 read-word-requires c κs = search needs
 
--- src/lib.rt:283:16
 read-word-requires-2 : tie.Need-read-word-requires-2
 read-word-requires-2 c κs = search needs
 
--- src/lib.rt:284:15
 read-word-requires-3 : tie.Need-read-word-requires-3
 read-word-requires-3 c κs = search needs
 
--- src/lib.rt:285:14
 read-word-requires-4 : tie.Need-read-word-requires-4
 read-word-requires-4 c κs = search needs
 
--- src/lib.rt:286:14
 read-word-requires-5 : tie.Need-read-word-requires-5
 read-word-requires-5 c κs = search needs
 
--- src/lib.rt:287:13
 read-word-requires-6 : tie.Need-read-word-requires-6
 read-word-requires-6 c κs = search needs
 
--- src/lib.rt:288:13
 read-word-requires-7 : tie.Need-read-word-requires-7
 read-word-requires-7 c κs = search needs
 
--- src/lib.rt:289:15
 read-word-requires-8 : tie.Need-read-word-requires-8
 read-word-requires-8 c κs = search needs
 
--- src/lib.rt:290:16
 read-word-requires-9 : tie.Need-read-word-requires-9
 read-word-requires-9 c κs = search needs
 
--- src/lib.rt:291:17
 read-word-requires-10 : tie.Need-read-word-requires-10
 read-word-requires-10 c κs = search needs
 
--- src/lib.rt:292:19
 read-word-requires-11 : tie.Need-read-word-requires-11
 read-word-requires-11 c κs = search needs
 
--- src/lib.rt:274:1
 returns : tie.Need-returns
 unfolding orderOf
 returns c = cc

@@ -2,31 +2,22 @@ use Rattle.tape.specs.Records.{orderSpare}
 use borrow.Author.Needs.{needs}
 use Rattle.tape.proofs.order_spare.Statement.{statement}
 use Rattle.tape.proofs.order_spare.Tie as tie
-use Rattle.tape.proofs.order_spare.Reads as reads
-use Rattle.tape.proofs.order_spare.Lts as lts
-use Rattle.words.proofs.bytes.read_word.Reads as read-word-reads
 
--- src/lib.rt:266:6
 shared-slice-read-result : tie.Need-shared-slice-read-result
 shared-slice-read-result c = search needs
 
--- src/lib.rt:267:12
 read-word-requires : tie.Need-read-word-requires
 read-word-requires c κs = search needs
 
--- src/lib.rt:268:12
 read-word-requires-2 : tie.Need-read-word-requires-2
 read-word-requires-2 c κs = search needs
 
--- src/lib.rt:269:12
 read-word-requires-3 : tie.Need-read-word-requires-3
 read-word-requires-3 c κs = search needs
 
--- src/lib.rt:270:12
 read-word-requires-4 : tie.Need-read-word-requires-4
 read-word-requires-4 c κs = search needs
 
--- src/lib.rt:262:1
 returns : tie.Need-returns
 unfolding orderSpare
 returns c = cc

@@ -7,30 +7,20 @@ use Rattle.tape.specs.Records.{readEvent, eventOf, eventSpare}
 use borrow.Author.Needs.{needs}
 use Rattle.tape.proofs.read_event.Statement.{statement}
 use Rattle.tape.proofs.read_event.Tie as tie
-use Rattle.tape.proofs.read_event.Reads as reads
-use Rattle.tape.proofs.read_event.Lts as lts
-use Rattle.tape.proofs.event_form.Reads as event-form-reads
-use Rattle.tape.proofs.event_of.Reads as event-of-reads
-use Rattle.tape.proofs.event_spare.Reads as event-spare-reads
 
--- src/lib.rt:377:9
 returns : tie.Need-returns
 unfolding readEvent
 returns c = simp (lt-ltb _ _ (c .if1 .taken))
 
--- src/lib.rt:379:9
 event-of-requires : tie.Need-event-of-requires
 event-of-requires c κs = search needs
 
--- src/lib.rt:380:8
 event-spare-requires : tie.Need-event-spare-requires
 event-spare-requires c κs = search needs
 
--- src/lib.rt:380:25
 event-form-requires : tie.Need-event-form-requires
 event-form-requires c κs = search needs
 
--- src/lib.rt:373:1
 returns-2 : tie.Need-returns-2
 unfolding readEvent
 returns-2 c =
@@ -38,7 +28,6 @@ returns-2 c =
     let e : (eventSpare s && eventFormed (eventOf s)) ≡ true = cc in
     simp (le-ltb _ _ (c .before .before .before .before .if1 .left), e, c .before .before .before .event-of .ensures)
 
--- src/lib.rt:373:1
 returns-3 : tie.Need-returns-3
 unfolding readEvent
 returns-3 c =

@@ -7,30 +7,20 @@ use Rattle.tape.specs.Records.{readOrder, orderOf, orderSpare}
 use borrow.Author.Needs.{needs}
 use Rattle.tape.proofs.read_order.Statement.{statement}
 use Rattle.tape.proofs.read_order.Tie as tie
-use Rattle.tape.proofs.read_order.Reads as reads
-use Rattle.tape.proofs.read_order.Lts as lts
-use Rattle.tape.proofs.order_form.Reads as order-form-reads
-use Rattle.tape.proofs.order_of.Reads as order-of-reads
-use Rattle.tape.proofs.order_spare.Reads as order-spare-reads
 
--- src/lib.rt:301:9
 returns : tie.Need-returns
 unfolding readOrder
 returns c = simp (lt-ltb _ _ (c .if1 .taken))
 
--- src/lib.rt:303:9
 order-of-requires : tie.Need-order-of-requires
 order-of-requires c κs = search needs
 
--- src/lib.rt:304:8
 order-spare-requires : tie.Need-order-spare-requires
 order-spare-requires c κs = search needs
 
--- src/lib.rt:304:25
 order-form-requires : tie.Need-order-form-requires
 order-form-requires c κs = search needs
 
--- src/lib.rt:297:1
 returns-2 : tie.Need-returns-2
 unfolding readOrder
 returns-2 c =
@@ -38,7 +28,6 @@ returns-2 c =
     let e : (orderSpare s && orderFormed (orderOf s)) ≡ true = cc in
     simp (le-ltb _ _ (c .before .before .before .before .if1 .left), e, c .before .before .before .order-of .ensures)
 
--- src/lib.rt:297:1
 returns-3 : tie.Need-returns-3
 unfolding readOrder
 returns-3 c =

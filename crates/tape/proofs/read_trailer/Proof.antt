@@ -8,32 +8,23 @@ use Rattle.tape.specs.Records.{cubt, trailerOf, readTrailer}
 use borrow.Author.Needs.{needs}
 use Rattle.tape.proofs.read_trailer.Statement.{statement}
 use Rattle.tape.proofs.read_trailer.Tie as tie
-use Rattle.tape.proofs.read_trailer.Reads as reads
-use Rattle.tape.proofs.read_trailer.Lts as lts
-use Rattle.words.proofs.bytes.read_word.Reads as read-word-reads
 
--- src/lib.rt:422:9
 returns : tie.Need-returns
 unfolding readTrailer
 returns c = simp (lt-ltb _ _ (c .if1 .taken))
 
--- src/lib.rt:424:9
 read-word-requires : tie.Need-read-word-requires
 read-word-requires c κs = search needs
 
--- src/lib.rt:424:37
 read-word-requires-2 : tie.Need-read-word-requires-2
 read-word-requires-2 c κs = search needs
 
--- src/lib.rt:426:20
 read-word-requires-3 : tie.Need-read-word-requires-3
 read-word-requires-3 c κs = search needs
 
--- src/lib.rt:427:21
 read-word-requires-4 : tie.Need-read-word-requires-4
 read-word-requires-4 c κs = search needs
 
--- src/lib.rt:418:1
 returns-2 : tie.Need-returns-2
 unfolding readTrailer trailerOf
 returns-2 c =
@@ -41,7 +32,6 @@ returns-2 c =
     let e : (eqb (wordAt s 0) cubt && eqb (wordAt s 12) 0) ≡ true = cc in
     simp (le-ltb _ _ (c .before .before .before .before .before .if1 .left), e, c .before .read-word3 .ensures, c .read-word4 .ensures)
 
--- src/lib.rt:418:1
 returns-3 : tie.Need-returns-3
 unfolding readTrailer
 returns-3 c =

@@ -2,35 +2,27 @@ use borrow.Author.Tests.{eq-eqb, ne-eqb}
 use Rattle.tape.specs.Form.{shapeOf}
 use Rattle.tape.proofs.shape_of.Statement.{statement}
 use Rattle.tape.proofs.shape_of.Tie as tie
-use Rattle.tape.proofs.shape_of.Reads as reads
-use Rattle.tape.proofs.shape_of.Lts as lts
 
--- src/lib.rt:153:9
 returns : tie.Need-returns
 unfolding shapeOf
 returns c = simp (eq-eqb _ _ (c .if1 .taken))
 
--- src/lib.rt:164:9
 returns-2 : tie.Need-returns-2
 unfolding shapeOf
 returns-2 c = simp (ne-eqb _ _ (c .before .if1 .left), eq-eqb _ _ (c .if2 .taken))
 
--- src/lib.rt:175:9
 returns-3 : tie.Need-returns-3
 unfolding shapeOf
 returns-3 c = simp (ne-eqb _ _ (c .before .before .if1 .left), ne-eqb _ _ (c .before .if2 .left), eq-eqb _ _ (c .if3 .taken))
 
--- src/lib.rt:186:9
 returns-4 : tie.Need-returns-4
 unfolding shapeOf
 returns-4 c = simp (ne-eqb _ _ (c .before .before .before .if1 .left), ne-eqb _ _ (c .before .before .if2 .left), ne-eqb _ _ (c .before .if3 .left), eq-eqb _ _ (c .if4 .taken))
 
--- src/lib.rt:197:9
 returns-5 : tie.Need-returns-5
 unfolding shapeOf
 returns-5 c = simp (ne-eqb _ _ (c .before .before .before .before .if1 .left), ne-eqb _ _ (c .before .before .before .if2 .left), ne-eqb _ _ (c .before .before .if3 .left), ne-eqb _ _ (c .before .if4 .left), eq-eqb _ _ (c .if5 .taken))
 
--- src/lib.rt:149:1
 returns-6 : tie.Need-returns-6
 unfolding shapeOf
 returns-6 c = simp (ne-eqb _ _ (c .before .before .before .before .if1 .left), ne-eqb _ _ (c .before .before .before .if2 .left), ne-eqb _ _ (c .before .before .if3 .left), ne-eqb _ _ (c .before .if4 .left), ne-eqb _ _ (c .if5 .left))

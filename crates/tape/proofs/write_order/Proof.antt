@@ -1,55 +1,40 @@
-use mathlib.Core.Path.{_≡_, sym, _∙_}
-use mathlib.Core.Bool.{true, false}
+use mathlib.Core.Path.{sym, _∙_}
 use native.Mathlib.Omega.{arith}
 use borrow.Author.Tests.{not-true, not-false}
 use denote.Ref.{now}
-use Rattle.tape.specs.Form.{orderFormed}
 use Rattle.tape.specs.Records.{orderWords, orderAnswer, orderWrote}
 use Rattle.tape.proofs.RecordLaws.{wrote-formless, wrote-short, wrote-done}
 use borrow.Author.Needs.{needs}
 use Rattle.tape.proofs.write_order.Statement.{statement}
 use Rattle.tape.proofs.write_order.Tie as tie
-use Rattle.tape.proofs.write_order.Reads as reads
-use Rattle.tape.proofs.write_order.Lts as lts
-use Rattle.tape.proofs.order_form.Reads as order-form-reads
-use Rattle.words.proofs.bytes.join.Reads as join-reads
-use Rattle.words.proofs.bytes.write_words.Reads as write-words-reads
 
--- src/lib.rt:316:9
 order-form-requires : tie.Need-order-form-requires
 order-form-requires c κs = search needs
 
--- src/lib.rt:317:9
 returns : tie.Need-returns
 unfolding orderAnswer orderWrote
 returns c =
     let a = c .before .before .before .args in
     wrote-formless 1 (orderWords (a .o)) (now (a .out)) (sym (c .before .order-form .ensures) ∙ not-true _ (c .if1 .taken))
 
--- src/lib.rt:320:9
 returns-2 : tie.Need-returns-2
 unfolding orderAnswer orderWrote orderWords
 returns-2 c =
     let a = c .before .before .before .before .args in
     wrote-short 1 (orderWords (a .o)) (now (a .out)) (sym (c .before .before .order-form .ensures) ∙ not-false _ (c .before .if1 .left)) (omega arith)
 
--- src/lib.rt:323:9
 join-requires : tie.Need-join-requires
 join-requires c κs = search needs
 
--- src/lib.rt:340:25
 slice-aggregate-write-words : tie.Need-slice-aggregate-write-words
 slice-aggregate-write-words c = search needs
 
--- src/lib.rt:340:5
 write-words-requires : tie.Need-write-words-requires
 write-words-requires c κs = search needs
 
--- src/lib.rt:312:1
 same-length : tie.Need-same-length
 same-length c = search needs
 
--- src/lib.rt:312:1
 returns-3 : tie.Need-returns-3
 unfolding orderAnswer orderWrote orderWords
 returns-3 c =

@@ -3,9 +3,6 @@ use lib.ListN.{length}
 use borrow.Author.Needs.{needs}
 use Rattle.tape_cases.proofs.bytes.Statement.{statement}
 use Rattle.tape_cases.proofs.bytes.Tie as tie
-use Rattle.tape_cases.proofs.bytes.Reads as reads
-use Rattle.tape_cases.proofs.bytes.Lts as lts
-use Rattle.tape_cases.proofs.small.Reads as small-reads
 
 abbrev Inv-loop : tie.InvT-loop
 Inv-loop s i₀ i = i ≤ length s
@@ -13,31 +10,24 @@ Inv-loop s i₀ i = i ≤ length s
 abbrev μ-loop : tie.MeasureT-loop
 μ-loop s i₀ i = length s - i
 
--- src/main.rt:32:5
 loop-holds : tie.Need-loop-holds Inv-loop μ-loop
 loop-holds c = search needs
 
--- src/main.rt:33:15
 shared-slice-read-small : tie.Need-shared-slice-read-small Inv-loop μ-loop
 shared-slice-read-small c = search needs
 
--- src/main.rt:33:9
 small-requires : tie.Need-small-requires Inv-loop μ-loop
 small-requires c κs = search needs
 
--- src/main.rt:34:9
 add-i : tie.Need-add-i Inv-loop μ-loop
 add-i c = search needs
 
--- src/main.rt:32:5
 loop-less : tie.Need-loop-less Inv-loop μ-loop
 loop-less c = search needs
 
--- src/main.rt:32:5
 loop-again : tie.Need-loop-again Inv-loop μ-loop
 loop-again c = search needs
 
--- src/main.rt:30:1
 returns : tie.Need-returns Inv-loop μ-loop
 returns c = search needs
 

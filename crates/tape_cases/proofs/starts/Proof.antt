@@ -3,8 +3,6 @@ use lib.ListN.{length}
 use borrow.Author.Needs.{needs}
 use Rattle.tape_cases.proofs.starts.Statement.{statement}
 use Rattle.tape_cases.proofs.starts.Tie as tie
-use Rattle.tape_cases.proofs.starts.Reads as reads
-use Rattle.tape_cases.proofs.starts.Lts as lts
 
 abbrev Inv-loop : tie.InvT-loop
 Inv-loop s front i₀ i = i ≤ length front
@@ -12,39 +10,30 @@ Inv-loop s front i₀ i = i ≤ length front
 abbrev μ-loop : tie.MeasureT-loop
 μ-loop s front i₀ i = length front - i
 
--- src/main.rt:37:9
 returns : tie.Need-returns Inv-loop μ-loop
 returns c = search needs
 
--- src/main.rt:40:5
 loop-holds : tie.Need-loop-holds Inv-loop μ-loop
 loop-holds c = search needs
 
--- src/main.rt:41:12
 shared-slice-read-if2 : tie.Need-shared-slice-read-if2 Inv-loop μ-loop
 shared-slice-read-if2 c = search needs
 
--- src/main.rt:41:20
 shared-slice-read-if2-2 : tie.Need-shared-slice-read-if2-2 Inv-loop μ-loop
 shared-slice-read-if2-2 c = search needs
 
--- src/main.rt:42:13
 returns-2 : tie.Need-returns-2 Inv-loop μ-loop
 returns-2 c = search needs
 
--- src/main.rt:44:9
 add-i : tie.Need-add-i Inv-loop μ-loop
 add-i c = search needs
 
--- src/main.rt:40:5
 loop-less : tie.Need-loop-less Inv-loop μ-loop
 loop-less c = search needs
 
--- src/main.rt:40:5
 loop-again : tie.Need-loop-again Inv-loop μ-loop
 loop-again c = search needs
 
--- src/main.rt:35:1
 returns-3 : tie.Need-returns-3 Inv-loop μ-loop
 returns-3 c = search needs
 

@@ -3,56 +3,40 @@ use Rattle.auction.specs.Step.{boardAfter}
 use borrow.Author.Needs.{needs}
 use Rattle.auction.proofs.events.board_after.Statement.{statement}
 use Rattle.auction.proofs.events.board_after.Tie as tie
-use Rattle.auction.proofs.events.board_after.Reads as reads
-use Rattle.auction.proofs.events.board_after.Lts as lts
-use Rattle.board.proofs.clear.Reads as clear-reads
-use Rattle.board.proofs.place.Reads as place-reads
 
--- src/events.rt:55:28
 enum-told : tie.Need-enum-told
 enum-told c = search needs
 
--- src/events.rt:56:23
 enum-known-c : tie.Need-enum-known-c
 enum-known-c c = search needs
 
--- src/events.rt:56:29
 place-requires : tie.Need-place-requires
 place-requires c κs = search needs
 
--- src/events.rt:57:23
 enum-known-c-2 : tie.Need-enum-known-c-2
 enum-known-c-2 c = search needs
 
--- src/events.rt:57:29
 clear-requires : tie.Need-clear-requires
 clear-requires c κs = search needs
 
--- src/events.rt:58:29
 enum-told-2 : tie.Need-enum-told-2
 enum-told-2 c = search needs
 
--- src/events.rt:59:28
 enum-told-3 : tie.Need-enum-told-3
 enum-told-3 c = search needs
 
--- src/events.rt:51:1
 returns : tie.Need-returns
 returns c = search needs
 
--- src/events.rt:51:1
 returns-2 : tie.Need-returns-2
 returns-2 c = c .place .ensures ∙ ap (boardAfter (c .before .before .before .before .args .b)) (sym (c .before .before .c .given .1))
 
--- src/events.rt:51:1
 returns-3 : tie.Need-returns-3
 returns-3 c = c .clear .ensures ∙ ap (boardAfter (c .before .before .before .before .args .b)) (sym (c .before .before .c2 .given .1))
 
--- src/events.rt:51:1
 returns-4 : tie.Need-returns-4
 returns-4 c = search needs
 
--- src/events.rt:51:1
 returns-5 : tie.Need-returns-5
 returns-5 c = search needs
 

@@ -1,34 +1,24 @@
-use mathlib.Core.Path.{sym, ap, _∙_}
+use mathlib.Core.Path.{sym, ap}
 use Rattle.auction.specs.Step.{carried}
 use borrow.Author.Needs.{needs}
 use Rattle.auction.proofs.events.carry.Statement.{statement}
 use Rattle.auction.proofs.events.carry.Tie as tie
-use Rattle.auction.proofs.events.carry.Reads as reads
-use Rattle.auction.proofs.events.carry.Lts as lts
-use Rattle.auction.proofs.events.answer_of.Reads as answer-of-reads
-use Rattle.auction.proofs.events.auction_after.Reads as auction-after-reads
 
--- src/events.rt:138:26
 enum-known-o : tie.Need-enum-known-o
 enum-known-o c = search needs
 
--- src/events.rt:142:23
 enum-known-o-2 : tie.Need-enum-known-o-2
 enum-known-o-2 c = search needs
 
--- src/events.rt:143:17
 auction-after-requires : tie.Need-auction-after-requires
 auction-after-requires c κs = search needs
 
--- src/events.rt:145:25
 answer-of-requires : tie.Need-answer-of-requires
 answer-of-requires c κs = search needs
 
--- src/events.rt:134:1
 returns : tie.Need-returns
 returns c = ap (carried (c .before .before .before .args .a) (c .before .before .before .args .e)) (sym (c .before .o .given .1))
 
--- src/events.rt:134:1
 returns-2 : tie.Need-returns-2
 returns-2 c = simp (c .answer-of .ensures, c .before .auction-after .ensures) (ap (carried (c .before .before .before .before .before .args .a) (c .before .before .before .before .before .args .e)) (sym (c .before .before .before .o2 .given .1)))
 

@@ -1,22 +1,16 @@
-use borrow.Author.Tests.{lt-ltb, le-ltb, le-leb, lt-leb, eq-eqb, ne-eqb}
+use borrow.Author.Tests.{eq-eqb, ne-eqb}
 use Rattle.auction.specs.Mirror.{buyOrder}
 use borrow.Author.Needs.{needs}
 use Rattle.auction.proofs.mirror.buy_order.Statement.{statement}
 use Rattle.auction.proofs.mirror.buy_order.Tie as tie
-use Rattle.auction.proofs.mirror.buy_order.Reads as reads
-use Rattle.auction.proofs.mirror.buy_order.Lts as lts
-use Rattle.auction.proofs.mirror.mirror_order.Reads as mirror-order-reads
 
--- src/mirror.rt:119:9
 mirror-order-requires : tie.Need-mirror-order-requires
 mirror-order-requires c κs = search needs
 
--- src/mirror.rt:119:9
 returns : tie.Need-returns
 unfolding buyOrder
 returns c = simp ((eq-eqb _ _ (c .before .if1 .taken))) (c .mirror-order .ensures)
 
--- src/mirror.rt:115:1
 returns-2 : tie.Need-returns-2
 unfolding buyOrder
 returns-2 c = simp ((ne-eqb _ _ (c .if1 .left)))

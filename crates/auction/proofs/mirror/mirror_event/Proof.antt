@@ -1,51 +1,37 @@
-use borrow.Author.Tests.{lt-ltb, le-ltb, le-leb, lt-leb, eq-eqb, ne-eqb}
+use borrow.Author.Tests.{eq-eqb, ne-eqb}
 use Rattle.auction.specs.Mirror.{mirroredEvent}
 use borrow.Author.Needs.{needs}
 use Rattle.auction.proofs.mirror.mirror_event.Statement.{statement}
 use Rattle.auction.proofs.mirror.mirror_event.Tie as tie
-use Rattle.auction.proofs.mirror.mirror_event.Reads as reads
-use Rattle.auction.proofs.mirror.mirror_event.Lts as lts
-use Rattle.auction.proofs.mirror.mirror_market.Reads as mirror-market-reads
-use Rattle.auction.proofs.mirror.mirror_priced.Reads as mirror-priced-reads
-use Rattle.auction.proofs.mirror.mirror_quotes.Reads as mirror-quotes-reads
 
--- src/mirror.rt:100:9
 mirror-priced-requires : tie.Need-mirror-priced-requires
 mirror-priced-requires c κs = search needs
 
--- src/mirror.rt:100:9
 returns : tie.Need-returns
 unfolding mirroredEvent
 returns c = simp ((eq-eqb _ _ (c .before .if1 .taken))) (c .mirror-priced .ensures)
 
--- src/mirror.rt:103:9
 mirror-priced-requires-2 : tie.Need-mirror-priced-requires-2
 mirror-priced-requires-2 c κs = search needs
 
--- src/mirror.rt:103:9
 returns-2 : tie.Need-returns-2
 unfolding mirroredEvent
 returns-2 c = simp ((ne-eqb _ _ (c .before .before .before .if1 .left)), (eq-eqb _ _ (c .before .if2 .taken))) (c .mirror-priced2 .ensures)
 
--- src/mirror.rt:106:9
 mirror-market-requires : tie.Need-mirror-market-requires
 mirror-market-requires c κs = search needs
 
--- src/mirror.rt:106:9
 returns-3 : tie.Need-returns-3
 unfolding mirroredEvent
 returns-3 c = simp ((ne-eqb _ _ (c .before .before .before .before .before .if1 .left)), (ne-eqb _ _ (c .before .before .before .if2 .left)), (eq-eqb _ _ (c .before .if3 .taken))) (c .mirror-market .ensures)
 
--- src/mirror.rt:109:9
 mirror-quotes-requires : tie.Need-mirror-quotes-requires
 mirror-quotes-requires c κs = search needs
 
--- src/mirror.rt:109:9
 returns-4 : tie.Need-returns-4
 unfolding mirroredEvent
 returns-4 c = simp ((ne-eqb _ _ (c .before .before .before .before .before .before .before .if1 .left)), (ne-eqb _ _ (c .before .before .before .before .before .if2 .left)), (ne-eqb _ _ (c .before .before .before .if3 .left)), (eq-eqb _ _ (c .before .if4 .taken))) (c .mirror-quotes .ensures)
 
--- src/mirror.rt:96:1
 returns-5 : tie.Need-returns-5
 unfolding mirroredEvent
 returns-5 c = simp ((ne-eqb _ _ (c .before .before .before .before .before .before .if1 .left)), (ne-eqb _ _ (c .before .before .before .before .if2 .left)), (ne-eqb _ _ (c .before .before .if3 .left)), (ne-eqb _ _ (c .if4 .left)))

@@ -1,36 +1,26 @@
-use borrow.Author.Tests.{lt-ltb, le-ltb, le-leb, lt-leb, eq-eqb, ne-eqb}
 use Rattle.auction.specs.Mirror.{mirroredMarks}
 use borrow.Author.Needs.{needs}
 use Rattle.auction.proofs.mirror.mirror_marks.Statement.{statement}
 use Rattle.auction.proofs.mirror.mirror_marks.Tie as tie
-use Rattle.auction.proofs.mirror.mirror_marks.Reads as reads
-use Rattle.auction.proofs.mirror.mirror_marks.Lts as lts
 
--- src/mirror.rt:20:13
 mul-result : tie.Need-mul-result
 mul-result c = search needs
 
--- src/mirror.rt:20:5
 add-result : tie.Need-add-result
 add-result c = search needs
 
--- src/mirror.rt:20:29
 mul-result-2 : tie.Need-mul-result-2
 mul-result-2 c = search needs
 
--- src/mirror.rt:20:5
 add-result-2 : tie.Need-add-result-2
 add-result-2 c = search needs
 
--- src/mirror.rt:20:45
 mul-result-3 : tie.Need-mul-result-3
 mul-result-3 c = search needs
 
--- src/mirror.rt:20:5
 add-result-3 : tie.Need-add-result-3
 add-result-3 c = search needs
 
--- src/mirror.rt:17:1
 returns : tie.Need-returns
 unfolding mirroredMarks
 returns c = cc

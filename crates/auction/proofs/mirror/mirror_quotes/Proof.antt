@@ -1,34 +1,23 @@
-use borrow.Author.Tests.{lt-ltb, le-ltb, le-leb, lt-leb, eq-eqb, ne-eqb}
 use Rattle.auction.specs.Mirror.{mirroredQuotes}
 use borrow.Author.Needs.{needs}
 use Rattle.auction.proofs.mirror.mirror_quotes.Statement.{statement}
 use Rattle.auction.proofs.mirror.mirror_quotes.Tie as tie
-use Rattle.auction.proofs.mirror.mirror_quotes.Reads as reads
-use Rattle.auction.proofs.mirror.mirror_quotes.Lts as lts
-use Rattle.auction.proofs.mirror.mirror.Reads as mirror-reads
-use Rattle.auction.proofs.mirror.mirror_marks.Reads as mirror-marks-reads
 
--- src/mirror.rt:88:5
 mirror-marks-requires : tie.Need-mirror-marks-requires
 mirror-marks-requires c κs = search needs
 
--- src/mirror.rt:89:5
 mirror-requires : tie.Need-mirror-requires
 mirror-requires c κs = search needs
 
--- src/mirror.rt:90:5
 mirror-requires-2 : tie.Need-mirror-requires-2
 mirror-requires-2 c κs = search needs
 
--- src/mirror.rt:91:5
 mirror-requires-3 : tie.Need-mirror-requires-3
 mirror-requires-3 c κs = search needs
 
--- src/mirror.rt:92:5
 mirror-requires-4 : tie.Need-mirror-requires-4
 mirror-requires-4 c κs = search needs
 
--- src/mirror.rt:84:1
 returns : tie.Need-returns
 unfolding mirroredQuotes
 returns c = cc

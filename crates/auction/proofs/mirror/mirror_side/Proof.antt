@@ -1,21 +1,16 @@
-use borrow.Author.Tests.{lt-ltb, le-ltb, le-leb, lt-leb, eq-eqb, ne-eqb}
+use borrow.Author.Tests.{eq-eqb, ne-eqb}
 use Rattle.auction.specs.Mirror.{mirroredSide}
 use Rattle.auction.proofs.mirror.mirror_side.Statement.{statement}
 use Rattle.auction.proofs.mirror.mirror_side.Tie as tie
-use Rattle.auction.proofs.mirror.mirror_side.Reads as reads
-use Rattle.auction.proofs.mirror.mirror_side.Lts as lts
 
--- src/mirror.rt:28:9
 returns : tie.Need-returns
 unfolding mirroredSide
 returns c = simp (eq-eqb _ _ (c .if1 .taken))
 
--- src/mirror.rt:31:9
 returns-2 : tie.Need-returns-2
 unfolding mirroredSide
 returns-2 c = simp (ne-eqb _ _ (c .before .if1 .left), eq-eqb _ _ (c .if2 .taken))
 
--- src/mirror.rt:24:1
 returns-3 : tie.Need-returns-3
 unfolding mirroredSide
 returns-3 c = simp (ne-eqb _ _ (c .before .if1 .left), ne-eqb _ _ (c .if2 .left))

@@ -1,43 +1,30 @@
-use mathlib.Core.Path.{sym, ap, _∙_}
-use borrow.Author.Tests.{lt-ltb, le-ltb, le-leb, lt-leb, eq-eqb, ne-eqb}
+use mathlib.Core.Path.{_∙_}
+use borrow.Author.Tests.{eq-eqb, ne-eqb}
 use native.Mathlib.Omega.{arith}
 use Rattle.auction.specs.Accept.{guaranteedOf}
 use borrow.Author.Needs.{needs}
 use Rattle.auction.proofs.orders.guaranteed.Statement.{statement}
 use Rattle.auction.proofs.orders.guaranteed.Tie as tie
-use Rattle.auction.proofs.orders.guaranteed.Reads as reads
-use Rattle.auction.proofs.orders.guaranteed.Lts as lts
-use Rattle.auction.proofs.orders.first_bound.Reads as first-bound-reads
-use Rattle.auction.proofs.orders.higher.Reads as higher-reads
-use Rattle.auction.proofs.orders.initiating.Reads as initiating-reads
-use Rattle.auction.proofs.orders.wide.Reads as wide-reads
 
--- src/orders.rt:87:21
 initiating-requires : tie.Need-initiating-requires
 initiating-requires c κs = search needs
 
--- src/orders.rt:87:9
 wide-requires : tie.Need-wide-requires
 wide-requires c κs = search needs
 
--- src/orders.rt:87:9
 returns : tie.Need-returns
 unfolding guaranteedOf
 returns c = (simp (eq-eqb _ _ (c .before .before .if1 .taken)) (c .wide .ensures .0 ∙ c .before .initiating .ensures), omega (arith, c .wide .ensures .1))
 
--- src/orders.rt:89:12
 wide-requires-2 : tie.Need-wide-requires-2
 wide-requires-2 c κs = search needs
 
--- src/orders.rt:89:26
 first-bound-requires : tie.Need-first-bound-requires
 first-bound-requires c κs = search needs
 
--- src/orders.rt:89:5
 higher-requires : tie.Need-higher-requires
 higher-requires c κs = search needs
 
--- src/orders.rt:83:1
 returns-2 : tie.Need-returns-2
 unfolding guaranteedOf
 returns-2 c = (simp (ne-eqb _ _ (c .before .before .before .if1 .left)) (cc), omega (arith, c .higher .ensures, c .before .before .wide2 .ensures .1, c .before .first-bound .ensures .1))

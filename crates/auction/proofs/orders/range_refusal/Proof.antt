@@ -1,60 +1,42 @@
-use borrow.Author.Tests.{lt-ltb, le-ltb, le-leb, lt-leb, eq-eqb, ne-eqb}
+use borrow.Author.Tests.{lt-ltb, le-ltb}
 use Rattle.auction.specs.Accept.{rangeRefusal}
 use borrow.Author.Needs.{needs}
 use Rattle.auction.proofs.orders.range_refusal.Statement.{statement}
 use Rattle.auction.proofs.orders.range_refusal.Tie as tie
-use Rattle.auction.proofs.orders.range_refusal.Reads as reads
-use Rattle.auction.proofs.orders.range_refusal.Lts as lts
-use Rattle.auction.proofs.orders.first_bound.Reads as first-bound-reads
-use Rattle.auction.proofs.orders.guaranteed.Reads as guaranteed-reads
-use Rattle.auction.proofs.orders.initiating.Reads as initiating-reads
-use Rattle.auction.proofs.orders.is_next.Reads as is-next-reads
-use Rattle.auction.proofs.orders.wide.Reads as wide-reads
 
--- src/orders.rt:104:8
 wide-requires : tie.Need-wide-requires
 wide-requires c κs = search needs
 
--- src/orders.rt:104:24
 first-bound-requires : tie.Need-first-bound-requires
 first-bound-requires c κs = search needs
 
--- src/orders.rt:105:9
 returns : tie.Need-returns
 unfolding rangeRefusal
 returns c = simp ((rw (c .before .before .wide .ensures .0, c .before .first-bound .ensures .0) at (lt-ltb _ _ (c .if1 .taken))))
 
--- src/orders.rt:107:8
 initiating-requires : tie.Need-initiating-requires
 initiating-requires c κs = search needs
 
--- src/orders.rt:108:9
 returns-2 : tie.Need-returns-2
 unfolding rangeRefusal
 returns-2 c = simp ((rw (c .before .before .before .before .before .wide .ensures .0, c .before .before .before .before .first-bound .ensures .0) at (le-ltb _ _ (c .before .before .before .if1 .left))), (rw (c .before .before .initiating .ensures) at (lt-ltb _ _ (c .if2 .taken))))
 
--- src/orders.rt:110:32
 wide-requires-2 : tie.Need-wide-requires-2
 wide-requires-2 c κs = search needs
 
--- src/orders.rt:110:24
 is-next-requires : tie.Need-is-next-requires
 is-next-requires c κs = search needs
 
--- src/orders.rt:110:63
 guaranteed-requires : tie.Need-guaranteed-requires
 guaranteed-requires c κs = search needs
 
--- src/orders.rt:110:55
 is-next-requires-2 : tie.Need-is-next-requires-2
 is-next-requires-2 c κs = search needs
 
--- src/orders.rt:111:9
 returns-3 : tie.Need-returns-3
 unfolding rangeRefusal
 returns-3 c = simp ((rw (c .before .before .before .before .before .before .before .before .before .before .before .wide .ensures .0, c .before .before .before .before .before .before .before .before .before .before .first-bound .ensures .0) at (le-ltb _ _ (c .before .before .before .before .before .before .before .before .before .if1 .left))), (rw (c .before .before .before .before .before .before .before .before .initiating .ensures) at (le-ltb _ _ (c .before .before .before .before .before .before .if2 .left))), (rw (c .before .before .before .is-next .ensures, c .before .is-next2 .ensures, c .before .before .before .before .wide2 .ensures .0, c .before .before .guaranteed .ensures .0) at (c .if3 .taken)))
 
--- src/orders.rt:101:1
 returns-4 : tie.Need-returns-4
 unfolding rangeRefusal
 returns-4 c = simp ((rw (c .before .before .before .before .before .before .before .before .before .before .before .wide .ensures .0, c .before .before .before .before .before .before .before .before .before .before .first-bound .ensures .0) at (le-ltb _ _ (c .before .before .before .before .before .before .before .before .before .if1 .left))), (rw (c .before .before .before .before .before .before .before .before .initiating .ensures) at (le-ltb _ _ (c .before .before .before .before .before .before .if2 .left))), (rw (c .before .before .before .is-next .ensures, c .before .is-next2 .ensures, c .before .before .before .before .wide2 .ensures .0, c .before .before .guaranteed .ensures .0) at (c .if3 .left)))

@@ -2,15 +2,11 @@ use native.Mathlib.Omega.{arith}
 use Rattle.auction.specs.Accept.{tickOf}
 use Rattle.auction.proofs.orders.tick.Statement.{statement}
 use Rattle.auction.proofs.orders.tick.Tie as tie
-use Rattle.auction.proofs.orders.tick.Reads as reads
-use Rattle.auction.proofs.orders.tick.Lts as lts
 
--- src/orders.rt:56:1
 returns : tie.Need-returns
 unfolding tickOf
 returns c = (simp (c .if1 .taken), omega arith)
 
--- src/orders.rt:56:1
 returns-2 : tie.Need-returns-2
 unfolding tickOf
 returns-2 c = (simp (c .if1 .left), omega arith)

@@ -5,27 +5,19 @@ use Rattle.words.proofs.ByteLaws.{row-in, row-out}
 use borrow.Author.Needs.{needs}
 use Rattle.words.proofs.bytes.write_words.Statement.{statement}
 use Rattle.words.proofs.bytes.write_words.Tie as tie
-use Rattle.words.proofs.bytes.write_words.Reads as reads
-use Rattle.words.proofs.bytes.write_words.Lts as lts
-use Rattle.words.proofs.bytes.put_words.Reads as put-words-reads
 
--- src/bytes.rt:73:9
 returns : tie.Need-returns
 returns c = sym (row-out (now (c .before .before .before .args .out)) (c .before .before .before .args .at) (now (c .before .before .before .args .ws)) (omega arith))
 
--- src/bytes.rt:76:9
 returns-2 : tie.Need-returns-2
 returns-2 c = sym (row-out (now (c .before .before .before .before .args .out)) (c .before .before .before .before .args .at) (now (c .before .before .before .before .args .ws)) (omega arith))
 
--- src/bytes.rt:78:5
 put-words-requires : tie.Need-put-words-requires
 put-words-requires c κs = search needs
 
--- src/bytes.rt:68:1
 same-length : tie.Need-same-length
 same-length c = search needs
 
--- src/bytes.rt:68:1
 returns-3 : tie.Need-returns-3
 returns-3 c = c .before .before .put-words .ensures ∙ sym (row-in (now (c .before .before .before .before .before .before .before .before .args .out)) (c .before .before .before .before .before .before .before .before .args .at) (now (c .before .before .before .before .before .before .before .before .args .ws)) (omega arith))
 

@@ -1,0 +1,4 @@
+-- What the contracts of `share` cite.
+pub mod Share
+pub mod Fills
+pub mod Examples

@@ -1,0 +1,1 @@
+// Shares of an amount, in turn or pro rata, and the fills written of them.

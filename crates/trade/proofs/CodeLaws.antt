@@ -1,0 +1,118 @@
+-- What the private functions' proofs lean on: laws over numbers and words.
+use mathlib.Core.Path.{_≡_, refl, ap, _∙_}
+use mathlib.Core.Bool.{Bool, true, false, cond}
+use mathlib.Core.List.{List, [], _∷_}
+use Prim.Native.Nat.{ℕ, suc, _+_, _-_, _*_, _/_, _%_, _^_, _≤_, _<_, min, max}
+use native.Mathlib.Omega.{arith}
+use lib.Dec.{eqb}
+use lib.ListN.{length, getD}
+use lib.Pow.{pow-pos}
+use Rattle.words.specs.Bits.{bitAt, withoutBit, setIn}
+use Rattle.words.proofs.BitLaws.{bit-le, without-set, lowest-set}
+use Rattle.board.specs.declared.Response.{Response}
+use Rattle.board.specs.Lists.{keep}
+use Rattle.board.specs.Board.{noResponse, liveIn}
+use Rattle.board.proofs.LiveLaws.{none-live, first-live}
+use Rattle.share.specs.Share.{sum, floors}
+use Rattle.share.specs.Fills.{sizes}
+use Rattle.trade.specs.Trade.{guaranteeOf}
+use Rattle.trade.specs.Code.{leastOf, sharedOf, contraOf}
+
+-- ---- numbers
+
+pub shared-is : (left C want a b : ℕ) → a ≡ min left C → b ≡ min (left - a) want → left - a - b ≡ sharedOf left C want
+unfolding sharedOf
+shared-is left C want a b e f = let x : left - a ≡ left - C = omega arith in rw (f, x)
+
+pub shared-le : (left C want : ℕ) → sharedOf left C want ≤ left
+unfolding sharedOf
+shared-le left C want = omega arith
+
+-- the Contra Order's first part, and all the rest where it is to have it
+pub contra-last : (left C T want a b s c : ℕ) → a ≡ min left C → b ≡ min (left - a) want → s ≡ sharedOf left C want → c ≡ min s T → b + (s - c) ≡ contraOf left C T want true
+unfolding contraOf
+contra-last left C T want a b s c e f g h =
+    let x : left - a ≡ left - C = omega arith in
+    let y : b ≡ min (left - C) want = f ∙ ap (λ (n : ℕ). min n want) x in
+    let z : s - c ≡ s - T = omega arith in
+    rw (y, z, g)
+
+pub contra-open : (left C T want a b : ℕ) → a ≡ min left C → b ≡ min (left - a) want → b ≡ contraOf left C T want false
+unfolding contraOf
+contra-open left C T want a b e f =
+    let x : left - a ≡ left - C = omega arith in
+    f ∙ ap (λ (n : ℕ). min n want) x ∙ omega arith
+
+pub contra-fits : (left C want a b s : ℕ) → a ≡ min left C → b ≡ min (left - a) want → s ≡ sharedOf left C want → b + s ≤ left
+unfolding sharedOf
+contra-fits left C want a b s e f g =
+    let x : left - a ≡ left - C = omega arith in
+    let y : b ≡ min (left - C) want = f ∙ ap (λ (n : ℕ). min n want) x in
+    omega arith
+
+pub guarantee-is : (size n g : ℕ) → g ≡ cond (eqb n 1) (size * 5 / 10) (size * 4 / 10) → max 1 g ≡ guaranteeOf size n
+unfolding guaranteeOf
+guarantee-is size n g e = rw e
+
+-- ---- a turn of a loop over the places of a word: i is the lowest of rest
+
+pub record Turn (ps : List Response) (rest i : ℕ) : Type 0 where
+  pub low : i < 64
+  pub set : bitAt rest i ≡ true
+  pub less : withoutBit rest i < rest
+  pub cons : liveIn rest ps ≡ getD ps i noResponse ∷ liveIn (withoutBit rest i) ps
+
+pub cut-less : (rest i : ℕ) → bitAt rest i ≡ true → withoutBit rest i < rest
+cut-less rest i t = rw (without-set rest i t) (omega (arith, bit-le rest i t, pow-pos i))
+
+pub turn-of : (ps : List Response) (rest i : ℕ) → length ps ≡ 64 → 0 < rest → rest < 2 ^ 64 → i ≡ setIn 64 rest → Turn ps rest i
+turn-of ps rest i e p h q =
+    let t = lowest-set rest i p h q in
+    record { low = t .place; set = t .set; less = cut-less rest i (t .set); cons = first-live rest i ps noResponse (omega (arith, t .place)) t }
+
+-- ---- what a scan has to go
+
+pub least-none : (bound last : ℕ) (ps : List Response) → leastOf bound last (liveIn 0 ps) ≡ last
+unfolding leastOf
+least-none bound last ps = rw (none-live ps)
+
+pub least-turn : (bound last best : ℕ) (ps : List Response) (rest i : ℕ) → Turn ps rest i
+    → min best (leastOf bound last (liveIn rest ps)) ≡ min (min (max (getD ps i noResponse .price) bound) best) (leastOf bound last (liveIn (withoutBit rest i) ps))
+unfolding leastOf
+least-turn bound last best ps rest i t = rw (t .cons) (omega arith)
+
+pub least-le : (bound last : ℕ) (rs : List Response) → leastOf bound last rs ≤ last
+unfolding leastOf
+least-le bound last [] = omega arith
+least-le bound last (r ∷ rs) = omega (arith, least-le bound last rs)
+
+-- a sum over the places: f is what each adds
+sum-turn : (f : ℕ → ℕ) (g : List Response → ℕ) → ((r : Response) (rs : List Response) → g (r ∷ rs) ≡ f (r .size) + g rs)
+    → (ps : List Response) (rest i : ℕ) → Turn ps rest i → g (liveIn rest ps) ≡ f (getD ps i noResponse .size) + g (liveIn (withoutBit rest i) ps)
+sum-turn f g h ps rest i t = ap g (t .cons) ∙ h (getD ps i noResponse) (liveIn (withoutBit rest i) ps)
+
+pub sizes-turn : (ps : List Response) (rest i : ℕ) → Turn ps rest i → sum (sizes (liveIn rest ps)) ≡ getD ps i noResponse .size + sum (sizes (liveIn (withoutBit rest i) ps))
+sizes-turn = sum-turn (λ s. s) (λ rs. sum (sizes rs)) (λ r rs. refl)
+
+pub parts-turn : (R T : ℕ) (ps : List Response) (rest i : ℕ) → Turn ps rest i
+    → sum (floors R T (sizes (liveIn rest ps))) ≡ R * getD ps i noResponse .size / T + sum (floors R T (sizes (liveIn (withoutBit rest i) ps)))
+parts-turn R T = sum-turn (λ s. R * s / T) (λ rs. sum (floors R T (sizes rs))) (λ r rs. refl)
+
+pub sizes-none : (ps : List Response) → sum (sizes (liveIn 0 ps)) ≡ 0
+sizes-none ps = rw (none-live ps)
+
+pub parts-none : (R T : ℕ) (ps : List Response) → sum (floors R T (sizes (liveIn 0 ps))) ≡ 0
+parts-none R T ps = rw (none-live ps)
+
+-- one place less to go
+pub count-turn : (ps : List Response) (rest i : ℕ) → Turn ps rest i → length (liveIn rest ps) ≡ suc (length (liveIn (withoutBit rest i) ps))
+count-turn ps rest i t = rw (t .cons)
+
+pub live-short : {A : Type 0} (w : ℕ) (ps : List A) → length (liveIn w ps) ≤ length ps
+unfolding liveIn
+live-short w [] = omega arith
+live-short w (p ∷ ps) = go (eqb (w % 2) 1) (live-short (w / 2) ps)
+  where
+    go : (t : Bool) → length (liveIn (w / 2) ps) ≤ length ps → length (keep t p (liveIn (w / 2) ps)) ≤ suc (length ps)
+    go true h = omega arith
+    go false h = omega arith

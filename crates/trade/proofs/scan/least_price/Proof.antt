@@ -1,0 +1,88 @@
+use mathlib.Core.Path.{_≡_, ap, _∙_}
+use Prim.Native.Nat.{ℕ, _^_, _≤_, _<_, min, max}
+use native.Mathlib.Omega.{arith}
+use lib.ListN.{length, getD}
+use borrow.Author.Needs.{needs}
+use Rattle.words.proofs.BitLaws.{without-le}
+use Rattle.board.specs.Board.{noResponse, liveIn}
+use Rattle.trade.specs.Code.{leastOf}
+use Rattle.trade.proofs.CodeLaws.{Turn, turn-of, least-none, least-turn, least-le}
+use Rattle.trade.proofs.scan.least_price.Statement.{statement}
+use Rattle.trade.proofs.scan.least_price.Tie as tie
+
+abbrev Inv-loop : tie.InvT-loop
+Inv-loop word bound last places best₀ rest₀ best rest = (rest < 2 ^ 64) × (best ≤ last) × (leastOf bound last (liveIn word places) ≡ min best (leastOf bound last (liveIn rest places)))
+
+abbrev μ-loop : tie.MeasureT-loop
+μ-loop word bound last places best₀ rest₀ best rest = rest
+
+len : (c : tie.Start Inv-loop μ-loop) → length (c .args .t1) ≡ 64
+len c = search needs
+
+turn : (c : tie.After-first-set Inv-loop μ-loop) → Turn (c .before .before .before .args .t1) (c .before .before .loop .rest) (c .first-set .result)
+turn c = turn-of (c .before .before .before .args .t1) (c .before .before .loop .rest) _ (len (c .before .before .before)) (omega arith) (c .before .before .loop .inv .0) (c .first-set .ensures)
+
+loop-holds : tie.Need-loop-holds Inv-loop μ-loop
+loop-holds c = let a = c .args in (search needs, omega arith, omega (arith, least-le (a .bound) (a .last) (liveIn (a .word) (a .t1))))
+
+first-set-requires : tie.Need-first-set-requires Inv-loop μ-loop
+first-set-requires c κs = search needs
+
+cast-i : tie.Need-cast-i Inv-loop μ-loop
+cast-i c = omega (arith, turn c .low)
+
+mul-working : tie.Need-mul-working Inv-loop μ-loop
+mul-working c = omega (arith, turn c .low)
+
+element-copy-out-working : tie.Need-element-copy-out-working Inv-loop μ-loop
+element-copy-out-working c = turn c .low
+
+working-requires : tie.Need-working-requires Inv-loop μ-loop
+working-requires c κs = search needs
+
+lesser-requires : tie.Need-lesser-requires Inv-loop μ-loop
+lesser-requires c κs = search needs
+
+without-bit-requires : tie.Need-without-bit-requires Inv-loop μ-loop
+without-bit-requires c κs = search needs
+
+loop-less : tie.Need-loop-less Inv-loop μ-loop
+loop-less c = rw (c .without-bit .ensures) (turn (c .before .before .before) .less)
+
+loop-again : tie.Need-loop-again Inv-loop μ-loop
+loop-again c =
+    let d = c .before .before .before in
+    let l = d .before .before in
+    let a = l .before .args in
+    let t = turn d in
+    let now : c .before .lesser .result ≡ min (max (getD (a .t1) (d .first-set .result) noResponse .price) (a .bound)) (l .loop .best) =
+    c .before .lesser .ensures ∙ ap (λ (n : ℕ). min n (l .loop .best)) (c .before .before .working .ensures .0) in (
+      rw (c .without-bit .ensures) (omega (arith, without-le (l .loop .rest) (d .first-set .result), l .loop .inv .0)),
+      omega arith,
+      l .loop .inv .2 ∙ rw (c .without-bit .ensures, now) (least-turn (a .bound) (a .last) (l .loop .best) (a .t1) (l .loop .rest) (d .first-set .result) t),
+    )
+
+returns : tie.Need-returns Inv-loop μ-loop
+returns c =
+    let l = c .before in
+    let a = l .before .args in
+    let z : l .loop .rest ≡ 0 = omega arith in
+    omega (arith, l .loop .inv .1, l .loop .inv .2, ap (λ (n : ℕ). leastOf (a .bound) (a .last) (liveIn n (a .t1))) z, least-none (a .bound) (a .last) (a .t1))
+
+pub least-price-spec : {M : Type 1} → statement M
+least-price-spec =
+    tie.close
+    (tie.spec
+    Inv-loop
+    μ-loop
+    loop-holds
+    first-set-requires
+    cast-i
+    mul-working
+    element-copy-out-working
+    working-requires
+    lesser-requires
+    without-bit-requires
+    loop-less
+    loop-again
+    returns)

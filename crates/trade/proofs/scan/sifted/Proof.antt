@@ -1,0 +1,15 @@
+use borrow.Author.Needs.{needs}
+use Rattle.trade.proofs.scan.sifted.Statement.{statement}
+use Rattle.trade.proofs.scan.sifted.Tie as tie
+
+with-bit-requires : tie.Need-with-bit-requires
+with-bit-requires c κs = search needs
+
+returns : tie.Need-returns
+returns c = rw (c .before .if1 .taken) (c .with-bit .ensures)
+
+returns-2 : tie.Need-returns-2
+returns-2 c = search needs
+
+pub sifted-spec : {M : Type 1} → statement M
+sifted-spec = tie.close (tie.spec with-bit-requires returns returns-2)

@@ -1,0 +1,109 @@
+-- What the private functions of `trade` give, in numbers and words.
+use mathlib.Core.Path.{_≡_}
+use mathlib.Core.Bool.{Bool, cond, _&&_, _||_}
+use mathlib.Core.List.{List, [], _∷_, _++_}
+use Prim.Native.Nat.{ℕ, suc, _+_, _-_, _≤_, min, max}
+use lib.Dec.{leb, eqb}
+use Rattle.board.specs.declared.Response.{Response}
+use Rattle.board.specs.Lists.{filter}
+use Rattle.board.specs.Board.{liveIn, wordOf, inSequence}
+use Rattle.share.specs.Share.{sum, floors, plus, firsts, shares, inTurn}
+use Rattle.share.specs.Fills.{Fill, fillOf, fillsBy, sizes}
+use Rattle.trade.specs.declared.Deal.{Deal}
+use Rattle.trade.specs.declared.Price.{Price}
+use Rattle.trade.specs.declared.Walked.{Walked}
+use Rattle.trade.specs.Trade.{Level, customers, others, contra, levelFills, total, top, entry, walk}
+
+-- ---- the plan, on numbers
+
+unfoldable pub matchOf : ℕ → ℕ → ℕ → ℕ → ℕ
+matchOf mode G held A = cond (eqb mode 3 && leb G held) 0 A
+
+unfoldable pub lastOf : ℕ → ℕ → ℕ → ℕ → ℕ → Bool
+lastOf entry top p left need = leb entry p && (eqb p top || leb left need)
+
+unfoldable pub wantOf : Bool → ℕ → ℕ → ℕ → ℕ → ℕ → ℕ
+wantOf last entry p G held m = cond last (G - held) (cond (leb entry p) m 0)
+
+-- ---- the numbers of a level, by the sums C and T of the Customers' and the others' sizes
+
+unfoldable pub sharedOf : ℕ → ℕ → ℕ → ℕ
+sharedOf left C want = left - C - min (left - C) want
+
+unfoldable pub contraOf : ℕ → ℕ → ℕ → ℕ → Bool → ℕ
+contraOf left C T want last = min (left - C) want + cond last (sharedOf left C want - T) 0
+
+unfoldable pub leftOf : ℕ → ℕ → ℕ → ℕ → Bool → ℕ
+leftOf left C T want last = cond last 0 (left - (C + T + want))
+
+-- ---- responses under a bound
+
+abbrev pub worksAt : ℕ → ℕ → Response → Bool
+worksAt bound p r = eqb (max (r .price) bound) p
+
+-- the least working price, but at most the last
+unfoldable pub leastOf : ℕ → ℕ → List Response → ℕ
+leastOf bound last [] = last
+leastOf bound last (r ∷ rs) = min (max (r .price) bound) (leastOf bound last rs)
+
+-- ---- the fills of some responses at a price
+
+-- each as far as the amount goes
+unfoldable pub turnFills : ℕ → ℕ → List Response → List Fill
+turnFills p amount rs = fillsBy p rs (inTurn amount (sizes rs))
+
+-- each the whole part of its share, and one more to the first k
+unfoldable pub partFills : ℕ → ℕ → ℕ → ℕ → List Response → List Fill
+partFills p R T k rs = fillsBy p rs (plus (floors R T (sizes rs)) (firsts k (sizes rs)))
+
+-- pro rata
+unfoldable pub shareFills : ℕ → ℕ → List Response → List Fill
+shareFills p R rs = fillsBy p rs (shares R (sizes rs))
+
+-- Customers in turn, the Contra Order, the others pro rata
+unfoldable pub placeFills : ℕ → ℕ → List Response → ℕ → ℕ → List Response → List Fill
+placeFills p left cs contra R os = turnFills p left cs ++ (fillOf 0 p contra ++ shareFills p R os)
+
+-- ---- the walk over the places of a word
+
+-- the level that is next, where the walk stands at s and G is the guarantee
+unfoldable pub levelOf : Deal → List Response → ℕ → Walked → Level
+levelOf d places G s =
+    let p = leastOf (d .bound) (top d) (liveIn (s .rest) places) in
+    let os = inSequence (filter (worksAt (d .bound) p) (liveIn (s .rest) places)) in
+    let A = sum (sizes os) in
+    let last = lastOf (entry d) (top d) p (s .left) (A + matchOf (d .mode) G (s .held) A) in
+    record {
+      price = p;
+      left = s .left;
+      held = s .held;
+      want = wantOf last (entry d) p G (s .held) (matchOf (d .mode) G (s .held) A);
+      final = last;
+      here = os;
+    }
+
+-- what the code finds of it
+pub record Looks (d : Deal) (places : List Response) (G : ℕ) (s : Walked) (l : Price) : Type 0 where
+  pub price-is : l .price ≡ levelOf d places G s .price
+  pub customers-are : inSequence (liveIn (l .customers) places) ≡ customers (levelOf d places G s)
+  pub others-are : inSequence (liveIn (l .others) places) ≡ others (levelOf d places G s)
+  pub served-is : l .served ≡ sum (sizes (customers (levelOf d places G s)))
+  pub total-is : l .total ≡ sum (sizes (liveIn (l .others) places))
+  pub want-is : l .want ≡ levelOf d places G s .want
+  pub last-is : l .last ≡ levelOf d places G s .final
+  -- its places are places of the walk's word
+  pub gone : l .customers + l .others ≡ wordOf (worksAt (d .bound) (l .price)) (s .rest) places
+  pub fits : l .customers + l .others ≤ s .rest
+  pub low : l .price ≤ 4294967295
+  pub small : l .served + l .total + l .want ≤ 1099511627520
+
+-- where the walk stands after it
+pub record Stepped (d : Deal) (places : List Response) (G : ℕ) (s r : Walked) : Type 0 where
+  pub from-is : r .from ≡ levelOf d places G s .price + 1
+  pub rest-is : r .rest + wordOf (worksAt (d .bound) (levelOf d places G s .price)) (s .rest) places ≡ s .rest
+  pub left-is : r .left ≡ s .left - total (levelFills (levelOf d places G s))
+  pub held-is : r .held ≡ s .held + contra (levelOf d places G s)
+
+-- the walk of the definition from a price on, without fuel
+unfoldable pub walkFrom : Deal → List Response → ℕ → ℕ → ℕ → List Level
+walkFrom d rs from left held = walk d rs (suc (top d) - from) from left held

@@ -1,0 +1,154 @@
+-- Demand 3: what the fills of an ended auction are, clause by clause. `Sound` is what the auction proves of itself.
+use mathlib.Core.Path.{_≡_}
+use mathlib.Core.Bool.{Bool, true, false, cond, _&&_}
+use mathlib.Core.List.{List, [], _∷_}
+use mathlib.Core.Logic.{_⊎_, _≢_}
+use Prim.Native.Nat.{ℕ, _+_, _≤_, _<_, min, max}
+use lib.Dec.{ltb, eqb}
+use lib.ListN.{length}
+use Rattle.board.specs.declared.Response.{Response}
+use Rattle.board.specs.declared.Board.{Board}
+use Rattle.board.specs.Lists.{Every, filter}
+use Rattle.board.specs.Board.{liveOf}
+use Rattle.board.specs.Theorems.{Good}
+use Rattle.share.specs.Share.{sum, Near}
+use Rattle.share.specs.Fills.{Fill, sizes}
+use Rattle.trade.specs.declared.Deal.{Deal}
+use Rattle.trade.specs.Trade.{offers, isOther, Level, others, shared, levelFills, total, flat, working, entry, guarantee, offersAt, marketTakes, levels, fills}
+
+-- ---- words
+
+abbrev pub In : {A : Type 0} → A → List A → Type 0
+In a [] = ⊥
+In a (x ∷ xs) = (a ≡ x) ⊎ In a xs
+
+-- no response has the sequence k
+abbrev pub Absent : ℕ → List Response → Type 0
+Absent k rs = Every (λ r. r .sequence ≢ k) rs
+
+-- no two have one sequence
+abbrev pub Distinct : List Response → Type 0
+Distinct [] = Unit {0}
+Distinct (r ∷ rs) = Absent (r .sequence) rs × Distinct rs
+
+-- the quantities of the fills that pass a test
+abbrev pub tally : (Fill → Bool) → List Fill → ℕ
+tally t [] = 0
+tally t (f ∷ fs) = cond (t f) (f .quantity) 0 + tally t fs
+
+-- what a party trades, in all and below a price
+abbrev pub got : ℕ → List Fill → ℕ
+got k fs = tally (λ f. eqb (f .party) k) fs
+
+abbrev pub gotBelow : ℕ → ℕ → List Fill → ℕ
+gotBelow k p fs = tally (λ f. eqb (f .party) k && ltb (f .price) p) fs
+
+-- what each response of a list trades
+abbrev pub gots : List Fill → List Response → List ℕ
+gots fs [] = []
+gots fs (r ∷ rs) = got (r .sequence) fs ∷ gots fs rs
+
+-- what trades at a price, below it and above it
+abbrev pub soldAt : ℕ → List Fill → ℕ
+soldAt p fs = tally (λ f. eqb (f .price) p) fs
+
+abbrev pub soldBelow : ℕ → List Fill → ℕ
+soldBelow p fs = tally (λ f. ltb (f .price) p) fs
+
+abbrev pub soldAbove : ℕ → List Fill → ℕ
+soldAbove p fs = tally (λ f. ltb p (f .price)) fs
+
+-- how often a party is filled at a price
+abbrev pub times : ℕ → ℕ → List Fill → ℕ
+times k p fs = length (filter (λ f. eqb (f .party) k && eqb (f .price) p) fs)
+
+-- the responses at a price that are no Customer's
+abbrev pub othersAt : Deal → List Response → ℕ → List Response
+othersAt d rs p = filter isOther (offersAt d rs p)
+
+-- the size of all responses at a level: document 01's A
+abbrev pub sizeHere : Level → ℕ
+sizeHere l = sum (sizes (l .here))
+
+-- ---- what every ended auction has
+
+pub record Sound (d : Deal) (b : Board) : Type 0 where
+  -- the bound has not passed the initiating price, and neither does the stop or limit
+  pub bound-below : d .bound ≤ d .initiating
+  pub stop-below : d .stop ≤ d .initiating
+  -- the live responses have sequences of their own, none of them the Contra Order's 0
+  pub parties : Every (λ r. 0 < r .sequence) (liveOf b)
+  pub distinct : Distinct (liveOf b)
+  -- and so has the market order, where there is one
+  pub market-apart : 0 < d .selling → (0 < d .market) × Absent (d .market) (liveOf b)
+
+-- ---- demand 3
+
+pub record InRange (d : Deal) (f : Fill) : Type 0 where
+  pub low : d .bound ≤ f .price
+  pub high : f .price ≤ d .initiating
+  pub some : 1 ≤ f .quantity
+
+-- the parties: the Contra Order, the market order, and the live responses'
+pub data Known (d : Deal) (b : Board) (k : ℕ) : Type 0 where
+  theContra : k ≡ 0 → Known d b k
+  theMarket : k ≡ d .market → 0 < d .selling → Known d b k
+  aResponse : (r : Response) → In r (liveOf b) → r .sequence ≡ k → Known d b k
+
+-- a price of the walk. R, or `shared l`, is what Customers and the Contra Order's first part leave of the size left on arriving there
+pub record ByLevel (d : Deal) (b : Board) (fs : List Fill) (l : Level) : Type 0 where
+  -- what is left on arriving is what the market order and lower prices leave of the size; what the Contra Order holds is what it got there
+  pub arrives : l .left + (marketTakes d (offers b) + soldBelow (l .price) (flat (levels d (offers b)))) ≡ d .size
+  pub holds : l .held ≡ gotBelow 0 (l .price) (flat (levels d (offers b)))
+  -- what trades: all that is left where the price is final, else the responses there and what the Contra Order wants, as far as the size goes
+  pub trades : total (levelFills l) ≡ cond (l .final) (l .left) (min (l .left) (sizeHere l + l .want))
+  -- the others are all filled where R covers them, and otherwise each gets the whole part of R * s / T, or one more
+  pub filled : (r : Response) → In r (liveOf b) → r .customer ≡ false → working d r ≡ l .price → sum (sizes (others l)) ≤ shared l → got (r .sequence) fs ≡ r .size
+  pub short : (r : Response) → In r (liveOf b) → r .customer ≡ false → working d r ≡ l .price → shared l < sum (sizes (others l))
+      → Near (shared l) (sum (sizes (others l))) (r .size) (got (r .sequence) fs)
+  -- where one of the others trades at the final price, which is the guarantee price, the Contra Order has the guarantee
+  pub has-guarantee : (r : Response) → In r (liveOf b) → r .customer ≡ false → working d r ≡ l .price → l .final ≡ true → 0 < got (r .sequence) fs
+      → guarantee d (offers b) ≤ got 0 fs
+
+-- what fs must be, as the fills of d over b
+pub record Demand3 (d : Deal) (b : Board) (fs : List Fill) : Type 0 where
+  -- the fills add up to the size
+  pub adds-up : total fs ≡ d .size
+  -- each price lies in the range, and none is of zero
+  pub in-range : Every (InRange d) fs
+  -- nobody else trades, and each party at most once at a price
+  pub nobody-else : Every (λ f. Known d b (f .party)) fs
+  pub once : (k p : ℕ) → times k p fs ≤ 1
+  -- no market order and no response trades more than its size
+  pub market-fits : 0 < d .selling → got (d .market) fs ≤ d .selling
+  pub response-fits : (r : Response) → In r (liveOf b) → got (r .sequence) fs ≤ r .size
+  -- or beyond its own limit: it trades at its working price alone, which is never below its own
+  pub own-limit : (r : Response) → In r (liveOf b) → Every (λ f. f .party ≡ r .sequence → r .price ≤ f .price) fs
+  pub works-at : (r : Response) → In r (liveOf b) → Every (λ f. f .party ≡ r .sequence → f .price ≡ working d r) fs
+  -- where anything trades at p, every response with a better working price is filled
+  pub priority : (r : Response) → In r (liveOf b) → (p : ℕ) → 0 < soldAt p fs → working d r < p → got (r .sequence) fs ≡ r .size
+  -- Customers first: where one of the others trades, every Customer at its price is filled
+  pub customers-first : (r k : Response) → In r (liveOf b) → In k (liveOf b) → r .customer ≡ false → k .customer ≡ true → working d k ≡ working d r
+      → 0 < got (r .sequence) fs → got (k .sequence) fs ≡ k .size
+  -- and by sequence: where a Customer trades, every earlier one at its price is filled
+  pub by-sequence : (r k : Response) → In r (liveOf b) → In k (liveOf b) → r .customer ≡ true → k .customer ≡ true → working d k ≡ working d r
+      → k .sequence < r .sequence → 0 < got (r .sequence) fs → got (k .sequence) fs ≡ k .size
+  -- the others at a price share pro rata: of the Q that they trade together, each trades the whole part of Q * s / T, or one more
+  pub share : (r : Response) → In r (liveOf b) → r .customer ≡ false
+      → Near (sum (gots fs (othersAt d (offers b) (working d r)))) (sum (sizes (othersAt d (offers b) (working d r)))) (r .size) (got (r .sequence) fs)
+  -- and where one of them is not filled, the Contra Order has no more than the guarantee, or than it got at lower prices
+  pub covered : (r : Response) → In r (liveOf b) → r .customer ≡ false → got (r .sequence) fs < r .size
+      → got 0 fs ≤ max (guarantee d (offers b)) (gotBelow 0 (working d r) fs)
+  -- where one of the others trades at the guarantee price (from the stop or limit on, and nothing trades higher), the Contra Order has the guarantee
+  pub guaranteed : (r : Response) → In r (liveOf b) → r .customer ≡ false → entry d ≤ working d r → soldAbove (working d r) fs ≡ 0 → 0 < got (r .sequence) fs
+      → guarantee d (offers b) ≤ got 0 fs
+  -- price by price
+  pub by-level : (l : Level) → In l (levels d (offers b)) → ByLevel d b fs l
+
+-- the theorem: every sound auction's fills are these
+abbrev pub Demands : Type 0
+Demands = (d : Deal) (b : Board) → Sound d b → Demand3 d b (fills d (offers b))
+
+-- and for every deal and board at all, sound or not, there are at most 130, so that 390 words always do
+abbrev pub Few : Type 0
+Few = (d : Deal) (b : Board) → Good b → length (fills d (offers b)) ≤ 130

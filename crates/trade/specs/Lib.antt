@@ -1,0 +1,8 @@
+-- What the contracts of `trade` cite, and what its theorems say.
+pub mod Trade
+pub mod Demands
+pub mod Plan
+pub mod Write
+pub mod Code
+pub mod Examples
+pub mod Random

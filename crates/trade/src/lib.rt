@@ -1,0 +1,231 @@
+// Who trades when an auction has ended, and the fills written of it.
+ghost use mathlib.Core.Path.{_≡_};
+ghost use mathlib.Core.List.{_++_};
+ghost use Prim.Native.Nat.{_+_, _*_, _≤_, _<_};
+ghost use lib.ListN.{length};
+ghost use Rattle.board.specs.Board.{liveIn, inSequence};
+ghost use Rattle.share.specs.Share.{sum};
+ghost use Rattle.share.specs.Fills.{sizes, Wrote};
+ghost use Rattle.trade.specs.Trade.{levelFills, flat, marketPrice, guarantee};
+ghost use Rattle.trade.specs.Write.{reported, fillsOf, answer, after};
+ghost use Rattle.trade.specs.Code.{sharedOf, placeFills, levelOf, Looks, Stepped, walkFrom};
+use board::Board;
+use board::Response;
+use numbers::contra_of;
+use numbers::entry_of;
+use numbers::going;
+use numbers::guarantee_of;
+use numbers::is_last;
+use numbers::left_of;
+use numbers::lesser;
+use numbers::matched;
+use numbers::shared_of;
+use numbers::shown_price;
+use numbers::top_of;
+use numbers::wanted;
+use numbers::wide;
+use numbers::working;
+use scan::at_price;
+use scan::customers_of;
+use scan::least_price;
+use scan::sizes_of;
+use words::bits;
+use write::put_fill;
+use write::write_shares;
+use write::write_turns;
+
+mod numbers;
+mod scan;
+mod write;
+
+// The terms at the ending, for the buy that the engine works with: a sell is its mirror.
+pub struct Deal {
+    // only says that result prices are mirrored back
+    pub sell: bool,
+    pub mode: u8,
+    pub size: u32,
+    pub initiating: u32,
+    pub bound: u32,
+    // the stop or auto-match limit as it was given; 0 in mode 2
+    pub stop: u32,
+    // the market order that ended the auction: its sequence, and its size (0 where none did)
+    pub market: u32,
+    pub selling: u32,
+}
+
+// How many fills were written, or the number of a refusal.
+pub enum Filled {
+    Count(u32),
+    Refused(u32),
+}
+
+// A price of the walk: the words of its Customers and of the others, their sizes, and the plan.
+struct Price {
+    price: u64,
+    customers: u64,
+    others: u64,
+    served: u64,
+    total: u64,
+    want: u64,
+    last: bool,
+}
+
+// Where the walk stands: the lowest price to come, the places not yet walked, the size left, what the Contra Order holds, and the next word.
+struct Walked {
+    from: u64,
+    rest: u64,
+    left: u64,
+    held: u64,
+    at: usize,
+}
+
+// The next price.
+fn level_at(d: Deal, places: [Response; 64], g: u64, s: Walked) -> Price
+    requires { ⌜ g ≤ 4294967295 ⌝ }
+    ensures { λ r. ⌜ Looks d places g s r ⌝ }
+{
+    let top = top_of(d);
+    let entry = entry_of(d);
+    let price = least_price(places, s.rest, d.bound, top);
+    let here = at_price(places, s.rest, d.bound, price);
+    let customers = customers_of(places, here);
+    let others = here - customers;
+    let served = sizes_of(places, customers);
+    let total = sizes_of(places, others);
+    let m = matched(d.mode, g, s.held, served + total);
+    let last = is_last(entry, top, price, s.left, served + total + m);
+    let want = wanted(last, entry, price, g, s.held, m);
+    Price {
+        price,
+        customers,
+        others,
+        served,
+        total,
+        want,
+        last,
+    }
+}
+
+// The fills of a price: Customers by sequence, the Contra Order, the others pro rata.
+fn write_level(
+    places: [Response; 64],
+    l: Price,
+    price: u32,
+    left: u64,
+    contra: u64,
+    out: &mut [u32],
+    at: usize,
+) -> usize
+    requires { ⌜ (left ≤ 4294967295) × (contra ≤ 4294967295) × (l .total ≡ sum (sizes (liveIn (l .others) places))) ⌝ }
+    requires { ⌜ at + 3 * length (placeFills price left (inSequence (liveIn (l .customers) places)) contra (sharedOf left (l .served) (l .want)) (inSequence (liveIn (l .others) places))) ≤ length (now out) ⌝ }
+    ensures { λ r. ⌜ Wrote (now (out .entry)) at (placeFills price left (inSequence (liveIn (l .customers) places)) contra (sharedOf left (l .served) (l .want)) (inSequence (liveIn (l .others) places))) r (now (out .exit)) ⌝ }
+{
+    let a = write_turns(places, l.customers, price, left, out, at);
+    let b = put_fill(out, a, 0, price, contra);
+    let shared = shared_of(left, l.served, l.want);
+    write_shares(places, l.others, price, shared, l.total, out, b)
+}
+
+// A price is filled, and the walk stands after it.
+fn turn(d: Deal, places: [Response; 64], g: u64, s: Walked, out: &mut [u32]) -> Walked
+    requires { ⌜ (g ≤ 4294967295) × (s .held + s .left ≤ 4294967295) ⌝ }
+    requires { ⌜ s .at + 3 * length (reported (d .sell) (levelFills (levelOf d places g s))) ≤ length (now out) ⌝ }
+    ensures { λ r. ⌜ Stepped d places g s r ⌝ }
+    ensures { λ r. ⌜ Wrote (now (out .entry)) (s .at) (reported (d .sell) (levelFills (levelOf d places g s))) (r .at) (now (out .exit)) ⌝ }
+{
+    let l = level_at(d, places, g, s);
+    let contra = contra_of(s.left, l.served, l.total, l.want, l.last);
+    let left = left_of(s.left, l.served, l.total, l.want, l.last);
+    let at = write_level(
+        places,
+        l,
+        shown_price(d.sell, l.price),
+        s.left,
+        contra,
+        out,
+        s.at,
+    );
+    Walked {
+        from: l.price + 1,
+        rest: s.rest - l.customers - l.others,
+        left,
+        held: s.held + contra,
+        at,
+    }
+}
+
+// From the lowest working price up, until nothing is left or the last price is passed.
+fn write_walk(
+    d: Deal,
+    places: [Response; 64],
+    live: u64,
+    g: u64,
+    size: u64,
+    out: &mut [u32],
+    at: usize,
+) -> usize
+    requires { ⌜ (size ≤ 4294967295) × (g ≤ 4294967295) × (g ≡ guarantee d (inSequence (liveIn live places))) ⌝ }
+    requires { ⌜ at + 3 * length (reported (d .sell) (flat (walkFrom d (inSequence (liveIn live places)) 0 size 0))) ≤ length (now out) ⌝ }
+    ensures { λ r. ⌜ Wrote (now (out .entry)) at (reported (d .sell) (flat (walkFrom d (inSequence (liveIn live places)) 0 size 0))) r (now (out .exit)) ⌝ }
+{
+    let top = top_of(d);
+    let mut s = Walked {
+        from: 0,
+        rest: live,
+        left: size,
+        held: 0,
+        at,
+    };
+    while going(s.left, s.from, top) {
+        s = turn(d, places, g, s, out);
+    }
+    s.at
+}
+
+// The price of the market order that ended the auction.
+fn market_price(d: Deal, places: [Response; 64], live: u64) -> u64
+    ensures { λ r. ⌜ (r ≡ marketPrice d (inSequence (liveIn live places))) × (r ≤ 4294967295) ⌝ }
+{
+    let lowest = least_price(places, live, d.bound, top_of(d));
+    if d.mode == 2 {
+        if live == 0 {
+            return (wide(d.initiating) + wide(d.bound) + 1) / 2;
+        }
+        return lowest;
+    }
+    lesser(lowest, working(d.stop, d.bound))
+}
+
+// All the fills, from the first of the lent words on. Answers the place after them.
+fn write_all(d: Deal, b: Board, out: &mut [u32]) -> usize
+    requires { ⌜ 390 ≤ length (now out) ⌝ }
+    ensures { λ r. ⌜ Wrote (now (out .entry)) 0 (fillsOf d b) r (now (out .exit)) ⌝ }
+{
+    let places = b.places;
+    let size = wide(d.size);
+    let takes = lesser(size, wide(d.selling));
+    let price = shown_price(d.sell, market_price(d, places, b.live));
+    let at = put_fill(out, 0, d.market, price, takes);
+    let g = guarantee_of(size, bits::ones(b.live));
+    write_walk(d, places, b.live, g, size - takes, out, at)
+}
+
+// Writes the fills of an ended auction into the part of the lent words from `start` on, and counts them.
+// 40: it has not ended; 39: fewer than 390 words from the start place, or a start past the end. A refusal changes nothing.
+pub fn write_fills(ended: bool, d: Deal, b: Board, out: &mut [u32], start: usize) -> Filled
+    ensures { λ r. ⌜ r ≡ answer ended d b (now (out .entry)) start ⌝ }
+    ensures { λ r. ⌜ now (out .exit) ≡ after ended d b (now (out .entry)) start ⌝ }
+{
+    if !ended {
+        return Filled::Refused(40);
+    }
+    let n = out.len();
+    if n < start {
+        return Filled::Refused(39);
+    }
+    if n - start < 390 {
+        return Filled::Refused(39);
+    }
+    let words = write_all(d, b, &mut out[start..]);
+    Filled::Count((words / 3) as u32)
+}
