@@ -3,3 +3,5 @@ pub mod Mirror
 pub mod Accept
 pub mod Step
 pub mod Fills
+pub mod Run
+pub mod Demands

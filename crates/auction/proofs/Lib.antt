@@ -1,0 +1,7 @@
+-- Laws and theorems of `auction`.
+pub mod StepLaws
+pub mod EventLaws
+pub mod Resend
+pub mod BoardSteps
+pub mod Accepted
+pub mod SoundLaws
