@@ -4,7 +4,7 @@ use mathlib.Core.Bool.{Bool, true, false, cond}
 use Prim.Native.Nat.{ℕ}
 use native.Mathlib.Omega.{arith}
 use lib.Dec.{eqb}
-use borrow.Author.Tests.{eq-eqb, ne-eqb}
+use borrow.Author.Tests.{eq-eqb, ne-eqb, eqb-true}
 use Rattle.tape.specs.declared.Event.{Event}
 use Rattle.auction.specs.Mirror.{mirroredPriced, mirroredMarket, mirroredQuotes, mirroredEvent, buyEvent}
 use Rattle.auction.proofs.StepLaws.{by}
@@ -58,3 +58,25 @@ module _ (e : Event) where
   pub priced-size : (s : Bool) → mirroredEvent e ≡ mirroredPriced e → buyEvent s e .f12 ≡ e .f12
   unfolding mirroredPriced
   priced-size s h = buy-keeps (λ x. x .f12) s e (ap (λ (x : Event). x .f12) h)
+
+  pub mirror-four : e .kind ≡ 4 → mirroredEvent e ≡ mirroredMarket e
+  unfolding mirroredEvent
+  mirror-four h = simp (ne-eqb (e .kind) 1 (λ z. omega arith), ne-eqb (e .kind) 3 (λ z. omega arith), eq-eqb _ _ h)
+
+  pub mirror-five : e .kind ≡ 5 → mirroredEvent e ≡ mirroredQuotes e
+  unfolding mirroredEvent
+  mirror-five h = simp (ne-eqb (e .kind) 1 (λ z. omega arith), ne-eqb (e .kind) 3 (λ z. omega arith), ne-eqb (e .kind) 4 (λ z. omega arith), eq-eqb _ _ h)
+
+  pub mirror-rest : eqb (e .kind) 1 ≡ false → eqb (e .kind) 3 ≡ false → eqb (e .kind) 4 ≡ false → eqb (e .kind) 5 ≡ false → mirroredEvent e ≡ e
+  unfolding mirroredEvent
+  mirror-rest a b c d = simp (a, b, c, d)
+
+-- what holds of each kind's mirror holds of the mirror
+pub mirror-by : (P : Event → Type 0) (e : Event) → (e .kind ≡ 1 → P (mirroredPriced e)) → (e .kind ≡ 3 → P (mirroredPriced e)) → (e .kind ≡ 4 → P (mirroredMarket e)) → (e .kind ≡ 5 → P (mirroredQuotes e))
+    → (eqb (e .kind) 1 ≡ false → eqb (e .kind) 3 ≡ false → eqb (e .kind) 4 ≡ false → eqb (e .kind) 5 ≡ false → P e) → P (mirroredEvent e)
+unfolding mirroredEvent
+mirror-by P e p1 p3 p4 p5 p =
+    by P (eqb (e .kind) 1) _ _ (λ z. p1 (eqb-true _ _ z)) (λ a.
+    by P (eqb (e .kind) 3) _ _ (λ z. p3 (eqb-true _ _ z)) (λ b.
+    by P (eqb (e .kind) 4) _ _ (λ z. p4 (eqb-true _ _ z)) (λ c.
+    by P (eqb (e .kind) 5) _ _ (λ z. p5 (eqb-true _ _ z)) (λ d. p a b c d))))

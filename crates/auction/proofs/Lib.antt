@@ -5,3 +5,6 @@ pub mod Resend
 pub mod BoardSteps
 pub mod Accepted
 pub mod SoundLaws
+pub mod ComesFrom
+pub mod MirrorForm
+pub mod Mirrors

@@ -49,7 +49,7 @@ not-refused : {X : Type 0} (b : Bool) (n : ℕ) → cond b Taken Ended ≡ Refus
 not-refused true n z = no cc
 not-refused false n z = no cc
 
-taken-any : (b : Bool) → isTaken (cond b Taken Ended) ≡ true
+pub taken-any : (b : Bool) → isTaken (cond b Taken Ended) ≡ true
 taken-any true = refl
 taken-any false = refl
 

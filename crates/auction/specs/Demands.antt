@@ -142,3 +142,4 @@ pub record Mirrors : Type 0 where
   -- so a whole auction is the mirror, and a sell's fills are the buy's with mirrored prices
   pub plays : (o : Order) (es : List Event) → acceptOf o .answer ≡ Accepted → Every (λ e. eventFormed e ≡ true) es → played (mirroredOrder o) (mirroredEvents es) ≡ flipped (played o es)
   pub trades : (a : Auction) → a .terms .sell ≡ false → auctionFills (flipped a) ≡ mirroredFills (auctionFills a)
+  pub ranges : (a : Auction) → a .terms .sell ≡ false → (rangeOf (flipped a) .low ≡ mirrored (rangeOf a .high)) × (rangeOf (flipped a) .high ≡ mirrored (rangeOf a .low))
