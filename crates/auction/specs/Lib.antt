@@ -5,3 +5,4 @@ pub mod Step
 pub mod Fills
 pub mod Run
 pub mod Demands
+pub mod Figures
