@@ -94,5 +94,6 @@ price-fits o f = omega (arith, below (buyOrder o), limit-fits)
   where
     below : (b : Order) → initiatingOf b ≤ b .limit
     below b = by (λ (k : ℕ). k ≤ b .limit) (ltb (b .size) 50) _ _ (λ _. omega arith) (λ _. omega arith)
+
     limit-fits : buyOrder o .limit ≤ 999999
     limit-fits = by (λ (b : Order). b .limit ≤ 999999) (eqb (o .side) 2) _ _ (λ _. omega (arith, order-bounds o f .some-limit)) (λ _. order-bounds o f .limit)

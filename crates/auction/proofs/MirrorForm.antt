@@ -128,6 +128,7 @@ buy-mirrored o f = go (eqb (o .side) 2) refl
   where
     side : mirroredOrder o .side ≡ mirroredSide (o .side)
     side = order-side o
+
     go : (t : Bool) → eqb (o .side) 2 ≡ t → cond (eqb (mirroredOrder o .side) 2) (mirroredOrder (mirroredOrder o)) (mirroredOrder o) ≡ cond t (mirroredOrder o) o
     go true z = let k : mirroredOrder o .side ≡ 1 = side ∙ other-one (o .side) (eqb-true _ _ z) in simp (ne-eqb (mirroredOrder o .side) 2 (λ q. omega (arith, k)))
     go false z = let k : mirroredOrder o .side ≡ 2 = side ∙ other-two (o .side) (one-of-two (o .side) (order-bounds o f .some-side) (order-bounds o f .side) (eqb-false _ _ z)) in simp (eq-eqb (mirroredOrder o .side) 2 k) (order-twice o f)

@@ -188,6 +188,7 @@ one a (x ∷ es) e f i j h = go (isTaken (stepOf a x .answer)) refl i j (λ i j.
   where
     later : (g : Event) → isTaken (stepOf a x .answer) ≡ true → In g (takenOf (stepOf a x .auction) es) → x .sequence < g .sequence
     later g z k = omega (arith, all-in (λ f. stepOf a x .auction .sequence < f .sequence) (takenOf (stepOf a x .auction) es) g (above es (stepOf a x .auction)) k, taken-is a x z .2)
+
     go : (b : Bool) → isTaken (stepOf a x .answer) ≡ b → In e (keep b x (takenOf (stepOf a x .auction) es)) → In f (keep b x (takenOf (stepOf a x .auction) es))
         → (In e (takenOf (stepOf a x .auction) es) → In f (takenOf (stepOf a x .auction) es) → e ≡ f) → e ≡ f
     go false z i j ih = ih i j

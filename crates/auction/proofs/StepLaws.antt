@@ -41,6 +41,7 @@ bid-still t q p c h = go (ltb (q .bb) p) (eqb p (q .bb)) c (q .bid) refl refl h
   where
     same : max (q .bb) p ≡ q .bb → (b : Bool) → max (t .floor) (max (q .bb) p + tickOf (t .size) b) ≡ max (t .floor) (q .bb + tickOf (t .size) b)
     same e b = ap (λ (x : ℕ). max (t .floor) (x + tickOf (t .size) b)) e
+
     go : (l e c b : Bool) → ltb (q .bb) p ≡ l → eqb p (q .bb) ≡ e → (l || (e && c && not b)) ≡ false
         → max (t .floor) (max (q .bb) p + tickOf (t .size) (cond l c (b || (e && c)))) ≡ max (t .floor) (q .bb + tickOf (t .size) b)
     go true e c b hl he z = no z
@@ -166,5 +167,5 @@ module _ (a : Auction) (e : Event) where
   cases P k =
       by P (eqb number 0) _ _
       (λ z. by P (leb (a .terms .interval) (e .time)) _ _ (λ _. k .late (ordinary z)) (λ _.
-          outcomes (a .terms) (a .quotes) (isFull (a .board)) (findGtx (a .board) (e .f12)) (buyEvent (a .terms .sell) e) (λ o. P (carried a e o)) (k .does (ordinary z))))
+      outcomes (a .terms) (a .quotes) (isFull (a .board)) (findGtx (a .board) (e .f12)) (buyEvent (a .terms .sell) e) (λ o. P (carried a e o)) (k .does (ordinary z))))
       (λ z. k .refused number (numbered z))
