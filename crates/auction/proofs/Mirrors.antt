@@ -36,7 +36,7 @@ use Rattle.auction.specs.declared.Outcome.the-variants.{Refuses, Does}
 use Rattle.auction.proofs.StepLaws.{by, no}
 use Rattle.auction.proofs.EventLaws.{mirror-sequence, mirror-time, buy-kind, mirror-rest}
 use Rattle.auction.proofs.Accepted.{Opened, opened}
-use Rattle.auction.proofs.MirrorForm.{order-twice, order-form, buy-mirrored, other-side, event-twice, event-form}
+use Rattle.auction.proofs.MirrorForm.{marks-bits, order-twice, order-form, buy-mirrored, other-side, event-twice, event-form}
 
 -- ---- orders
 
@@ -233,6 +233,7 @@ ranges a z = pick (a .terms .sell) z (a .terms .initiating) (boundNow a)
 pub mirrors : Mirrors
 mirrors =
     record {
+      marks = marks-bits;
       order-twice = order-twice;
       event-twice = event-twice;
       answers = answers;

@@ -158,7 +158,7 @@ buy-most b =
 
 order-most : (o : Order) → orderRefusal o ≤ 12
 unfolding orderRefusal
-order-most o = by (λ (n : ℕ). n ≤ 12) (orderFormed o) _ _ (λ _. buy-most (buyOrder o)) (λ _. omega arith)
+order-most o = by (λ (n : ℕ). n ≤ 12) (not (orderFormed o)) _ _ (λ _. omega arith) (λ _. buy-most (buyOrder o))
 
 order-numbers : (o : Order) (n : ℕ) → acceptOf o .answer ≡ NotAccepted n → (1 ≤ n) × (n ≤ 12)
 unfolding acceptOf

@@ -4,7 +4,7 @@ use mathlib.Core.Bool.{Bool, true, false, cond, not, _&&_, _||_}
 use Prim.Native.Nat.{ℕ, _+_, _≤_, _<_, min, max}
 use native.Mathlib.Omega.{arith}
 use lib.Dec.{leb, ltb, eqb}
-use borrow.Author.Tests.{ltb-true, ltb-false, leb-true, leb-false, eqb-true, eqb-false, le-ltb, eq-eqb}
+use borrow.Author.Tests.{ltb-true, ltb-false, leb-true, leb-false, eqb-true, eqb-false, le-ltb, eq-eqb, not-false}
 use Rattle.words.specs.Bits.{bitAt}
 use Rattle.board.specs.Board.{firstFree, findGtx}
 use Rattle.tape.specs.declared.Event.{Event}
@@ -137,24 +137,20 @@ module _ (a : Auction) (e : Event) where
   pub ordinary : eqb number 0 ≡ true → Ordinary a e
   unfolding eventRefusal
   ordinary =
-      by IfNone (isOpen (a .ending)) _ _ (λ o.
-      by IfNone (eventFormed e) _ _ (λ f.
+      by IfNone (not (isOpen (a .ending))) _ _ (λ _ z. no (sym z)) (λ o.
+      by IfNone (not (eventFormed e)) _ _ (λ _ z. no (sym z)) (λ f.
       by IfNone (leb (e .sequence) (a .sequence)) _ _ (λ _ z. no (sym z)) (λ s.
       by IfNone (ltb (e .time) (a .clock)) _ _ (λ _ z. no (sym z)) (λ t z.
-      record { opened = o; formed = f; newer = leb-false _ _ s; later = ltb-false _ _ t })))
-      (λ _ z. no (sym z)))
-      (λ _ z. no (sym z))
+      record { opened = not-false _ o; formed = not-false _ f; newer = leb-false _ _ s; later = ltb-false _ _ t }))))
 
   numbered : eqb number 0 ≡ false → EventNumber number
   unfolding eventRefusal
   numbered =
       let P : ℕ → Type 0 = λ n. eqb n 0 ≡ false → EventNumber n in
-      by P (isOpen (a .ending)) _ _ (λ _.
-      by P (eventFormed e) _ _ (λ _.
+      by P (not (isOpen (a .ending))) _ _ (λ _ _. (omega arith, omega arith)) (λ _.
+      by P (not (eventFormed e)) _ _ (λ _ _. (omega arith, omega arith)) (λ _.
       by P (leb (e .sequence) (a .sequence)) _ _ (λ _ _. (omega arith, omega arith)) (λ _.
-      by P (ltb (e .time) (a .clock)) _ _ (λ _ _. (omega arith, omega arith)) (λ _ z. no z)))
-      (λ _ _. (omega arith, omega arith)))
-      (λ _ _. (omega arith, omega arith))
+      by P (ltb (e .time) (a .clock)) _ _ (λ _ _. (omega arith, omega arith)) (λ _ z. no z))))
 
   -- P holds of the step where it holds of each of its outcomes
   pub record Cases (P : Stepped → Type 0) : Type 0 where

@@ -15,7 +15,8 @@ use Rattle.tape.specs.declared.Event.{Event}
 use Rattle.tape.specs.Form.{orderFormed, eventFormed}
 use Rattle.trade.specs.Trade.{offers, fills, total}
 use Rattle.trade.specs.Demands.{In, Absent, Distinct, Demand3}
-use Rattle.auction.specs.Mirror.{mirrored, mirroredOrder, mirroredEvent, buyEvent}
+use Rattle.words.specs.Bits.{bitAt}
+use Rattle.auction.specs.Mirror.{mirrored, mirroredMarks, mirroredOrder, mirroredEvent, buyEvent}
 use Rattle.auction.specs.Accept.{acceptOf}
 use Rattle.auction.specs.Step.{isOpen, boundBy, responseOf, gives, stepOf, closeOf}
 use Rattle.auction.specs.Fills.{dealOf, rangeOf, auctionFills}
@@ -132,6 +133,8 @@ mirroredFills (f ∷ fs) = record { party = f .party; price = mirrored (f .price
 
 -- a sell auction is the mirror of the buy auction on mirrored input
 pub record Mirrors : Type 0 where
+  -- of the marks, bits 2 and 3 change places, and 0 and 1 stay
+  pub marks : (m : ℕ) → (bitAt (mirroredMarks m) 2 ≡ bitAt m 3) × (bitAt (mirroredMarks m) 3 ≡ bitAt m 2) × (bitAt (mirroredMarks m) 0 ≡ bitAt m 0) × (bitAt (mirroredMarks m) 1 ≡ bitAt m 1)
   -- twice is once
   pub order-twice : (o : Order) → orderFormed o ≡ true → mirroredOrder (mirroredOrder o) ≡ o
   pub event-twice : (e : Event) → eventFormed e ≡ true → mirroredEvent (mirroredEvent e) ≡ e
