@@ -3,3 +3,4 @@ pub mod Mirror
 pub mod Accept
 pub mod Step
 pub mod Fills
+pub mod Lent
