@@ -3,4 +3,6 @@ pub mod Mirror
 pub mod Accept
 pub mod Step
 pub mod Fills
+pub mod Run
 pub mod Lent
+pub mod Demands

@@ -44,8 +44,26 @@ stop-le : (s : ℕ) (a : Bool) → ((a && eqb s 0) || (not a && within s 1 99999
 stop-le s true h = let z : s ≡ 0 = eqb-true s 0 (sym (or-false (eqb s 0)) ∙ h) in omega arith
 stop-le s false h = within-le s 1 999999 h
 
+-- a stop is 0 in mode 2, and a price else
+pub stop-none : (s : ℕ) (a : Bool) → a ≡ true → ((a && eqb s 0) || (not a && within s 1 999999)) ≡ true → s ≡ 0
+stop-none s true e h = eqb-true s 0 (sym (or-false (eqb s 0)) ∙ h)
+stop-none s false e h = cc
+
+pub stop-some : (s : ℕ) (a : Bool) → a ≡ false → ((a && eqb s 0) || (not a && within s 1 999999)) ≡ true → 1 ≤ s
+stop-some s true e h = absurd (let z : _≡_ {A = ℕ} 0 1 = cc in (let r : ⊥ = omega arith in r))
+stop-some s false e h = within-ge s 1 999999 h
+
 -- the bounds of an order in form
 pub record OrderBounds (o : Order) : Type 0 where
+  pub some-side : 1 ≤ o .side
+  pub some-mode : 1 ≤ o .mode
+  pub some-limit : 1 ≤ o .limit
+  pub some-nbb : 1 ≤ o .nbb
+  pub some-nbo : 1 ≤ o .nbo
+  pub some-bo : 1 ≤ o .bo
+  pub some-interval : 100 ≤ o .interval
+  pub no-stop : eqb (o .mode) 2 ≡ true → o .stop ≡ 0
+  pub some-stop : eqb (o .mode) 2 ≡ false → 1 ≤ o .stop
   pub side : o .side ≤ 2
   pub mode : o .mode ≤ 3
   pub marks : o .marks ≤ 15
@@ -66,6 +84,15 @@ unfolding orderFormed orderTests
 order-bounds o h =
     let t : (i : ℕ) → getD (orderTests o) i true ≡ true = each (orderTests o) true h in
     record {
+      some-side = within-ge (o .side) 1 2 (t 0);
+      some-mode = within-ge (o .mode) 1 3 (t 1);
+      some-limit = within-ge (o .limit) 1 999999 (t 4);
+      some-nbb = within-ge (o .nbb) 1 999999 (t 6);
+      some-nbo = within-ge (o .nbo) 1 999999 (t 7);
+      some-bo = within-ge (o .bo) 1 1000000 (t 9);
+      some-interval = within-ge (o .interval) 100 1000 (t 13);
+      no-stop = λ e. stop-none (o .stop) (eqb (o .mode) 2) e (t 5);
+      some-stop = λ e. stop-some (o .stop) (eqb (o .mode) 2) e (t 5);
       side = within-le (o .side) 1 2 (t 0);
       mode = within-le (o .mode) 1 3 (t 1);
       marks = leb-true (o .marks) 15 (t 2);

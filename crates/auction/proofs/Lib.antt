@@ -1,0 +1,10 @@
+-- Laws and theorems of `auction`.
+pub mod StepLaws
+pub mod EventLaws
+pub mod Resend
+pub mod BoardSteps
+pub mod Accepted
+pub mod SoundLaws
+pub mod ComesFrom
+pub mod MirrorForm
+pub mod Mirrors
