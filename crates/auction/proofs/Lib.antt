@@ -8,3 +8,4 @@ pub mod SoundLaws
 pub mod ComesFrom
 pub mod MirrorForm
 pub mod Mirrors
+pub mod LentLaws

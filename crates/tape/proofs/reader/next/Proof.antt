@@ -36,7 +36,7 @@ use denote.Triple.Table.{entered, cited}
 use denote.Triple.Walked.{says, Stays, stay-none, walkOf, goes-none, Walks, ends-at, walked, walk-meets}
 use denote.Triple.Clauses.{ensured, lasts}
 use denote.Exit.{yes}
-use Rattle.tape.specs.Reader.{nextPlace, nextOf}
+use Rattle.tape.specs.Reader.{nextPlace}
 use Rattle.tape.specs.declared.reader.Tape.{Tape}
 use Rattle.tape.proofs.reader.Tape as T
 use Rattle.tape.proofs.reader.Tape.Laws as T′

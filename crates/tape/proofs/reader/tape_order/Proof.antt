@@ -1,6 +1,6 @@
 -- `tape::reader::tape_order` meets its contract: a walk of its MIR, by hand. A `Tape` is made by `hold` in a local and passed on to `held_order`. Assumes nothing.
 use mathlib.Core.Path.{_≡_, refl, ap, _∙_}
-use Prim.Native.Nat.{ℕ, _<_, _^_}
+use Prim.Native.Nat.{ℕ}
 use mathlib.Core.List.{List, [], _∷_}
 use lib.Dec.{lit<}
 use lib.ListN.{length, drop as rest-from}
@@ -21,7 +21,7 @@ use types.Run.{look, init, forget, stop, from, load, lit, and-then, no-more, lan
 use sound.WpLaws.{FmC, fmOf, WpFn-mono}
 use denote.RattleType.{RattleType, owns}
 use denote.Laws.{Is, shows}
-use denote.Plain.{uint-vals, uint-tells, uint-makes}
+use denote.Plain.{uint-makes}
 use denote.Builtin.{u8, usize}
 use denote.Ref.{RefT, NamedLft, now}
 use denote.Signature.{plain, namedLft}
