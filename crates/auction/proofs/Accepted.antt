@@ -6,7 +6,7 @@ use Prim.Native.Nat.{ℕ, _+_, _-_, _≤_, _<_, min, max}
 use native.Mathlib.Omega.{arith}
 use lib.Dec.{leb, ltb, eqb}
 use lib.ListN.{getD}
-use borrow.Author.Tests.{ltb-true, ltb-false, leb-true, leb-false, eqb-true, eqb-false, le-ltb, lt-ltb, eq-eqb}
+use borrow.Author.Tests.{ltb-true, ltb-false, leb-true, leb-false, eqb-true, eqb-false, le-ltb, lt-ltb, eq-eqb, not-false}
 use Rattle.words.specs.Bits.{bitAt}
 use Rattle.tape.specs.declared.Order.{Order}
 use Rattle.tape.specs.Form.{orderTests, orderFormed}
@@ -78,7 +78,7 @@ pub record Opened (o : Order) : Type 0 where
 
 pub refusal-none : (o : Order) → orderRefusal o ≡ 0 → (orderFormed o ≡ true) × (buyRefusal (buyOrder o) ≡ 0)
 unfolding orderRefusal
-refusal-none o = by (λ (k : ℕ). k ≡ 0 → (orderFormed o ≡ true) × (buyRefusal (buyOrder o) ≡ 0)) (orderFormed o) _ _ (λ f z. (f, z)) (λ _ z. absurd (omega arith))
+refusal-none o = by (λ (k : ℕ). k ≡ 0 → (orderFormed o ≡ true) × (buyRefusal (buyOrder o) ≡ 0)) (not (orderFormed o)) _ _ (λ _ z. absurd (omega arith)) (λ f z. (not-false _ f, z))
 
 pub opened : (o : Order) → acceptOf o .answer ≡ Accepted → Opened o
 unfolding acceptOf
@@ -94,5 +94,6 @@ price-fits o f = omega (arith, below (buyOrder o), limit-fits)
   where
     below : (b : Order) → initiatingOf b ≤ b .limit
     below b = by (λ (k : ℕ). k ≤ b .limit) (ltb (b .size) 50) _ _ (λ _. omega arith) (λ _. omega arith)
+
     limit-fits : buyOrder o .limit ≤ 999999
     limit-fits = by (λ (b : Order). b .limit ≤ 999999) (eqb (o .side) 2) _ _ (λ _. omega (arith, order-bounds o f .some-limit)) (λ _. order-bounds o f .limit)

@@ -36,13 +36,14 @@ use Rattle.auction.proofs.SoundLaws.{sound-opened, sound-step, sound-ru
 record From (Q : Event → Type 0) (t : Terms) (r : Response) : Type 0 where
   event : Event
   holds : Q event
+  kind : (event .kind ≡ 1) ⊎ (event .kind ≡ 3)
   made : r ≡ madeBy t event
   named : r .sequence ≡ event .sequence
 
 -- the terms never change
 terms-stay : (a : Auction) (e : Event) → stepOf a e .auction .terms ≡ a .terms
 unfolding after endedByTime
-terms-stay a e = cases a e (λ s. s .auction .terms ≡ a .terms) (record { refused = λ _. refl; late = λ _. refl; does = λ _. any-change _ _ _ _ _ _ (λ _. refl) (λ _ _. refl) })
+terms-stay a e = cases a e (λ s. s .auction .terms ≡ a .terms) (record { refused = λ _ _. refl; late = λ _. refl; does = λ _. any-change _ _ _ _ _ _ (λ _ _. refl) (λ _ _. refl) })
 
 module _ (Q : Event → Type 0) (a : Auction) (e : Event) (s : Sound a) where
   made-gtx : e .kind ≡ 1 → responseOf true (min (buyEvent (a .terms .sell) e .f12) (a .terms .size)) (buyEvent (a .terms .sell) e) ≡ madeBy (a .terms) e
@@ -56,14 +57,14 @@ module _ (Q : Event → Type 0) (a : Auction) (e : Event) (s : Sound a) where
   unfolding after
   does-from q h =
       record {
-        refuses = λ n. h;
+        refuses = λ n _. h;
         nothing = λ g. h;
         gtx = λ k f p.
             place-every (a .board) (s .board) (From Q (a .terms)) (responseOf true (min (buyEvent (a .terms .sell) e .f12) (a .terms .size)) (buyEvent (a .terms .sell) e)) f
-            (record { event = e; holds = q; made = made-gtx (sym (buy-kind e (a .terms .sell)) ∙ k); named = buy-sequence e (a .terms .sell) }) h;
+            (record { event = e; holds = q; kind = inl (sym (buy-kind e (a .terms .sell)) ∙ k); made = made-gtx (sym (buy-kind e (a .terms .sell)) ∙ k); named = buy-sequence e (a .terms .sell) }) h;
         limit = λ g k f p.
             place-every (a .board) (s .board) (From Q (a .terms)) (responseOf false (buyEvent (a .terms .sell) e .f12) (buyEvent (a .terms .sell) e)) f
-            (record { event = e; holds = q; made = made-limit (sym (buy-kind e (a .terms .sell)) ∙ k); named = buy-sequence e (a .terms .sell) }) h;
+            (record { event = e; holds = q; kind = inr (sym (buy-kind e (a .terms .sell)) ∙ k); made = made-limit (sym (buy-kind e (a .terms .sell)) ∙ k); named = buy-sequence e (a .terms .sell) }) h;
         clear = λ k f. clear-every (a .board) (s .board) (From Q (a .terms)) (findGtx (a .board) (e .f12)) h;
         quote = λ n f. h;
         sell = h;
@@ -74,14 +75,14 @@ module _ (Q : Event → Type 0) (a : Auction) (e : Event) (s : Sound a) where
   unfolding after endedByTime
   untaken =
       cases a e (λ p. isTaken (p .answer) ≡ false → p .auction .board ≡ a .board)
-      (record { refused = λ _ _. refl; late = λ _ _. refl; does = λ _. any-change _ _ _ _ _ _ (λ _ _. refl) (λ c g z. no (sym (taken-any (isOpen g)) ∙ z)) })
+      (record { refused = λ _ _ _. refl; late = λ _ _. refl; does = λ _. any-change _ _ _ _ _ _ (λ _ _ _. refl) (λ c g z. no (sym (taken-any (isOpen g)) ∙ z)) })
 
   step-from : (isTaken (stepOf a e .answer) ≡ true → Q e) → Every (From Q (a .terms)) (liveOf (a .board)) → Every (From Q (a .terms)) (liveOf (stepOf a e .auction .board))
   unfolding endedByTime
   step-from q h = go (isTaken (stepOf a e .answer)) refl
     where
       go : (b : Bool) → isTaken (stepOf a e .answer) ≡ b → Every (From Q (a .terms)) (liveOf (stepOf a e .auction .board))
-      go true z = cases a e (λ p. Every (From Q (a .terms)) (liveOf (p .auction .board))) (record { refused = λ _. h; late = λ _. h; does = λ _. does-from (q z) h })
+      go true z = cases a e (λ p. Every (From Q (a .terms)) (liveOf (p .auction .board))) (record { refused = λ _ _. h; late = λ _. h; does = λ _. does-from (q z) h })
       go false z = subst (λ b. Every (From Q (a .terms)) (liveOf b)) (sym (untaken z)) h
 
 run-from : (Q : Event → Type 0) (es : List Event) (a : Auction) → Sound a → Every (From Q (a .terms)) (liveOf (a .board)) → ((e : Event) → In e (takenOf a es) → Q e) → Every (From Q (a .terms)) (liveOf (run a es .board))
@@ -106,7 +107,7 @@ pub comes-from : (o : Order) (es : List Event) → acceptOf o .answer ≡ Accept
 comes-from o es h =
     let a : Auction = acceptOf o .auction in
     let Q : Event → Type 0 = λ e. In e (takenOf a es) in
-    all-map (From Q (a .terms)) (ComesFrom (a .terms) (takenOf a es)) (liveOf (run a es .board)) (λ r f. record { event = f .event; taken = f .holds; made = f .made; named = f .named })
+    all-map (From Q (a .terms)) (ComesFrom (a .terms) (takenOf a es)) (liveOf (run a es .board)) (λ r f. record { event = f .event; taken = f .holds; kind = f .kind; made = f .made; named = f .named })
     (run-from Q es a (sound-opened o h) (nobody (opened o h .auction) Q) (λ e i. i))
   where
     nobody : acceptOf o .auction ≡ openedBy (eqb (o .side) 2) (buyOrder o) → (Q : Event → Type 0) → Every (From Q (acceptOf o .auction .terms)) (liveOf (acceptOf o .auction .board))

@@ -128,6 +128,7 @@ buy-mirrored o f = go (eqb (o .side) 2) refl
   where
     side : mirroredOrder o .side ≡ mirroredSide (o .side)
     side = order-side o
+
     go : (t : Bool) → eqb (o .side) 2 ≡ t → cond (eqb (mirroredOrder o .side) 2) (mirroredOrder (mirroredOrder o)) (mirroredOrder o) ≡ cond t (mirroredOrder o) o
     go true z = let k : mirroredOrder o .side ≡ 1 = side ∙ other-one (o .side) (eqb-true _ _ z) in simp (ne-eqb (mirroredOrder o .side) 2 (λ q. omega (arith, k)))
     go false z = let k : mirroredOrder o .side ≡ 2 = side ∙ other-two (o .side) (one-of-two (o .side) (order-bounds o f .some-side) (order-bounds o f .side) (eqb-false _ _ z)) in simp (eq-eqb (mirroredOrder o .side) 2 k) (order-twice o f)
@@ -217,11 +218,14 @@ low-bits : (m : ℕ) → mirroredMarks m % 4 ≡ m % 4
 unfolding mirroredMarks
 low-bits m = low (m % 4) (m / 8 % 2) (m / 4 % 2) (m / 16) (omega arith) (omega arith) (omega arith)
 
+same-zero : (m n : ℕ) → m % 4 ≡ n % 4 → m / 2 ^ 0 % 2 ≡ n / 2 ^ 0 % 2
+same-zero m n h = omega arith
+
+same-one : (m n : ℕ) → m % 4 ≡ n % 4 → m / 2 ^ 1 % 2 ≡ n / 2 ^ 1 % 2
+same-one m n h = omega arith
+
 low-same : (m n : ℕ) → m % 4 ≡ n % 4 → (not (bitAt m 0) && not (bitAt m 1)) ≡ (not (bitAt n 0) && not (bitAt n 1))
-low-same m n h =
-    let a : m / 2 ^ 0 % 2 ≡ n / 2 ^ 0 % 2 = omega arith in
-    let b : m / 2 ^ 1 % 2 ≡ n / 2 ^ 1 % 2 = omega arith in
-    simp (a, b)
+low-same m n h = simp (same-zero m n h, same-one m n h)
 
 module _ (e : Event) (f : eventFormed e ≡ true) where
   test : (i : ℕ) → getD (shapeTests (shapeOf (e .kind)) e) i true ≡ true
@@ -259,3 +263,19 @@ module _ (e : Event) (f : eventFormed e ≡ true) where
       (λ k. market-form (ap (λ (n : ℕ). shapeOf n .side) k))
       quotes-form
       (λ _ _ _ _. f)
+
+-- the marks bit by bit
+pub marks-bits : (m : ℕ) → (bitAt (mirroredMarks m) 2 ≡ bitAt m 3) × (bitAt (mirroredMarks m) 3 ≡ bitAt m 2) × (bitAt (mirroredMarks m) 0 ≡ bitAt m 0) × (bitAt (mirroredMarks m) 1 ≡ bitAt m 1)
+unfolding mirroredMarks
+marks-bits m =
+    let a : m % 4 < 4 = omega arith in
+    let b : m / 4 % 2 < 2 = omega arith in
+    let c : m / 8 % 2 < 2 = omega arith in
+    let l : mirroredMarks m % 4 ≡ m % 4 = low-bits m in
+    let z0 : mirroredMarks m / 2 ^ 0 % 2 ≡ m / 2 ^ 0 % 2 = same-zero (mirroredMarks m) m l in
+    let z1 : mirroredMarks m / 2 ^ 1 % 2 ≡ m / 2 ^ 1 % 2 = same-one (mirroredMarks m) m l in (
+      ap (λ (d : ℕ). eqb d 1) (bit-two (m % 4) (m / 8 % 2) (m / 4 % 2) (m / 16) a c b),
+      ap (λ (d : ℕ). eqb d 1) (bit-three (m % 4) (m / 8 % 2) (m / 4 % 2) (m / 16) a c b),
+      ap (λ (d : ℕ). eqb d 1) z0,
+      ap (λ (d : ℕ). eqb d 1) z1,
+    )

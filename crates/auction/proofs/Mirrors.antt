@@ -36,7 +36,7 @@ use Rattle.auction.specs.declared.Outcome.the-variants.{Refuses, Does}
 use Rattle.auction.proofs.StepLaws.{by, no}
 use Rattle.auction.proofs.EventLaws.{mirror-sequence, mirror-time, buy-kind, mirror-rest}
 use Rattle.auction.proofs.Accepted.{Opened, opened}
-use Rattle.auction.proofs.MirrorForm.{order-twice, order-form, buy-mirrored, other-side, event-twice, event-form}
+use Rattle.auction.proofs.MirrorForm.{marks-bits, order-twice, order-form, buy-mirrored, other-side, event-twice, event-form}
 
 -- ---- orders
 
@@ -183,6 +183,7 @@ module _ (d : Deal) (t : Bool) where
       where
         same : levelAt on rs (next on from rs) left held ≡ levelAt d rs (next d from rs) left held
         same = level-same (next on from rs) left held ∙ ap (λ (p : ℕ). levelAt d rs p left held) (next-same from rs)
+
         go : (b : Bool) (x y : Level) → x ≡ y → ((f l h : ℕ) → walk on rs n f l h ≡ walk d rs n f l h)
             → _≡_ {A = List Level}
             (elim b [ true ↦ [] | false ↦ x ∷ walk on rs n (x .price + 1) (left - total (levelFills x)) (held + contra x) ])
@@ -222,6 +223,7 @@ ranges a z = pick (a .terms .sell) z (a .terms .initiating) (boundNow a)
   where
     span : ℕ → ℕ → Range
     span low high = record { low = low; high = high }
+
     pick : (t : Bool) → t ≡ false → (i b : ℕ)
         → (cond (cond t false true) (span (mirrored i) (mirrored b)) (span b i) .low ≡ mirrored (cond t (span (mirrored i) (mirrored b)) (span b i) .high))
         × (cond (cond t false true) (span (mirrored i) (mirrored b)) (span b i) .high ≡ mirrored (cond t (span (mirrored i) (mirrored b)) (span b i) .low))
@@ -231,6 +233,7 @@ ranges a z = pick (a .terms .sell) z (a .terms .initiating) (boundNow a)
 pub mirrors : Mirrors
 mirrors =
     record {
+      marks = marks-bits;
       order-twice = order-twice;
       event-twice = event-twice;
       answers = answers;

@@ -1,23 +1,26 @@
 -- A refusal changes nothing; an event that was taken, met again, is refused. Assumes nothing.
 use mathlib.Core.Path.{_≡_, refl, sym, ap, subst, _∙_}
-use mathlib.Core.Bool.{Bool, true, false, cond}
+use mathlib.Core.Bool.{Bool, true, false, cond, not, _&&_, _||_}
 use mathlib.Core.List.{List, [], _∷_}
 use mathlib.Core.Logic.{_⊎_, inl, inr, ⊎-elim}
-use Prim.Native.Nat.{ℕ, _≤_, _<_}
+use Prim.Native.Nat.{ℕ, _+_, _≤_, _<_}
 use native.Mathlib.Nat.{le-refl, le-trans, le-of-lt}
 use native.Mathlib.Omega.{arith}
 use lib.Dec.{leb, ltb, eqb}
-use borrow.Author.Tests.{le-leb}
+use borrow.Author.Tests.{le-leb, eqb-false}
+use Rattle.words.specs.Bits.{bitAt}
 use Rattle.board.specs.Lists.{Every, keep}
 use Rattle.board.specs.Board.{findGtx}
 use Rattle.tape.specs.declared.Event.{Event}
-use Rattle.tape.specs.Form.{eventFormed}
+use Rattle.tape.specs.declared.Order.{Order}
+use Rattle.tape.specs.Form.{orderFormed, eventFormed}
 use Rattle.trade.specs.Demands.{In}
 use Rattle.trade.proofs.Lists.{all-in, all-map}
-use Rattle.auction.specs.Mirror.{buyEvent}
+use Rattle.auction.specs.Mirror.{buyOrder, buyEvent}
+use Rattle.auction.specs.Accept.{initiatingOf, firstBound, guaranteedOf, rangeRefusal, buyRefusal, orderRefusal, acceptOf}
 use Rattle.auction.specs.Step.{isOpen, eventRefusal, after, endedByTime, gives, carried, isFull, stepOf, closeOf}
 use Rattle.auction.specs.Run.{run, isTaken, takenOf}
-use Rattle.auction.specs.Demands.{Refusal, Keeps}
+use Rattle.auction.specs.Demands.{RefusedAgain, Keeps}
 use Rattle.auction.specs.declared.Auction.{Auction}
 use Rattle.auction.specs.declared.Terms.{Terms}
 use Rattle.auction.specs.declared.Quotes.{Quotes}
@@ -25,14 +28,16 @@ use Rattle.auction.specs.declared.Ending.{Ending}
 use Rattle.auction.specs.declared.Answer.{Answer}
 use Rattle.auction.specs.declared.Answer.the-variants.{Taken, Ended, Late, Refused}
 use Rattle.auction.specs.declared.Stepped.{Stepped}
+use Rattle.auction.specs.declared.Opening.{Opening}
+use Rattle.auction.specs.declared.Entry.the-variants.{Refused as NotAccepted}
 use Rattle.auction.specs.declared.Change.{Change}
 use Rattle.auction.specs.declared.Change.the-variants.{Nothing, Place, Clear, Quote, Sell}
 use Rattle.auction.specs.declared.Outcome.{Outcome}
 use Rattle.auction.specs.declared.Outcome.the-variants.{Refuses, Does}
-use Rattle.auction.proofs.StepLaws.{by, no, Outcomes, Ordinary, Cases, cases}
+use Rattle.auction.proofs.StepLaws.{by, no, EventNumber, Outcomes, Ordinary, Cases, cases}
 
 -- where only refusing or not matters: any change, any ending
-pub any-change : (t : Terms) (q : Quotes) (full : Bool) (found : ℕ) (m : Event) (P : Outcome → Type 0) → ((n : ℕ) → P (Refuses n)) → ((c : Change) (g : Ending) → P (Does c g)) → Outcomes t q full found m P
+pub any-change : (t : Terms) (q : Quotes) (full : Bool) (found : ℕ) (m : Event) (P : Outcome → Type 0) → ((n : ℕ) → EventNumber n → P (Refuses n)) → ((c : Change) (g : Ending) → P (Does c g)) → Outcomes t q full found m P
 any-change t q full found m P r d =
     record {
       refuses = r;
@@ -58,9 +63,9 @@ module _ (a : Auction) (e : Event) where
   refused-stays n =
       cases a e (λ s. s .answer ≡ Refused n → s .auction ≡ a)
       (record {
-        refused = λ k z. refl;
+        refused = λ k _ z. refl;
         late = λ o z. no cc;
-        does = λ o. any-change _ _ _ _ _ _ (λ k z. refl) (λ c g z. not-refused (isOpen g) n z);
+        does = λ o. any-change _ _ _ _ _ _ (λ k _ z. refl) (λ c g z. not-refused (isOpen g) n z);
       })
 
   pub rises : a .sequence ≤ stepOf a e .auction .sequence
@@ -68,9 +73,9 @@ module _ (a : Auction) (e : Event) where
   rises =
       cases a e (λ s. a .sequence ≤ s .auction .sequence)
       (record {
-        refused = λ k. le-refl _;
+        refused = λ k _. le-refl _;
         late = λ o. le-refl _;
-        does = λ o. any-change _ _ _ _ _ _ (λ k. le-refl _) (λ c g. le-of-lt (o .newer));
+        does = λ o. any-change _ _ _ _ _ _ (λ k _. le-refl _) (λ c g. le-of-lt (o .newer));
       })
 
   ended-refuses : isOpen (a .ending) ≡ false → stepOf a e ≡ gives (Refused 31) a
@@ -83,25 +88,38 @@ module _ (a : Auction) (e : Event) where
   taken-is =
       cases a e (λ s. isTaken (s .answer) ≡ true → (eventFormed e ≡ true) × (a .sequence < e .sequence) × (s .auction .sequence ≡ e .sequence))
       (record {
-        refused = λ k z. no (sym z);
+        refused = λ k _ z. no (sym z);
         late = λ o z. no (sym z);
-        does = λ o. any-change _ _ _ _ _ _ (λ k z. no (sym z)) (λ c g z. (o .formed, o .newer, refl));
+        does = λ o. any-change _ _ _ _ _ _ (λ k _ z. no (sym z)) (λ c g z. (o .formed, o .newer, refl));
       })
 
   -- an event in form whose sequence is not above the highest taken is refused
-  old-refused : eventFormed e ≡ true → e .sequence ≤ a .sequence → Refusal a e
+  old-refused : eventFormed e ≡ true → e .sequence ≤ a .sequence → RefusedAgain a e
   unfolding stepOf eventRefusal
   old-refused f h = go (isOpen (a .ending)) refl
     where
-      go : (b : Bool) → isOpen (a .ending) ≡ b → Refusal a e
-      go true z = record { number = 33; answer = simp (z, f, le-leb _ _ h); stays = simp (z, f, le-leb _ _ h) }
-      go false z = record { number = 31; answer = simp z; stays = simp z }
+      go : (b : Bool) → isOpen (a .ending) ≡ b → RefusedAgain a e
+      go true z = simp (z, f, le-leb _ _ h)
+      go false z = simp z
+
+  -- only 31 to 38 refuse an event
+  event-numbers : (n : ℕ) → stepOf a e .answer ≡ Refused n → (31 ≤ n) × (n ≤ 38)
+  event-numbers n =
+      cases a e (λ s. s .answer ≡ Refused n → (31 ≤ n) × (n ≤ 38))
+      (record {
+        refused = λ k h z. same k h z;
+        late = λ o z. no cc;
+        does = λ o. any-change _ _ _ _ _ _ (λ k h z. same k h z) (λ c g z. not-refused (isOpen g) n z);
+      })
+    where
+      same : (k : ℕ) → EventNumber k → Refused k ≡ Refused n → (31 ≤ n) × (n ≤ 38)
+      same k h z = let q : k ≡ n = cc in (omega (arith, h .0), omega (arith, h .1))
 
 pub run-rises : (es : List Event) (a : Auction) → a .sequence ≤ run a es .sequence
 run-rises [] a = le-refl _
 run-rises (e ∷ es) a = le-trans (rises a e) (run-rises es (stepOf a e .auction))
 
-pub again : (a : Auction) (e : Event) (es : List Event) → isTaken (stepOf a e .answer) ≡ true → Refusal (run (stepOf a e .auction) es) e
+pub again : (a : Auction) (e : Event) (es : List Event) → isTaken (stepOf a e .answer) ≡ true → RefusedAgain (run (stepOf a e .auction) es) e
 again a e es z =
     let k = taken-is a e z in
     let n : stepOf a e .auction .sequence ≤ run (stepOf a e .auction) es .sequence = run-rises es (stepOf a e .auction) in
@@ -115,8 +133,42 @@ ended-stays : (a : Auction) → isOpen (a .ending) ≡ false → closeOf a ≡ g
 unfolding closeOf
 ended-stays a z = simp z
 
+-- ---- orders
+
+range-most : (b : Order) → rangeRefusal b ≤ 12
+unfolding rangeRefusal
+range-most b =
+    let P : ℕ → Type 0 = λ n. n ≤ 12 in
+    by P (ltb (b .limit) (firstBound b)) _ _ (λ _. omega arith) (λ _.
+    by P (ltb (initiatingOf b) (b .stop)) _ _ (λ _. omega arith) (λ _.
+    by P (ltb (b .size) 50 && eqb (b .nbo) (b .nbb + 1) && not (eqb (b .nbo) (guaranteedOf b + 1))) _ _ (λ _. omega arith) (λ _. omega arith)))
+
+buy-most : (b : Order) → buyRefusal b ≤ 12
+unfolding buyRefusal
+buy-most b =
+    let P : ℕ → Type 0 = λ n. n ≤ 12 in
+    by P (ltb (b .nbb) (b .bb) || ltb (b .bo) (b .nbo)) _ _ (λ _. omega arith) (λ _.
+    by P (eqb (b .size) 0) _ _ (λ _. omega arith) (λ _.
+    by P (ltb (b .time) (b .opens)) _ _ (λ _. omega arith) (λ _.
+    by P (leb (b .closes) (b .time + 1000)) _ _ (λ _. omega arith) (λ _.
+    by P (bitAt (b .marks) 0) _ _ (λ _. omega arith) (λ _.
+    by P (bitAt (b .marks) 1) _ _ (λ _. omega arith) (λ _.
+    by P (leb (b .nbo) (b .nbb)) _ _ (λ _. omega arith) (λ _.
+    by P (ltb (b .size) 50 && eqb (b .bo) (b .bb + 1)) _ _ (λ _. omega arith) (λ _. range-most b))))))))
+
+order-most : (o : Order) → orderRefusal o ≤ 12
+unfolding orderRefusal
+order-most o = by (λ (n : ℕ). n ≤ 12) (not (orderFormed o)) _ _ (λ _. omega arith) (λ _. buy-most (buyOrder o))
+
+order-numbers : (o : Order) (n : ℕ) → acceptOf o .answer ≡ NotAccepted n → (1 ≤ n) × (n ≤ 12)
+unfolding acceptOf
+order-numbers o n =
+    by (λ (p : Opening). p .answer ≡ NotAccepted n → (1 ≤ n) × (n ≤ 12)) (eqb (orderRefusal o) 0) _ _
+    (λ _ z. no cc)
+    (λ h z. let q : orderRefusal o ≡ n = cc in let s : orderRefusal o ≡ 0 → ⊥ = eqb-false _ _ h in (omega (arith, s), omega (arith, order-most o)))
+
 pub keeps : Keeps
-keeps = record { refused = refused-stays; not-closed = closed-stays; rises = rises; ended = ended-refuses; ended-close = ended-stays }
+keeps = record { refused = refused-stays; not-closed = closed-stays; order-numbers = order-numbers; event-numbers = event-numbers; rises = rises; ended = ended-refuses; ended-close = ended-stays }
 
 -- ---- the sequences of the events taken rise, so no two are the same
 
@@ -136,6 +188,7 @@ one a (x ∷ es) e f i j h = go (isTaken (stepOf a x .answer)) refl i j (λ i j.
   where
     later : (g : Event) → isTaken (stepOf a x .answer) ≡ true → In g (takenOf (stepOf a x .auction) es) → x .sequence < g .sequence
     later g z k = omega (arith, all-in (λ f. stepOf a x .auction .sequence < f .sequence) (takenOf (stepOf a x .auction) es) g (above es (stepOf a x .auction)) k, taken-is a x z .2)
+
     go : (b : Bool) → isTaken (stepOf a x .answer) ≡ b → In e (keep b x (takenOf (stepOf a x .auction) es)) → In f (keep b x (takenOf (stepOf a x .auction) es))
         → (In e (takenOf (stepOf a x .auction) es) → In f (takenOf (stepOf a x .auction) es) → e ≡ f) → e ≡ f
     go false z i j ih = ih i j

@@ -127,7 +127,7 @@ module _ (a : Auction) (e : Event) (s : Sound a) (o : Ordinary a e) where
   does-sound =
       let sell = a .terms .sell in
       record {
-        refuses = λ n. s;
+        refuses = λ n _. s;
         nothing = λ g. after-sound a e Nothing g s (s .bound-below) (s .board) stand (s .distinct) (λ _. no-size) no-more;
         gtx = λ k f p.
             let k1 : e .kind ≡ 1 = sym (buy-kind e sell) ∙ k in
@@ -165,7 +165,7 @@ time-sound a s =
     }
 
 pub sound-step : (a : Auction) (e : Event) → Sound a → Sound (stepOf a e .auction)
-sound-step a e s = cases a e (λ p. Sound (p .auction)) (record { refused = λ _. s; late = λ _. time-sound a s; does = does-sound a e s })
+sound-step a e s = cases a e (λ p. Sound (p .auction)) (record { refused = λ _ _. s; late = λ _. time-sound a s; does = does-sound a e s })
 
 pub sound-close : (a : Auction) → Sound a → Sound (closeOf a .auction)
 unfolding closeOf

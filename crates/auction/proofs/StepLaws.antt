@@ -4,7 +4,7 @@ use mathlib.Core.Bool.{Bool, true, false, cond, not, _&&_, _||_}
 use Prim.Native.Nat.{ℕ, _+_, _≤_, _<_, min, max}
 use native.Mathlib.Omega.{arith}
 use lib.Dec.{leb, ltb, eqb}
-use borrow.Author.Tests.{ltb-true, ltb-false, leb-true, leb-false, eqb-true, eqb-false, le-ltb, eq-eqb}
+use borrow.Author.Tests.{ltb-true, ltb-false, leb-true, leb-false, eqb-true, eqb-false, le-ltb, eq-eqb, not-false}
 use Rattle.words.specs.Bits.{bitAt}
 use Rattle.board.specs.Board.{firstFree, findGtx}
 use Rattle.tape.specs.declared.Event.{Event}
@@ -41,6 +41,7 @@ bid-still t q p c h = go (ltb (q .bb) p) (eqb p (q .bb)) c (q .bid) refl refl h
   where
     same : max (q .bb) p ≡ q .bb → (b : Bool) → max (t .floor) (max (q .bb) p + tickOf (t .size) b) ≡ max (t .floor) (q .bb + tickOf (t .size) b)
     same e b = ap (λ (x : ℕ). max (t .floor) (x + tickOf (t .size) b)) e
+
     go : (l e c b : Bool) → ltb (q .bb) p ≡ l → eqb p (q .bb) ≡ e → (l || (e && c && not b)) ≡ false
         → max (t .floor) (max (q .bb) p + tickOf (t .size) (cond l c (b || (e && c)))) ≡ max (t .floor) (q .bb + tickOf (t .size) b)
     go true e c b hl he z = no z
@@ -51,9 +52,13 @@ bid-still t q p c h = go (ltb (q .bb) p) (eqb p (q .bb)) c (q .bid) refl refl h
     go false false c true hl he z = same (omega (arith, ltb-false (q .bb) p hl)) true
     go false false c false hl he z = same (omega (arith, ltb-false (q .bb) p hl)) false
 
+-- a number that refuses an event
+abbrev pub EventNumber : ℕ → Type 0
+EventNumber n = (31 ≤ n) × (n ≤ 38)
+
 -- what is known of each outcome of an event m
 pub record Outcomes (t : Terms) (q : Quotes) (full : Bool) (found : ℕ) (m : Event) (P : Outcome → Type 0) : Type 0 where
-  pub refuses : (n : ℕ) → P (Refuses n)
+  pub refuses : (n : ℕ) → EventNumber n → P (Refuses n)
   pub nothing : (g : Ending) → P (Does Nothing g)
   pub gtx : m .kind ≡ 1 → full ≡ false → m .f16 ≤ t .initiating → P (Does (Place (responseOf true (min (m .f12) (t .size)) m)) Open)
   pub limit : (g : Ending) → m .kind ≡ 3 → full ≡ false → m .f16 ≤ t .initiating → P (Does (Place (responseOf false (m .f12) m)) g)
@@ -65,19 +70,19 @@ module _ (t : Terms) (q : Quotes) (full : Bool) (found : ℕ) (m : Event) (P : O
   gtx-case : m .kind ≡ 1 → P (gtxOutcome t full m)
   unfolding gtxOutcome
   gtx-case e =
-      by P (eqb (m .side) 1) _ _ (λ _. k .refuses 35) (λ _.
-      by P (ltb (t .initiating) (m .f16)) _ _ (λ _. k .refuses 36) (λ p.
-      by P full _ _ (λ _. k .refuses 38) (λ f. k .gtx e f (ltb-false _ _ p))))
+      by P (eqb (m .side) 1) _ _ (λ _. k .refuses 35 (omega arith, omega arith)) (λ _.
+      by P (ltb (t .initiating) (m .f16)) _ _ (λ _. k .refuses 36 (omega arith, omega arith)) (λ p.
+      by P full _ _ (λ _. k .refuses 38 (omega arith, omega arith)) (λ f. k .gtx e f (ltb-false _ _ p))))
 
   cancel-case : m .kind ≡ 2 → P (cancelOutcome found)
   unfolding cancelOutcome
-  cancel-case e = by P (ltb found 64) _ _ (λ h. k .clear e (ltb-true _ _ h)) (λ _. k .refuses 37)
+  cancel-case e = by P (ltb found 64) _ _ (λ h. k .clear e (ltb-true _ _ h)) (λ _. k .refuses 37 (omega arith, omega arith))
 
   sell-limit-case : m .kind ≡ 3 → P (sellLimitOutcome t q full m)
   unfolding sellLimitOutcome
   sell-limit-case e =
       by P (leb (m .f16) (t .initiating)) _ _
-      (λ p. by P full _ _ (λ _. k .refuses 38) (λ f. k .limit (cond (leb (m .f16) (cond (isNonRoutable m) (q .bb) (q .nbb))) Opposite Open) e f (leb-true _ _ p)))
+      (λ p. by P full _ _ (λ _. k .refuses 38 (omega arith, omega arith)) (λ f. k .limit (cond (leb (m .f16) (cond (isNonRoutable m) (q .bb) (q .nbb))) Opposite Open) e f (leb-true _ _ p)))
       (λ _. k .nothing (cond (leb (m .f16) (cond (isNonRoutable m) (q .bb) (q .nbb))) Opposite Open))
 
   buy-limit-case : P (buyLimitOutcome t q m)
@@ -132,17 +137,24 @@ module _ (a : Auction) (e : Event) where
   pub ordinary : eqb number 0 ≡ true → Ordinary a e
   unfolding eventRefusal
   ordinary =
-      by IfNone (isOpen (a .ending)) _ _ (λ o.
-      by IfNone (eventFormed e) _ _ (λ f.
+      by IfNone (not (isOpen (a .ending))) _ _ (λ _ z. no (sym z)) (λ o.
+      by IfNone (not (eventFormed e)) _ _ (λ _ z. no (sym z)) (λ f.
       by IfNone (leb (e .sequence) (a .sequence)) _ _ (λ _ z. no (sym z)) (λ s.
       by IfNone (ltb (e .time) (a .clock)) _ _ (λ _ z. no (sym z)) (λ t z.
-      record { opened = o; formed = f; newer = leb-false _ _ s; later = ltb-false _ _ t })))
-      (λ _ z. no (sym z)))
-      (λ _ z. no (sym z))
+      record { opened = not-false _ o; formed = not-false _ f; newer = leb-false _ _ s; later = ltb-false _ _ t }))))
+
+  numbered : eqb number 0 ≡ false → EventNumber number
+  unfolding eventRefusal
+  numbered =
+      let P : ℕ → Type 0 = λ n. eqb n 0 ≡ false → EventNumber n in
+      by P (not (isOpen (a .ending))) _ _ (λ _ _. (omega arith, omega arith)) (λ _.
+      by P (not (eventFormed e)) _ _ (λ _ _. (omega arith, omega arith)) (λ _.
+      by P (leb (e .sequence) (a .sequence)) _ _ (λ _ _. (omega arith, omega arith)) (λ _.
+      by P (ltb (e .time) (a .clock)) _ _ (λ _ _. (omega arith, omega arith)) (λ _ z. no z))))
 
   -- P holds of the step where it holds of each of its outcomes
   pub record Cases (P : Stepped → Type 0) : Type 0 where
-    pub refused : (k : ℕ) → P (gives (Refused k) a)
+    pub refused : (k : ℕ) → EventNumber k → P (gives (Refused k) a)
     pub late : Ordinary a e → P (gives Late (endedByTime a))
     pub does : Ordinary a e → Outcomes (a .terms) (a .quotes) (isFull (a .board)) (findGtx (a .board) (e .f12)) (buyEvent (a .terms .sell) e) (λ o. P (carried a e o))
 
@@ -151,5 +163,5 @@ module _ (a : Auction) (e : Event) where
   cases P k =
       by P (eqb number 0) _ _
       (λ z. by P (leb (a .terms .interval) (e .time)) _ _ (λ _. k .late (ordinary z)) (λ _.
-          outcomes (a .terms) (a .quotes) (isFull (a .board)) (findGtx (a .board) (e .f12)) (buyEvent (a .terms .sell) e) (λ o. P (carried a e o)) (k .does (ordinary z))))
-      (λ _. k .refused number)
+      outcomes (a .terms) (a .quotes) (isFull (a .board)) (findGtx (a .board) (e .f12)) (buyEvent (a .terms .sell) e) (λ o. P (carried a e o)) (k .does (ordinary z))))
+      (λ z. k .refused number (numbered z))

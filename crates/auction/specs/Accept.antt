@@ -66,7 +66,7 @@ buyRefusal o =
     (rangeRefusal o))))))))
 
 unfoldable pub orderRefusal : Order → ℕ
-orderRefusal o = cond (orderFormed o) (buyRefusal (buyOrder o)) 1
+orderRefusal o = cond (not (orderFormed o)) 1 (buyRefusal (buyOrder o))
 
 -- ---- the auction
 

@@ -15,7 +15,8 @@ use Rattle.tape.specs.declared.Event.{Event}
 use Rattle.tape.specs.Form.{orderFormed, eventFormed}
 use Rattle.trade.specs.Trade.{offers, fills, total}
 use Rattle.trade.specs.Demands.{In, Absent, Distinct, Demand3}
-use Rattle.auction.specs.Mirror.{mirrored, mirroredOrder, mirroredEvent, buyEvent}
+use Rattle.words.specs.Bits.{bitAt}
+use Rattle.auction.specs.Mirror.{mirrored, mirroredMarks, mirroredOrder, mirroredEvent, buyEvent}
 use Rattle.auction.specs.Accept.{acceptOf}
 use Rattle.auction.specs.Step.{isOpen, boundBy, responseOf, gives, stepOf, closeOf}
 use Rattle.auction.specs.Fills.{dealOf, rangeOf, auctionFills}
@@ -23,21 +24,18 @@ use Rattle.auction.specs.Run.{run, played, isTaken, takenOf}
 use Rattle.auction.specs.declared.Auction.{Auction}
 use Rattle.auction.specs.declared.Terms.{Terms}
 use Rattle.auction.specs.declared.Range.{Range}
-use Rattle.auction.specs.declared.Entry.the-variants.{Accepted}
+use Rattle.auction.specs.declared.Entry.the-variants.{Accepted, Refused as NotAccepted}
 use Rattle.auction.specs.declared.Answer.the-variants.{Refused}
 
--- ---- a refusal changes nothing
-
--- an event is refused, by a number, and the auction stays
-pub record Refusal (a : Auction) (e : Event) : Type 0 where
-  pub number : ℕ
-  pub answer : stepOf a e .answer ≡ Refused number
-  pub stays : stepOf a e .auction ≡ a
+-- ---- refusals
 
 pub record Keeps : Type 0 where
   -- a refusal changes nothing
   pub refused : (a : Auction) (e : Event) (n : ℕ) → stepOf a e .answer ≡ Refused n → stepOf a e .auction ≡ a
   pub not-closed : (a : Auction) (n : ℕ) → closeOf a .answer ≡ Refused n → closeOf a .auction ≡ a
+  -- orders are refused by 1 to 12 alone, events by 31 to 38 alone
+  pub order-numbers : (o : Order) (n : ℕ) → acceptOf o .answer ≡ NotAccepted n → (1 ≤ n) × (n ≤ 12)
+  pub event-numbers : (a : Auction) (e : Event) (n : ℕ) → stepOf a e .answer ≡ Refused n → (31 ≤ n) × (n ≤ 38)
   -- the highest sequence never falls
   pub rises : (a : Auction) (e : Event) → a .sequence ≤ stepOf a e .auction .sequence
   -- an ended auction never changes again, and answers 31 to all
@@ -57,12 +55,17 @@ madeBy t e =
 pub record ComesFrom (t : Terms) (es : List Event) (r : Response) : Type 0 where
   pub event : Event
   pub taken : In event es
+  -- a GTX response or a limit order
+  pub kind : (event .kind ≡ 1) ⊎ (event .kind ≡ 3)
   pub made : r ≡ madeBy t event
   pub named : r .sequence ≡ event .sequence
 
+abbrev pub RefusedAgain : Auction → Event → Type 0
+RefusedAgain a e = stepOf a e ≡ gives (Refused (cond (isOpen (a .ending)) 33 31)) a
+
 pub record Resend : Type 0 where
-  -- an event that was taken, met again with any events between, is refused and changes nothing
-  pub again : (a : Auction) (e : Event) (es : List Event) → isTaken (stepOf a e .answer) ≡ true → Refusal (run (stepOf a e .auction) es) e
+  -- an event that was taken, met again with any events between, is refused, by 33 while the auction is open and by 31 after, and changes nothing
+  pub again : (a : Auction) (e : Event) (es : List Event) → isTaken (stepOf a e .answer) ≡ true → RefusedAgain (run (stepOf a e .auction) es) e
   -- no two live responses bear one sequence
   pub apart : (o : Order) (es : List Event) → acceptOf o .answer ≡ Accepted → Distinct (liveOf (run (acceptOf o .auction) es .board))
   -- each live response comes from an event taken, and no two events taken bear one sequence
@@ -130,6 +133,8 @@ mirroredFills (f ∷ fs) = record { party = f .party; price = mirrored (f .price
 
 -- a sell auction is the mirror of the buy auction on mirrored input
 pub record Mirrors : Type 0 where
+  -- of the marks, bits 2 and 3 change places, and 0 and 1 stay
+  pub marks : (m : ℕ) → (bitAt (mirroredMarks m) 2 ≡ bitAt m 3) × (bitAt (mirroredMarks m) 3 ≡ bitAt m 2) × (bitAt (mirroredMarks m) 0 ≡ bitAt m 0) × (bitAt (mirroredMarks m) 1 ≡ bitAt m 1)
   -- twice is once
   pub order-twice : (o : Order) → orderFormed o ≡ true → mirroredOrder (mirroredOrder o) ≡ o
   pub event-twice : (e : Event) → eventFormed e ≡ true → mirroredEvent (mirroredEvent e) ≡ e

@@ -2,7 +2,6 @@
 use mathlib.Core.Bool.{Bool, cond, not}
 use mathlib.Core.List.{List}
 use Prim.Native.Nat.{ℕ, min}
-use Rattle.board.specs.Board.{liveCount}
 use Rattle.share.specs.Fills.{Fill}
 use Rattle.trade.specs.declared.Deal.{Deal}
 use Rattle.trade.specs.declared.Filled.{Filled}

@@ -6,3 +6,4 @@ pub mod Fills
 pub mod Run
 pub mod Lent
 pub mod Demands
+pub mod Figures

@@ -35,13 +35,11 @@ isOpen Improve = false
 
 unfoldable pub eventRefusal : Ending → ℕ → ℕ → Event → ℕ
 eventRefusal ending sequence clock e =
-    cond (isOpen ending)
-    (cond (eventFormed e)
+    cond (not (isOpen ending)) 31
+    (cond (not (eventFormed e)) 32
     (cond (leb (e .sequence) sequence) 33
     (cond (ltb (e .time) clock) 34
-    0))
-    32)
-    31
+    0)))
 
 -- ---- the decision. `full`: all 64 places are live; `found`: the place of the GTX that a cancel names, 64 where there is none
 

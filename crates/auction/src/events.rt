@@ -33,19 +33,19 @@ pub(crate) fn is_open(g: Ending) -> bool
 fn event_refusal(g: Ending, sequence: u32, clock: u32, e: Event) -> u32
     ensures { λ r. ⌜ r ≡ eventRefusal g sequence clock e ⌝ }
 {
-    if is_open(g) {
-        if tape::event_form(e) {
-            if e.sequence <= sequence {
-                return 33;
-            }
-            if e.time < clock {
-                return 34;
-            }
-            return 0;
-        }
+    if !is_open(g) {
+        return 31;
+    }
+    if !tape::event_form(e) {
         return 32;
     }
-    31
+    if e.sequence <= sequence {
+        return 33;
+    }
+    if e.time < clock {
+        return 34;
+    }
+    0
 }
 
 fn board_after(b: Board, c: Change) -> Board

@@ -148,10 +148,10 @@ fn buy_refusal(o: Order) -> u32
 fn order_refusal(o: Order) -> u32
     ensures { λ r. ⌜ r ≡ orderRefusal o ⌝ }
 {
-    if tape::order_form(o) {
-        return buy_refusal(buy_order(o));
+    if !tape::order_form(o) {
+        return 1;
     }
-    1
+    buy_refusal(buy_order(o))
 }
 
 fn terms_of(sell: bool, b: Order) -> Terms

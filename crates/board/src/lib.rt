@@ -2,7 +2,7 @@
 ghost use mathlib.Core.Path.{_≡_};
 ghost use mathlib.Core.Bool.{cond};
 ghost use lib.Dec.{ltb};
-ghost use Rattle.board.specs.Board.{emptyBoard, isLive, liveCount, firstFree, placed, cleared, isGtx, findGtx, firstInSequence};
+ghost use Rattle.board.specs.Board.{emptyBoard, isLive, liveCount, firstFree, placed, cleared, isGtx, findGtx};
 use words::bits;
 
 // A response that stands on the board: a GTX response, or a limit order.
@@ -102,25 +102,8 @@ pub fn find_gtx(b: Board, sequence: u32) -> usize
 }
 
 // The place of the lower sequence of two, and the first where they are equal.
-fn sooner(s: u32, i: usize, t: u32, j: usize) -> usize
+pub fn sooner(s: u32, i: usize, t: u32, j: usize) -> usize
     ensures { λ r. ⌜ r ≡ cond (ltb t s) j i ⌝ }
 {
     if t < s { j } else { i }
-}
-
-// Of the places whose bit in the word is set, the one with the lowest sequence, and the lowest place of equal ones; 64 where the word is 0.
-pub fn first_in_sequence(places: [Response; 64], word: u64) -> usize
-    ensures { λ r. ⌜ r ≡ firstInSequence places word ⌝ }
-{
-    if word == 0 {
-        return 64;
-    }
-    let mut best = bits::first_set(word) as usize;
-    let mut rest = bits::without_bit(word, best);
-    while rest != 0 {
-        let i = bits::first_set(rest) as usize;
-        best = sooner(places[best].sequence, best, places[i].sequence, i);
-        rest = bits::without_bit(rest, i);
-    }
-    best
 }

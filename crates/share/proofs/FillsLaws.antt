@@ -1,20 +1,14 @@
 -- Laws of the fills' words.
-use mathlib.Core.Path.{_≡_, refl, ap, _∙_}
+use mathlib.Core.Path.{_≡_, refl, _∙_}
 use mathlib.Core.List.{List, [], _∷_, _++_}
-use Prim.Native.Nat.{ℕ, zero, suc, _+_, _*_, _≤_}
-use native.Mathlib.Nat.{zero-add, suc-add, add-assoc}
+use Prim.Native.Nat.{ℕ, suc, _+_, _*_, _≤_}
 use native.Mathlib.Numerals.{towards-suc}
 use native.Mathlib.Omega.{arith}
-use lib.ListN.{length, take, drop, set, length-set, length-append, take-append-drop}
-use lib.Seq.{sets, sets-eq, take-set-le, drop-set-add}
+use lib.ListN.{length, take, drop, length-append}
+use lib.Seq.{sets, sets-eq}
 use Rattle.share.specs.Fills.{Fill, words, put, written, Wrote}
 
 -- ---- what is written
-
-pub length-written : (xs : List ℕ) (at : ℕ) (fs : List Fill) → length (written xs at fs) ≡ length xs
-unfolding written
-length-written xs at [] = refl
-length-written xs at (f ∷ fs) = length-written (put xs at f) (at + 3) fs ∙ simp length-set
 
 -- a chain of writers: holds with room or without
 pub written-append : (xs : List ℕ) (at : ℕ) (fs gs : List Fill) → written xs at (fs ++ gs) ≡ written (written xs at fs) (at + 3 * length fs) gs
@@ -24,32 +18,12 @@ written-append xs at (f ∷ fs) gs =
     let e : at + 3 * suc (length fs) ≡ at + 3 + 3 * length fs = omega arith in
     rw e (written-append (put xs at f) (at + 3) fs gs)
 
-pub wrote-none : (xs : List ℕ) (at : ℕ) → Wrote xs at [] at xs
-unfolding written
-wrote-none xs at = record { words = refl; place = omega arith }
-
 pub wrote-append : {xs ys zs : List ℕ} {at next last : ℕ} {fs gs : List Fill} → Wrote xs at fs next ys → Wrote ys next gs last zs → Wrote xs at (fs ++ gs) last zs
 wrote-append {xs} {ys} {zs} {at} {next} {last} {fs} {gs} a b =
     record {
       words = cc (written-append xs at fs gs, a .words, a .place, b .words);
       place = omega (arith, length-append fs gs, a .place, b .place);
     }
-
--- a part that was lent from `start` on
-pub set-part : (s : ℕ) (xs : List ℕ) (i v : ℕ) → take s xs ++ set (drop s xs) i v ≡ set xs (s + i) v
-set-part zero xs i v = rw zero-add
-set-part (suc s) [] i v = refl
-set-part (suc s) (x ∷ xs) i v = rw (suc-add s i) (ap {B = List ℕ} (λ r. x ∷ r) (set-part s xs i v))
-
-pub written-part : (s : ℕ) (xs : List ℕ) (at : ℕ) (fs : List Fill) → take s xs ++ written (drop s xs) at fs ≡ written xs (s + at) fs
-unfolding written
-written-part s xs at [] = take-append-drop s xs
-written-part s xs at (f ∷ fs) =
-    let ys : List ℕ = put xs (s + at) f in
-    let e : drop s ys ≡ put (drop s xs) at f = simp (add-assoc, drop-set-add) in
-    let t : take s ys ≡ take s xs =
-    take-set-le s _ (s + at + 2) _ (omega arith) ∙ take-set-le s _ (s + at + 1) _ (omega arith) ∙ take-set-le s _ (s + at) _ (omega arith) in
-    rw (← e, ← t, add-assoc s at 3) (written-part s ys (at + 3) fs)
 
 -- ---- a loop that writes
 

@@ -9,12 +9,14 @@ use native.Mathlib.Omega.{arith}
 use borrow.Author.Tests.{leb-true, leb-false, lt-leb, le-leb}
 use lib.Dec.{leb, lit<}
 use lib.ListN.{length}
-use Rattle.share.specs.Share.{sum, floors, plus, leftover, firsts, sharesBy, shares, inTurn, Each, Mark, Marks, Near}
+use Rattle.board.specs.Lists.{sum}
+use Rattle.share.specs.Share.{floors, plus, leftover, firsts, sharesBy, shares, inTurn, Each, Mark, Marks, Near}
 
 -- ---- the whole parts
 
 -- together they are at most R
 pub floors-below : (R T : ℕ) (ss : List ℕ) → sum (floors R T ss) * T ≤ R * sum ss
+unfolding sum
 floors-below R T [] = omega arith
 floors-below R T (s ∷ ss) =
     rw (add-mul, mul-add) (omega (arith, div-mul-le-self (R * s) T, floors-below R T ss))
@@ -35,6 +37,7 @@ one-left R T (suc s) h =
     rw e (omega (arith, lt-div-mul-add {a = R * suc s} h))
 
 pub floors-above : (R T : ℕ) (ss : List ℕ) → 0 < T → R * sum ss ≤ (sum (floors R T ss) + present ss) * T
+unfolding sum
 floors-above R T [] h = simp mul-zero (omega arith)
 floors-above R T (s ∷ ss) h =
     simp (mul-add, add-mul) (omega (arith, one-left R T s h, simp add-mul at (floors-above R T ss h)))
@@ -56,6 +59,7 @@ none R T = rw (mul-zero) (zero-div T)
 -- ---- the laws for any rule: `Marks` is all that they ask
 
 pub sum-plus : (R T : ℕ) (ss ms : List ℕ) → Each Mark ss ms → sum (plus (floors R T ss) ms) ≡ sum (floors R T ss) + sum ms
+unfolding sum
 sum-plus R T [] [] e = refl
 sum-plus R T [] (m ∷ ms) e = absurd e
 sum-plus R T (s ∷ ss) [] e = absurd e
@@ -119,6 +123,7 @@ firsts-each k [] = tt
 firsts-each k (s ∷ ss) = ((omega arith, omega arith), firsts-each (k - min k (min s 1)) ss)
 
 firsts-sum : (k : ℕ) (ss : List ℕ) → k ≤ present ss → sum (firsts k ss) ≡ k
+unfolding sum
 firsts-sum k [] h = omega arith
 firsts-sum k (s ∷ ss) h =
     omega (arith, firsts-sum (k - min k (min s 1)) ss (omega arith))
@@ -174,6 +179,7 @@ each-same (s ∷ ss) = (refl, each-same ss)
 -- ---- first come first
 
 pub turn-sum : (left : ℕ) (ss : List ℕ) → sum (inTurn left ss) ≡ min left (sum ss)
+unfolding sum
 turn-sum left [] = omega arith
 turn-sum left (s ∷ ss) = omega (arith, turn-sum (left - s) ss)
 
@@ -182,6 +188,7 @@ turn-fit left [] = tt
 turn-fit left (s ∷ ss) = (omega arith, turn-fit (left - s) ss)
 
 pub turn-full : (left : ℕ) (ss : List ℕ) → sum ss ≤ left → Each (λ s q. q ≡ s) ss (inTurn left ss)
+unfolding sum
 turn-full left [] h = tt
 turn-full left (s ∷ ss) h = (omega arith, turn-full (left - s) ss (omega arith))
 

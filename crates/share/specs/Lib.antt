@@ -1,4 +1,3 @@
 -- What the contracts of `share` cite.
 pub mod Share
 pub mod Fills
-pub mod Examples

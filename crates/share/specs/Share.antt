@@ -5,10 +5,7 @@ use mathlib.Core.List.{List, [], _∷_}
 use mathlib.Core.Logic.{_⊎_}
 use Prim.Native.Nat.{ℕ, _+_, _-_, _*_, _/_, _≤_, min}
 use lib.Dec.{leb}
-
-abbrev pub sum : List ℕ → ℕ
-sum [] = 0
-sum (x ∷ xs) = x + sum xs
+use Rattle.board.specs.Lists.{sum}
 
 -- the whole part of R * s / T, at each size
 abbrev pub floors : ℕ → ℕ → List ℕ → List ℕ

@@ -1,22 +1,25 @@
 -- What the private functions' proofs lean on: laws over numbers and words.
-use mathlib.Core.Path.{_≡_, refl, ap, _∙_}
-use mathlib.Core.Bool.{Bool, true, false, cond}
+use mathlib.Core.Path.{_≡_, refl, sym, ap, ap₂, _∙_}
+use mathlib.Core.Bool.{Bool, true, false, cond, not, _&&_}
+use mathlib.Core.Logic.{_≢_}
 use mathlib.Core.List.{List, [], _∷_}
 use Prim.Native.Nat.{ℕ, suc, _+_, _-_, _*_, _/_, _%_, _^_, _≤_, _<_, min, max}
 use native.Mathlib.Omega.{arith}
+use borrow.Author.Tests.{ne-eqb}
 use lib.Dec.{eqb}
 use lib.ListN.{length, getD}
 use lib.Pow.{pow-pos}
-use Rattle.words.specs.Bits.{bitAt, withoutBit, setIn}
+use Rattle.words.specs.Bits.{bitAt, withBit, withoutBit, setIn}
 use Rattle.words.proofs.BitLaws.{bit-le, without-set, lowest-set}
 use Rattle.board.specs.declared.Response.{Response}
-use Rattle.board.specs.Lists.{keep}
+use Rattle.board.specs.Lists.{keep, filter, sum}
 use Rattle.board.specs.Board.{noResponse, liveIn}
 use Rattle.board.proofs.LiveLaws.{none-live, first-live}
-use Rattle.share.specs.Share.{sum, floors}
+use Rattle.share.specs.Share.{floors}
 use Rattle.share.specs.Fills.{sizes}
 use Rattle.trade.specs.Trade.{guaranteeOf}
-use Rattle.trade.specs.Code.{leastOf, sharedOf, contraOf}
+use Rattle.trade.specs.Code.{sharedOf, contraOf, worksAt, leastOf, Adds}
+use Rattle.trade.specs.declared.Found.{Found}
 
 -- ---- numbers
 
@@ -91,17 +94,26 @@ sum-turn : (f : ℕ → ℕ) (g : List Response → ℕ) → ((r : Response) (rs
     → (ps : List Response) (rest i : ℕ) → Turn ps rest i → g (liveIn rest ps) ≡ f (getD ps i noResponse .size) + g (liveIn (withoutBit rest i) ps)
 sum-turn f g h ps rest i t = ap g (t .cons) ∙ h (getD ps i noResponse) (liveIn (withoutBit rest i) ps)
 
-pub sizes-turn : (ps : List Response) (rest i : ℕ) → Turn ps rest i → sum (sizes (liveIn rest ps)) ≡ getD ps i noResponse .size + sum (sizes (liveIn (withoutBit rest i) ps))
-sizes-turn = sum-turn (λ s. s) (λ rs. sum (sizes rs)) (λ r rs. refl)
+pub sizes-turn : (t : Response → Bool) (ps : List Response) (rest i : ℕ) → Turn ps rest i
+    → sum (sizes (filter t (liveIn rest ps))) ≡ cond (t (getD ps i noResponse)) (getD ps i noResponse .size) 0 + sum (sizes (filter t (liveIn (withoutBit rest i) ps)))
+unfolding sum filter
+sizes-turn t ps rest i k = rw (k .cons) (go (t (getD ps i noResponse)))
+  where
+    go : (b : Bool) → sum (sizes (keep b (getD ps i noResponse) (filter t (liveIn (withoutBit rest i) ps)))) ≡ cond b (getD ps i noResponse .size) 0 + sum (sizes (filter t (liveIn (withoutBit rest i) ps)))
+    go true = refl
+    go false = omega arith
 
 pub parts-turn : (R T : ℕ) (ps : List Response) (rest i : ℕ) → Turn ps rest i
     → sum (floors R T (sizes (liveIn rest ps))) ≡ R * getD ps i noResponse .size / T + sum (floors R T (sizes (liveIn (withoutBit rest i) ps)))
+unfolding sum
 parts-turn R T = sum-turn (λ s. R * s / T) (λ rs. sum (floors R T (sizes rs))) (λ r rs. refl)
 
-pub sizes-none : (ps : List Response) → sum (sizes (liveIn 0 ps)) ≡ 0
-sizes-none ps = rw (none-live ps)
+pub sizes-none : (t : Response → Bool) (ps : List Response) → sum (sizes (filter t (liveIn 0 ps))) ≡ 0
+unfolding sum filter
+sizes-none t ps = rw (none-live ps)
 
 pub parts-none : (R T : ℕ) (ps : List Response) → sum (floors R T (sizes (liveIn 0 ps))) ≡ 0
+unfolding sum
 parts-none R T ps = rw (none-live ps)
 
 -- one place less to go
@@ -116,3 +128,21 @@ live-short w (p ∷ ps) = go (eqb (w % 2) 1) (live-short (w / 2) ps)
     go : (t : Bool) → length (liveIn (w / 2) ps) ≤ length ps → length (keep t p (liveIn (w / 2) ps)) ≤ suc (length ps)
     go true h = omega arith
     go false h = omega arith
+
+-- ---- what a response adds at a price: a says whether it works there, b whether it is a Customer's
+
+pub adds-of : (bound p : ℕ) (r : Response) (i : ℕ) (f n : Found) (a b : Bool) → worksAt bound p r ≡ a → r .customer ≡ b
+    → n .customers ≡ cond (a && b) (withBit (f .customers) i) (f .customers) → n .others ≡ cond (a && not b) (withBit (f .others) i) (f .others)
+    → n .served ≡ f .served + cond (a && b) (r .size) 0 → n .total ≡ f .total + cond (a && not b) (r .size) 0 → n .served + n .total ≤ f .served + f .total + 4294967295
+    → Adds bound p r i f n
+adds-of bound p r i f n a b e g c o s t h =
+    record {
+      customers = c ∙ ap₂ (λ (x y : Bool). cond (x && y) (withBit (f .customers) i) (f .customers)) (sym e) (sym g);
+      others = o ∙ ap₂ (λ (x y : Bool). cond (x && not y) (withBit (f .others) i) (f .others)) (sym e) (sym g);
+      served = s ∙ ap₂ (λ (x y : Bool). f .served + cond (x && y) (r .size) 0) (sym e) (sym g);
+      total = t ∙ ap₂ (λ (x y : Bool). f .total + cond (x && not y) (r .size) 0) (sym e) (sym g);
+      small = h;
+    }
+
+pub adds-none : (bound p : ℕ) (r : Response) (i : ℕ) (f : Found) → max (r .price) bound ≢ p → Adds bound p r i f f
+adds-none bound p r i f h = adds-of bound p r i f f false (r .customer) (ne-eqb (max (r .price) bound) p h) refl refl refl (omega arith) (omega arith) (omega arith)

@@ -60,7 +60,7 @@ length-level l =
       keep-split (l .here),
     )
 
--- the offers that work from a price on
+-- the responses that work from a price on
 pub fromOn : Deal → List Response → ℕ → ℕ
 fromOn d rs from = length (filter (λ o. leb from (working d o)) rs)
 
@@ -164,7 +164,7 @@ module _ (d : Deal) (rs : List Response) where
 
 -- ---- one for each party and price
 
--- how many offers a party has
+-- how many responses a party has
 pub occ : ℕ → List Response → ℕ
 occ k os = length (filter (λ o. eqb (o .sequence) k) os)
 
@@ -214,7 +214,7 @@ times-by k p r (o ∷ os) (q ∷ qs) = go (eqb (o .sequence) k) refl (times-by k
     go true e h = omega (arith, times-append k p (fillOf (o .sequence) r q) (fillsBy r os qs), times-fill k p (o .sequence) r q)
     go false e h = omega (arith, times-append k p (fillOf (o .sequence) r q) (fillsBy r os qs), times-party k p (fillOf (o .sequence) r q) (all-fill (λ f. f .party ≢ k) (o .sequence) r q (λ z. eqb-false (o .sequence) k e)))
 
--- the party's offers among Customers and others
+-- the party's responses among Customers and others
 occ-keep : (k : ℕ) (t : Response → Bool) (os : List Response) → occ k (filter t os) + occ k (filter (λ o. not (t o)) os) ≡ occ k os
 unfolding occ filter
 occ-keep k t [] = refl
@@ -261,8 +261,8 @@ times-level l k p d z = go (eqb 0 k) refl
     c : List Fill
     c = fillsBy (l .price) (others l) (given l)
 
-    offers : times k p a + times k p c ≤ occ k (l .here)
-    offers = omega (arith, times-by k p (l .price) (customers l) (inTurn (l .left) (sizes (customers l))), times-by k p (l .price) (others l) (given l), occ-keep k isCustomer (l .here))
+    both : times k p a + times k p c ≤ occ k (l .here)
+    both = omega (arith, times-by k p (l .price) (customers l) (inTurn (l .left) (sizes (customers l))), times-by k p (l .price) (others l) (given l), occ-keep k isCustomer (l .here))
 
     go : (t : Bool) → eqb 0 k ≡ t → times k p (a ++ (b ++ c)) ≤ 1
     go true e =
@@ -270,7 +270,7 @@ times-level l k p d z = go (eqb 0 k) refl
           arith,
           times-append k p a (b ++ c),
           times-append k p b c,
-          offers,
+          both,
           times-fill k p 0 (l .price) (contra l),
           occ-none k (l .here) (subst (λ n. Absent n (l .here)) (eqb-true 0 k e) z),
         )
@@ -279,7 +279,7 @@ times-level l k p d z = go (eqb 0 k) refl
           arith,
           times-append k p a (b ++ c),
           times-append k p b c,
-          offers,
+          both,
           occ-once k (l .here) d,
           times-party k p b (all-fill (λ f. f .party ≢ k) 0 (l .price) (contra l) (λ h. eqb-false 0 k e)),
         )

@@ -9,8 +9,8 @@ use native.Mathlib.Omega.{arith}
 use borrow.Author.Tests.{leb-true, leb-false, eqb-true, eqb-false, lt-ltb}
 use lib.Dec.{leb, ltb, eqb}
 use Rattle.board.specs.declared.Response.{Response}
-use Rattle.board.specs.Lists.{filter}
-use Rattle.share.specs.Share.{sum, shares, Near}
+use Rattle.board.specs.Lists.{filter, sum}
+use Rattle.share.specs.Share.{shares, Near}
 use Rattle.share.specs.Fills.{Fill, sizes}
 use Rattle.trade.specs.declared.Deal.{Deal}
 use Rattle.trade.specs.Trade.{isOther, Level, others, first, shared, given, rest, contra, levelFills, total, flat, working, entry, guarantee, offersAt, wants, walk, fills}
@@ -20,9 +20,10 @@ use Rattle.trade.proofs.Levels.{given-sum, traded-final, traded-open, g
 use Rattle.trade.proofs.Walk.{Fit, Good, Run}
 use Rattle.trade.proofs.Runs.{got-append, got-below, run-total, run-from, no-contra, positive, here-distinct, is-here, got-elsewhere, run-passed}
 
--- ---- the quantities of a list of offers
+-- ---- the quantities of a list of responses
 
 gots-none : (fs : List Fill) (os : List Response) → ((o : Response) → In o os → got (o .sequence) fs ≡ 0) → sum (gots fs os) ≡ 0
+unfolding sum
 gots-none fs [] h = refl
 gots-none fs (o ∷ os) h = omega (arith, h o (inl refl), gots-none fs os (λ x m. h x (inr m)))
 
@@ -32,6 +33,7 @@ near-all zero s h = let e : s ≡ 0 = omega arith in rw e (inl refl)
 near-all (suc T) s h = inl (sym (mul-div-cancel-left s (omega arith)))
 
 size-in : (os : List Response) (o : Response) → In o os → o .size ≤ sum (sizes os)
+unfolding sum
 size-in [] o m = absurd m
 size-in (x ∷ xs) o (inl e) = subst (λ (y : Response). y .size ≤ x .size + sum (sizes xs)) (sym e) (omega arith)
 size-in (x ∷ xs) o (inr m) = omega (arith, size-in xs o m)

@@ -9,23 +9,24 @@ use borrow.Author.Tests.{le-leb}
 use lib.Dec.{leb, ltb}
 use lib.ListN.{length, length-append}
 use Rattle.board.specs.declared.Response.{Response}
-use Rattle.board.specs.Lists.{keep, filter}
+use Rattle.board.specs.Lists.{keep, filter, sum}
 use Rattle.board.specs.Board.{liveIn, wordOf, inSequence}
 use Rattle.board.proofs.LiveLaws.{word-filters}
 use Rattle.board.proofs.SequenceLaws.{sequence-filter}
-use Rattle.share.specs.Share.{sum, inTurn}
+use Rattle.share.specs.Share.{inTurn}
 use Rattle.share.specs.Fills.{Fill, fillOf, fillsBy, sizes}
 use Rattle.trade.specs.declared.Deal.{Deal}
+use Rattle.trade.specs.declared.Found.{Found}
 use Rattle.trade.specs.declared.Price.{Price}
 use Rattle.trade.specs.declared.Walked.{Walked}
 use Rattle.trade.specs.Trade.{isCustomer, isOther, Level, customers, others, shared, given, first, contra, levelFills, total, flat, working, top, entry, next, guarantee}
 use Rattle.trade.specs.Write.{shown, reported}
 use Rattle.trade.specs.Demands.{sizeHere}
-use Rattle.trade.specs.Code.{matchOf, lastOf, wantOf, sharedOf, contraOf, leftOf, worksAt, leastOf, turnFills, shareFills, placeFills, levelOf, Looks, Stepped, walkFrom}
+use Rattle.trade.specs.Code.{matchOf, lastOf, wantOf, sharedOf, contraOf, leftOf, worksAt, customerAt, otherAt, FoundAt, leastOf, eachFills, dealt, shareFills, placeFills, levelOf, Looks, Stepped, walkFrom}
 use Rattle.trade.proofs.Lists.{sizes-split}
 use Rattle.trade.proofs.Levels.{given-sum, traded-is}
 use Rattle.trade.proofs.WriteLaws.{sizes-sequence}
-use Rattle.trade.proofs.StepLaws.{word-split, word-le, ahead, least-next, walk-turn, from-none, from-past}
+use Rattle.trade.proofs.StepLaws.{word-parts, word-le, filter-step, ahead, least-next, walk-turn, from-none, from-past}
 use Rattle.trade.proofs.Walk.{next-above, next-top}
 
 -- ---- the numbers of any level
@@ -79,7 +80,7 @@ reported-by sell p (r ∷ rs) (q ∷ qs) =
     reported-append sell (fillOf (r .sequence) p q) (fillsBy p rs qs) ∙ ap₂ {C = List Fill} (λ x y. x ++ y) (reported-fill sell (r .sequence) p q) (reported-by sell p rs qs)
 
 pub reported-level : (sell : Bool) (l : Level) → reported sell (levelFills l) ≡ placeFills (shown sell (l .price)) (l .left) (customers l) (contra l) (shared l) (others l)
-unfolding levelFills placeFills turnFills shareFills
+unfolding levelFills placeFills eachFills dealt shareFills
 reported-level sell l =
     let a = fillsBy (l .price) (customers l) (inTurn (l .left) (sizes (customers l))) in
     let b = fillOf 0 (l .price) (contra l) in
@@ -91,63 +92,54 @@ reported-level sell l =
 -- ---- what `level_at` finds
 
 module _ (d : Deal) (ps : List Response) (G : ℕ) (s : Walked) (e : length ps ≡ 64) (fit : s .rest < 2 ^ 64) where
-  -- Customers and others of the word of a price
-  customers-word : (p here : ℕ) → here ≡ wordOf (worksAt (d .bound) p) (s .rest) ps
-      → inSequence (liveIn (wordOf isCustomer here ps) ps) ≡ filter isCustomer (inSequence (filter (worksAt (d .bound) p) (liveIn (s .rest) ps)))
-  customers-word p here h =
-      ap inSequence (word-filters isCustomer here ps ∙ ap (filter isCustomer) (ap (λ (n : ℕ). liveIn n ps) h ∙ word-filters (worksAt (d .bound) p) (s .rest) ps))
-      ∙ sym (sequence-filter isCustomer (filter (worksAt (d .bound) p) (liveIn (s .rest) ps)))
+  -- Customers and others at a price
+  customers-word : (p : ℕ) → filter (customerAt (d .bound) p) (liveIn (s .rest) ps) ≡ filter isCustomer (filter (worksAt (d .bound) p) (liveIn (s .rest) ps))
+  customers-word p = sym (filter-step isCustomer (worksAt (d .bound) p) (customerAt (d .bound) p) (liveIn (s .rest) ps) (λ x m. refl))
 
-  others-word : (p here : ℕ) → here ≡ wordOf (worksAt (d .bound) p) (s .rest) ps
-      → inSequence (liveIn (wordOf isOther here ps) ps) ≡ filter isOther (inSequence (filter (worksAt (d .bound) p) (liveIn (s .rest) ps)))
-  others-word p here h =
-      ap inSequence (word-filters isOther here ps ∙ ap (filter isOther) (ap (λ (n : ℕ). liveIn n ps) h ∙ word-filters (worksAt (d .bound) p) (s .rest) ps))
-      ∙ sym (sequence-filter isOther (filter (worksAt (d .bound) p) (liveIn (s .rest) ps)))
+  others-word : (p : ℕ) → filter (otherAt (d .bound) p) (liveIn (s .rest) ps) ≡ filter isOther (filter (worksAt (d .bound) p) (liveIn (s .rest) ps))
+  others-word p = sym (filter-step isOther (worksAt (d .bound) p) (otherAt (d .bound) p) (liveIn (s .rest) ps) (λ x m. refl))
 
-  here-fits : (p here : ℕ) → here ≡ wordOf (worksAt (d .bound) p) (s .rest) ps → here ≤ s .rest
-  here-fits p here h = rw h (word-le (worksAt (d .bound) p) (s .rest) ps (rw e fit))
-
-  pub customers-le : (p here c : ℕ) → here ≡ wordOf (worksAt (d .bound) p) (s .rest) ps → c ≡ wordOf isCustomer here ps → c ≤ here
-  customers-le p here c h f = rw f (word-le isCustomer here ps (rw e (omega (arith, here-fits p here h))))
-
-  pub looks : (l : Price) (here m T E : ℕ) → T ≡ top d → E ≡ entry d
+  pub looks : (l : Price) (f : Found) (m T E : ℕ) → T ≡ top d → E ≡ entry d
       → l .price ≡ leastOf (d .bound) T (liveIn (s .rest) ps)
-      → here ≡ wordOf (worksAt (d .bound) (l .price)) (s .rest) ps
-      → l .customers ≡ wordOf isCustomer here ps
-      → l .others ≡ here - l .customers
-      → l .served ≡ sum (sizes (liveIn (l .customers) ps))
-      → l .total ≡ sum (sizes (liveIn (l .others) ps))
+      → FoundAt (d .bound) (l .price) ps (s .rest) f
+      → l .customers ≡ f .customers → l .others ≡ f .others → l .served ≡ f .served → l .total ≡ f .total
       → m ≡ matchOf (d .mode) G (s .held) (l .served + l .total)
       → l .last ≡ lastOf E T (l .price) (s .left) (l .served + l .total + m)
       → l .want ≡ wantOf (l .last) E (l .price) G (s .held) m
       → l .price ≤ 4294967295 → l .served + l .total + l .want ≤ 1099511627520
       → Looks d ps G s l
   unfolding levelOf
-  looks l here m T E et ee ep eh ec eo es eT em el ew low small =
+  looks l f m T E et ee ep k ec eo es eT em el ew low small =
       let p : l .price ≡ leastOf (d .bound) (top d) (liveIn (s .rest) ps) = ep ∙ ap (λ (n : ℕ). leastOf (d .bound) n (liveIn (s .rest) ps)) et in
-      let os = inSequence (filter (worksAt (d .bound) (l .price)) (liveIn (s .rest) ps)) in
-      let le : here ≤ s .rest = here-fits (l .price) here eh in
-      let split = word-split isCustomer here ps (rw e (omega arith)) in
-      let o : l .others ≡ wordOf isOther here ps = omega arith in
-      let cs : inSequence (liveIn (l .customers) ps) ≡ filter isCustomer os = ap (λ (n : ℕ). inSequence (liveIn n ps)) ec ∙ customers-word (l .price) here eh in
-      let ot : inSequence (liveIn (l .others) ps) ≡ filter isOther os = ap (λ (n : ℕ). inSequence (liveIn n ps)) o ∙ others-word (l .price) here eh in
-      let C : l .served ≡ sum (sizes (filter isCustomer os)) = es ∙ sym (sizes-sequence (liveIn (l .customers) ps)) ∙ ap (λ (x : List Response). sum (sizes x)) cs in
-      let O : l .total ≡ sum (sizes (filter isOther os)) = eT ∙ sym (sizes-sequence (liveIn (l .others) ps)) ∙ ap (λ (x : List Response). sum (sizes x)) ot in
+      let xs = filter (worksAt (d .bound) (l .price)) (liveIn (s .rest) ps) in
+      let os = inSequence xs in
+      let cs : liveIn (l .customers) ps ≡ filter isCustomer xs =
+      ap (λ (n : ℕ). liveIn n ps) (ec ∙ k .customers) ∙ word-filters (customerAt (d .bound) (l .price)) (s .rest) ps ∙ customers-word (l .price) in
+      let ot : liveIn (l .others) ps ≡ filter isOther xs =
+      ap (λ (n : ℕ). liveIn n ps) (eo ∙ k .others) ∙ word-filters (otherAt (d .bound) (l .price)) (s .rest) ps ∙ others-word (l .price) in
+      let sc : inSequence (liveIn (l .customers) ps) ≡ filter isCustomer os = ap inSequence cs ∙ sym (sequence-filter isCustomer xs) in
+      let so : inSequence (liveIn (l .others) ps) ≡ filter isOther os = ap inSequence ot ∙ sym (sequence-filter isOther xs) in
+      let t : l .total ≡ sum (sizes (liveIn (l .others) ps)) = eT ∙ k .total ∙ ap (λ (x : List Response). sum (sizes x)) (others-word (l .price) ∙ sym ot) in
+      let c : l .served ≡ sum (sizes (liveIn (l .customers) ps)) = es ∙ k .served ∙ ap (λ (x : List Response). sum (sizes x)) (customers-word (l .price) ∙ sym cs) in
+      let C : l .served ≡ sum (sizes (filter isCustomer os)) = c ∙ sym (sizes-sequence (liveIn (l .customers) ps)) ∙ ap (λ (x : List Response). sum (sizes x)) sc in
+      let O : l .total ≡ sum (sizes (filter isOther os)) = t ∙ sym (sizes-sequence (liveIn (l .others) ps)) ∙ ap (λ (x : List Response). sum (sizes x)) so in
       let A : l .served + l .total ≡ sum (sizes os) = omega (arith, sizes-split os) in
       let M : m ≡ matchOf (d .mode) G (s .held) (sum (sizes os)) = em ∙ ap (matchOf (d .mode) G (s .held)) A in
       let F : l .last ≡ lastOf (entry d) (top d) (l .price) (s .left) (sum (sizes os) + matchOf (d .mode) G (s .held) (sum (sizes os))) = rw (← et, ← ee, ← M, ← A) el in
       let W : l .want ≡ wantOf (lastOf (entry d) (top d) (l .price) (s .left) (sum (sizes os) + matchOf (d .mode) G (s .held) (sum (sizes os)))) (entry d) (l .price) G (s .held) (matchOf (d .mode) G (s .held) (sum (sizes os))) =
       rw (← F, ← ee, ← M) ew in
+      let gone : l .customers + l .others ≡ wordOf (worksAt (d .bound) (l .price)) (s .rest) ps =
+      ap₂ (λ (x y : ℕ). x + y) (ec ∙ k .customers) (eo ∙ k .others) ∙ word-parts (worksAt (d .bound) (l .price)) isCustomer (s .rest) ps in
       record {
         price-is = p;
-        customers-are = rw (← p) cs;
-        others-are = rw (← p) ot;
+        customers-are = rw (← p) sc;
+        others-are = rw (← p) so;
         served-is = rw (← p) C;
-        total-is = eT;
+        total-is = t;
         want-is = rw (← p) W;
         last-is = rw (← p) F;
-        gone = omega arith;
-        fits = omega arith;
+        gone = gone;
+        fits = rw gone (word-le (worksAt (d .bound) (l .price)) (s .rest) ps (rw e fit));
         low = low;
         small = small;
       }
@@ -195,9 +187,9 @@ module _ (d : Deal) (ps : List Response) (G : ℕ) (s : Walked) (l : Price) (k :
       }
 
 pub place-length : (p left : ℕ) (cs : List Response) (c R : ℕ) (os : List Response)
-    → length (placeFills p left cs c R os) ≡ length (turnFills p left cs) + (length (fillOf 0 p c) + length (shareFills p R os))
+    → length (placeFills p left cs c R os) ≡ length (eachFills p true 0 0 left cs) + (length (fillOf 0 p c) + length (shareFills p R os))
 unfolding placeFills
-place-length p left cs c R os = length-append (turnFills p left cs) (fillOf 0 p c ++ shareFills p R os) ∙ ap (λ (n : ℕ). length (turnFills p left cs) + n) (length-append (fillOf 0 p c) (shareFills p R os))
+place-length p left cs c R os = length-append (eachFills p true 0 0 left cs) (fillOf 0 p c ++ shareFills p R os) ∙ ap (λ (n : ℕ). length (eachFills p true 0 0 left cs) + n) (length-append (fillOf 0 p c) (shareFills p R os))
 
 -- ---- the loop of the walk
 

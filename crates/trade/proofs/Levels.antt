@@ -9,8 +9,8 @@ use borrow.Author.Tests.{not-true}
 use lib.Dec.{eqb}
 use lib.ListN.{length}
 use Rattle.board.specs.declared.Response.{Response}
-use Rattle.board.specs.Lists.{Every}
-use Rattle.share.specs.Share.{sum, inTurn, Each, Near}
+use Rattle.board.specs.Lists.{Every, sum}
+use Rattle.share.specs.Share.{inTurn, Each, Near}
 use Rattle.share.proofs.ShareLaws.{shares-sum, shares-fit, shares-near, each-flip, turn-sum, turn-fit, turn-full, turn-length, shares-full, shares-length}
 use Rattle.share.specs.Fills.{Fill, fillOf, fillsBy, sizes}
 use Rattle.trade.specs.Trade.{isCustomer, isOther, Level, customers, others, first, shared, given, rest, contra, levelFills, total, wants}
@@ -52,7 +52,7 @@ module _ (l : Level) where
         total-by (l .price) (others l) (given l) (shares-length (shared l) (sizes (others l))),
       )
 
-  -- what trades at a price: all that is left where it is final, else the offers and what the Contra Order wants
+  -- what trades at a price: all that is left where it is final, else the responses and what the Contra Order wants
   pub traded-is : total (levelFills l) ≡ cond (l .final) (l .left) (min (l .left) (sizeHere l + l .want))
   traded-is = go (l .final) refl
     where
@@ -96,7 +96,7 @@ module _ (l : Level) where
 
   -- ---- who trades here
 
-  -- every party here is the Contra Order or an offer's
+  -- every party here is the Contra Order or a response's
   pub all-who : (Q : ℕ → Type 0) → Q 0 → Every (λ o. Q (o .sequence)) (l .here) → Every (λ f. Q (f .party)) (levelFills l)
   unfolding byCustomers byContra byOthers
   all-who Q z a =
@@ -191,7 +191,7 @@ module _ (l : Level) where
         go true c = customer-got (λ s q. q ≤ s) c (turn-fit (l .left) (sizes (customers l)))
         go false c = other-got (λ s q. q ≤ s) c (each-flip _≤_ (given l) (sizes (others l)) (shares-fit (shared l) (sizes (others l))))
 
-    -- all of it, where the size left covers the offers here and what the Contra Order wants
+    -- all of it, where the size left covers the responses here and what the Contra Order wants
     pub level-full : sizeHere l + l .want ≤ l .left → got (o .sequence) (levelFills l) ≡ o .size
     level-full h = go (o .customer) refl
       where
@@ -208,6 +208,7 @@ module _ (l : Level) where
 
     -- where another gets anything, something was left to the others
     pub level-some : o .customer ≡ false → 0 < got (o .sequence) (levelFills l) → 0 < shared l
+    unfolding sum
     level-some c h =
         let q : got (o .sequence) (levelFills l) ≤ sum (given l) = other-got (λ s n. n ≤ sum (given l)) c (each-sum (given l) (sizes (others l)) (shares-length (shared l) (sizes (others l)))) in
         omega (arith, given-sum)
@@ -225,6 +226,9 @@ module _ (l : Level) where
     pub level-first : o .customer ≡ false → 0 < got (o .sequence) (levelFills l) → first l ≡ l .want
     level-first c h = omega (arith, level-some c h)
 
-    -- and every Customer is filled
+    -- every Customer is filled, where the size left covers them
+    pub level-served : o .customer ≡ true → sum (sizes (customers l)) ≤ l .left → got (o .sequence) (levelFills l) ≡ o .size
+    level-served c h = customer-got (λ s q. q ≡ s) c (turn-full (l .left) (sizes (customers l)) h)
+
     pub level-customer : o .customer ≡ true → 0 < shared l → got (o .sequence) (levelFills l) ≡ o .size
-    level-customer c h = customer-got (λ s q. q ≡ s) c (turn-full (l .left) (sizes (customers l)) (omega arith))
+    level-customer c h = level-served c (omega arith)

@@ -15,3 +15,5 @@ pub mod Turns
 pub mod Theorems
 pub mod Plans
 pub mod Teeth
+pub mod Examples
+pub mod Random

@@ -9,13 +9,13 @@ use borrow.Author.Tests.{ltb-true, ltb-false, eq-eqb, ne-eqb}
 use lib.Dec.{ltb, eqb}
 use lib.ListN.{length}
 use Rattle.board.specs.declared.Response.{Response}
-use Rattle.board.specs.Lists.{Every, keep, filter}
-use Rattle.share.specs.Share.{sum, Each}
+use Rattle.board.specs.Lists.{Every, keep, filter, sum}
+use Rattle.share.specs.Share.{Each}
 use Rattle.share.specs.Fills.{Fill, fillOf, fillsBy, sizes}
 use Rattle.trade.specs.Trade.{isCustomer, isOther, others, total, fills}
 use Rattle.trade.specs.Demands.{In, Absent, Distinct, tally, got, gots, soldAt}
 
--- offers and quantities side by side
+-- responses and quantities side by side
 abbrev pub Pairs : (Response → ℕ → Type 0) → List Response → List ℕ → Type 0
 Pairs P [] [] = Unit {0}
 Pairs P [] (q ∷ qs) = ⊥
@@ -86,7 +86,7 @@ distinct-keep t (o ∷ os) d = go (t o) (distinct-keep t os (d .1))
     go true r = (all-keep (λ x. x .sequence ≢ o .sequence) t os (d .0), r)
     go false r = r
 
--- an offer that is not kept leaves no offer of its party
+-- a response that is not kept leaves no response of its sequence
 pub absent-keep : (t : Response → Bool) (os : List Response) (o : Response) → Distinct os → In o os → t o ≡ false → Absent (o .sequence) (filter t os)
 unfolding filter
 absent-keep t [] o d m e = absurd m
@@ -103,7 +103,7 @@ absent-keep t (x ∷ xs) o d (inr m) e = go (t x) (absent-keep t xs o (d .1) m e
 
 -- Customers and others together are all
 pub sizes-split : (os : List Response) → sum (sizes (filter isCustomer os)) + sum (sizes (filter isOther os)) ≡ sum (sizes os)
-unfolding filter
+unfolding filter sum
 sizes-split [] = refl
 sizes-split (o ∷ os) = go (o .customer) (sizes-split os)
   where
@@ -168,7 +168,7 @@ all-fill P k p q h = go (ltb 0 q) refl
     go true e = (h (ltb-true 0 q e), tt)
     go false e = tt
 
--- ---- fills of a list of offers
+-- ---- fills of a list of responses
 
 -- each fill has the price p, a quantity, and a party that passes
 pub all-by : (P : Fill → Type 0) (Q : Response → Type 0) (p : ℕ) → ((o : Response) (q : ℕ) → Q o → 0 < q → P (record { party = o .sequence; price = p; quantity = q }))
@@ -182,13 +182,14 @@ pub absent-by : (k p : ℕ) (os : List Response) (qs : List ℕ) → Absent k os
 absent-by k p os qs a = all-by (λ f. f .party ≢ k) (λ o. o .sequence ≢ k) p (λ o q h z. h) os qs a
 
 pub total-by : (p : ℕ) (os : List Response) (qs : List ℕ) → length qs ≡ length (sizes os) → total (fillsBy p os qs) ≡ sum qs
+unfolding sum
 total-by p [] [] e = refl
 total-by p [] (q ∷ qs) e = let f : ⊥ = omega arith in absurd f
 total-by p (o ∷ os) [] e = let f : ⊥ = omega arith in absurd f
 total-by p (o ∷ os) (q ∷ qs) e =
     omega (arith, total-append (fillOf (o .sequence) p q) (fillsBy p os qs), total-fill (o .sequence) p q, total-by p os qs (omega arith))
 
--- what an offer of the list gets is its quantity
+-- what a response of the list gets is its quantity
 pub got-by : (P : Response → ℕ → Type 0) (p : ℕ) (os : List Response) (qs : List ℕ) (o : Response) → Distinct os → In o os → Pairs P os qs → P o (got (o .sequence) (fillsBy p os qs))
 got-by P p [] qs o d m a = absurd m
 got-by P p (x ∷ xs) [] o d m a = absurd a
@@ -230,18 +231,3 @@ pairs-of P [] [] e = tt
 pairs-of P [] (q ∷ qs) e = absurd e
 pairs-of P (o ∷ os) [] e = absurd e
 pairs-of P (o ∷ os) (q ∷ qs) e = (e .0, pairs-of P os qs (e .1))
-
--- ---- offers in rising order of sequence are distinct, and none is 0
-
-abbrev pub Rising : ℕ → List Response → Type 0
-Rising b [] = Unit {0}
-Rising b (o ∷ os) = (b < o .sequence) × Rising (o .sequence) os
-
-pub rising-above : (b : ℕ) (os : List Response) → Rising b os → Every (λ o. b < o .sequence) os
-rising-above b [] r = tt
-rising-above b (o ∷ os) r = (r .0, all-map (λ x. o .sequence < x .sequence) (λ x. b < x .sequence) os (λ x h. omega (arith, r .0)) (rising-above (o .sequence) os (r .1)))
-
-pub rising-distinct : (b : ℕ) (os : List Response) → Rising b os → Distinct os
-rising-distinct b [] r = tt
-rising-distinct b (o ∷ os) r =
-    (all-map (λ x. o .sequence < x .sequence) (λ x. x .sequence ≢ o .sequence) os (λ x h. omega arith) (rising-above (o .sequence) os (r .1)), rising-distinct (o .sequence) os (r .1))

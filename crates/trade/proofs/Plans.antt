@@ -8,7 +8,7 @@ use native.Mathlib.Omega.{arith}
 use borrow.Author.Tests.{leb-true, ltb-true, ltb-false, eqb-true, eqb-false, eq-eqb, ne-eqb, le-leb, lt-leb}
 use lib.Dec.{leb, ltb, eqb}
 use Rattle.board.specs.declared.Response.{Response}
-use Rattle.share.specs.Share.{sum}
+use Rattle.board.specs.Lists.{sum}
 use Rattle.trade.specs.declared.Deal.{Deal}
 use Rattle.trade.specs.Trade.{offers, Level, shared, rest, given, contra, top, entry, workingStop, guarantee, matches, isFinal, wants, levels}
 use Rattle.trade.specs.Demands.{In, sizeHere}

@@ -103,7 +103,7 @@ module _ (d : Deal) (rs : List Response) (s : Fit d rs) where
         r .0 .left-is,
       )
 
-  -- ---- a party that made no offer
+  -- ---- a party that made no response
 
   pub run-absent : (k : ℕ) → 0 < k → Absent k rs → (from left held : ℕ) (ls : List Level) → Run d rs from left held ls → Every (λ f. f .party ≢ k) (flat ls)
   unfolding offersAt
@@ -113,7 +113,7 @@ module _ (d : Deal) (rs : List Response) (s : Fit d rs) where
       (absent-level l k z (subst (Absent k) (sym (r .0 .here-are)) (all-keep (λ o. o .sequence ≢ k) (λ o. eqb (working d o) (l .price)) rs a)))
       (run-absent k z a _ _ _ ls (r .1))
 
-  -- every party is the Contra Order or an offer's
+  -- every party is the Contra Order or a response's
   pub run-who : (Q : ℕ → Type 0) → Q 0 → Every (λ o. Q (o .sequence)) rs → (from left held : ℕ) (ls : List Level) → Run d rs from left held ls → Every (λ f. Q (f .party)) (flat ls)
   unfolding offersAt
   run-who Q z a from left held [] r = tt
@@ -186,7 +186,7 @@ module _ (d : Deal) (rs : List Response) (s : Fit d rs) where
   run-guarantee from left held (x ∷ xs) r l (inr m) e h =
       omega (arith, got-append 0 (levelFills x) (flat xs), got-contra x (no-contra from left held x (r .0)), run-guarantee _ _ _ xs (r .1) l m e h)
 
-  -- ---- an offer
+  -- ---- a response
 
   module _ (o : Response) (m : In o rs) where
     pub positive : 0 < o .sequence
@@ -225,7 +225,7 @@ module _ (d : Deal) (rs : List Response) (s : Fit d rs) where
             all-map (λ f. f .party ≢ o .sequence) (λ f. f .party ≡ o .sequence → f .price ≡ working d o) (levelFills l) (λ f h z. absurd (h z))
             (not-here from left held l (r .0) (eqb-false (working d o) (l .price) e))
 
-    -- nothing is traded by an offer whose price is passed
+    -- nothing is traded by a response whose price is passed
     pub run-passed : (from left held : ℕ) (ls : List Level) → Run d rs from left held ls → working d o < from → got (o .sequence) (flat ls) ≡ 0
     run-passed from left held [] r h = refl
     run-passed from left held (l ∷ ls) r h =

@@ -107,9 +107,23 @@ word-rest t w rest ps h e =
     let z : rest ≡ wordOf (λ x. not (t x)) w ps = omega (arith, word-split t w ps h) in
     rw z (word-filters (λ x. not (t x)) w ps)
 
+-- of those that pass t, those that pass u and those that do not
+pub word-parts : {A : Type 0} (t u : A → Bool) (w : ℕ) (ps : List A) → wordOf (λ x. t x && u x) w ps + wordOf (λ x. t x && not (u x)) w ps ≡ wordOf t w ps
+unfolding wordOf
+word-parts t u w [] = refl
+word-parts t u w (x ∷ ps) = go (eqb (w % 2) 1) (t x) (u x) (word-parts t u (w / 2) ps)
+  where
+    go : (a b c : Bool) → wordOf (λ y. t y && u y) (w / 2) ps + wordOf (λ y. t y && not (u y)) (w / 2) ps ≡ wordOf t (w / 2) ps
+        → cond (a && (b && c)) 1 0 + 2 * wordOf (λ y. t y && u y) (w / 2) ps + (cond (a && (b && not c)) 1 0 + 2 * wordOf (λ y. t y && not (u y)) (w / 2) ps)
+        ≡ cond (a && b) 1 0 + 2 * wordOf t (w / 2) ps
+    go true true true h = omega arith
+    go true true false h = omega arith
+    go true false c h = omega arith
+    go false b c h = omega arith
+
 -- ---- filters
 
-filter-step : {A : Type 0} (p q r : A → Bool) (xs : List A) → ((x : A) → In x xs → (q x && p x) ≡ r x) → filter p (filter q xs) ≡ filter r xs
+pub filter-step : {A : Type 0} (p q r : A → Bool) (xs : List A) → ((x : A) → In x xs → (q x && p x) ≡ r x) → filter p (filter q xs) ≡ filter r xs
 unfolding filter
 filter-step p q r [] h = refl
 filter-step p q r (x ∷ xs) h = go (q x) (p x) (r x) refl (h x (inl refl)) (filter-step p q r xs (λ y m. h y (inr m)))

@@ -12,7 +12,7 @@ use Rattle.share.specs.Fills.{Fill}
 use Rattle.trade.specs.declared.Deal.{Deal}
 use Rattle.trade.specs.Trade.{offers, guaranteeOf, fills}
 use Rattle.trade.specs.Demands.{Sound, Demand3}
-use Rattle.trade.specs.Examples.{gtx, board, deal}
+use Rattle.trade.proofs.Examples.{gtx, board, deal}
 use Rattle.trade.proofs.Theorems.{demand3}
 
 abbrev terms : Deal

@@ -5,18 +5,18 @@ use mathlib.Core.List.{List, [], _∷_, _++_}
 use mathlib.Core.Logic.{inl, inr, _≢_}
 use Prim.Native.Nat.{ℕ, suc, _+_, _-_, _/_, _≤_, _<_, min, max}
 use native.Mathlib.Omega.{arith}
-use borrow.Author.Tests.{eqb-true, eqb-false, ltb-true, ltb-false}
+use borrow.Author.Tests.{eqb-true, eqb-false, ltb-true, ltb-false, ne-eqb}
 use lib.Dec.{ltb, eqb}
 use lib.ListN.{length}
 use Rattle.board.specs.declared.Response.{Response}
 use Rattle.board.specs.declared.Board.{Board}
-use Rattle.board.specs.Lists.{Every}
+use Rattle.board.specs.Lists.{Every, sum}
 use Rattle.board.specs.Board.{liveOf}
-use Rattle.share.specs.Share.{sum, Near}
+use Rattle.share.specs.Share.{Near}
 use Rattle.share.specs.Fills.{Fill, sizes}
 use Rattle.trade.specs.declared.Deal.{Deal}
 use Rattle.trade.specs.Trade.{offers, Level, others, shared, levelFills, total, flat, working, workingStop, top, entry, next, guarantee, marketPrice, marketTakes, marketFill, levels, fills}
-use Rattle.trade.specs.Demands.{In, Absent, Distinct, got, gotBelow, gots, soldAt, soldAbove, times, othersAt, InRange, Sound, Known, theContra, theMarket, aResponse, ByLevel, Demand3, Demands, Few}
+use Rattle.trade.specs.Demands.{In, Absent, Distinct, got, gotAt, gotBelow, gots, soldAt, soldAbove, times, othersAt, InRange, Sound, Known, theContra, theMarket, aResponse, ByLevel, Demand3, Demands, Few}
 use Rattle.board.proofs.ListLaws.{shuffles-length}
 use Rattle.board.proofs.SequenceLaws.{sequence-shuffles, sequence-rises}
 use Rattle.trade.proofs.CodeLaws.{live-short}
@@ -27,7 +27,7 @@ use Rattle.trade.proofs.Walk.{Fit, Run, top-below, top-above, next-boun
 use Rattle.trade.proofs.Runs.{run-left, run-held, run-who, got-append, sold-append, run-total, run-range, run-each, run-absent, run-guarantee, run-only, run-fits, run-level, run-priority, here-distinct, is-here}
 use Rattle.trade.proofs.Counts.{fills-short, times-append, times-party, times-fill, run-once}
 use Rattle.trade.proofs.Fair.{at-price, run-near, run-covered, run-guaranteed, run-customers}
-use Rattle.trade.proofs.Turns.{run-earlier}
+use Rattle.trade.proofs.Turns.{gotAt-none, run-earlier, run-before}
 
 module _ (d : Deal) (rs : List Response) (s : Fit d rs) where
   -- ---- the market order
@@ -42,7 +42,7 @@ module _ (d : Deal) (rs : List Response) (s : Fit d rs) where
       go true false = (next-bound d 0 (top-above d rs s) rs, omega (arith, next-top d 0 rs, top-below d rs s))
       go false c = (omega (arith, next-bound d 0 (top-above d rs s) rs), omega (arith, next-top d 0 rs, top-below d rs s))
 
-  -- no offer works below it
+  -- no response works below it
   market-least : (o : Response) → In o rs → marketPrice d rs ≤ working d o
   unfolding marketPrice
   market-least o m = go (eqb (d .mode) 2) (eqb (length rs) 0) refl
@@ -60,7 +60,7 @@ module _ (d : Deal) (rs : List Response) (s : Fit d rs) where
       go true false e = low
       go false c e = omega (arith, low)
 
-  -- the market order's fill is no offer's
+  -- the market order's fill is no response's
   not-market : (o : Response) → In o rs → Every (λ f. f .party ≢ o .sequence) (marketFill d rs)
   not-market o m =
       all-fill (λ f. f .party ≢ o .sequence) (d .market) (marketPrice d rs) (marketTakes d rs)
@@ -80,7 +80,7 @@ module _ (d : Deal) (rs : List Response) (s : Fit d rs) where
   got-levels o m =
       rw all-of (omega (arith, got-append (o .sequence) (marketFill d rs) (flat (levels d rs)), got-none (o .sequence) (marketFill d rs) (not-market o m)))
 
-  -- an offer of a level gets in all what it gets there
+  -- a response of a level gets in all what it gets there
   at-level : (l : Level) → In l (levels d rs) → (o : Response) → In o rs → working d o ≡ l .price → got (o .sequence) (fills d rs) ≡ got (o .sequence) (levelFills l)
   at-level l n o m w = got-levels o m ∙ run-level d rs s o m _ _ _ (levels d rs) the-run l n w
 
@@ -134,6 +134,14 @@ module _ (d : Deal) (rs : List Response) (s : Fit d rs) where
 
   above-all : (p : ℕ) → soldAbove p (fills d rs) ≡ 0 → soldAbove p (flat (levels d rs)) ≡ 0
   above-all p h = omega (arith, rw all-of at h, tally-append (λ f. ltb p (f .price)) (marketFill d rs) (flat (levels d rs)))
+
+  at-of : (p : ℕ) → 0 < gotAt 0 p (fills d rs) → 0 < gotAt 0 p (flat (levels d rs))
+  at-of p t =
+      let z : gotAt 0 p (marketFill d rs) ≡ 0 =
+      gotAt-none p (marketFill d rs)
+      (all-fill (λ f. (eqb (f .party) 0 && eqb (f .price) p) ≡ false) (d .market) (marketPrice d rs) (marketTakes d rs)
+      (λ h. let a : 0 < d .market = s .market-apart (omega arith) .0 in rw (ne-eqb (d .market) 0 (omega arith)))) in
+      omega (arith, rw all-of at t, tally-append (λ f. eqb (f .party) 0 && eqb (f .price) p) (marketFill d rs) (flat (levels d rs)))
 
   priority-of : (o : Response) → In o rs → (p : ℕ) → 0 < soldAt p (fills d rs) → working d o < p → got (o .sequence) (fills d rs) ≡ o .size
   priority-of o m p t h =
@@ -264,6 +272,9 @@ module _ (d : Deal) (b : Board) (s : Sound d b) where
         customers-first = λ r k m n c j q t.
             got-levels d (offers b) fit k (into k n)
             ∙ run-customers d (offers b) fit r (into r m) c k (into k n) j q _ _ _ (levels d (offers b)) (the-run d (offers b) fit) (rw (got-levels d (offers b) fit r (into r m)) at t);
+        customers-before-contra = λ k n e t.
+            got-levels d (offers b) fit k (into k n)
+            ∙ run-before d (offers b) fit k (into k n) e _ _ _ (levels d (offers b)) (the-run d (offers b) fit) (at-of d (offers b) fit (working d k) t);
         by-sequence = λ r k m n c e q h t.
             got-levels d (offers b) fit k (into k n)
             ∙ run-earlier d (offers b) fit (sequence-rises (liveOf b)) r k (into r m) (into k n) c e q h _ _ _ (levels d (offers b)) (the-run d (offers b) fit) (rw (got-levels d (offers b) fit r (into r m)) at t);

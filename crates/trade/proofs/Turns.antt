@@ -1,25 +1,26 @@
 -- Customers at a price come by sequence: where one trades, every earlier one is filled.
 use mathlib.Core.Path.{_≡_, refl, sym, ap, _∙_, subst}
-use mathlib.Core.Bool.{Bool, true, false}
+use mathlib.Core.Bool.{Bool, true, false, cond, _&&_}
 use mathlib.Core.List.{List, [], _∷_, _++_}
 use mathlib.Core.Logic.{inl, inr, _≢_}
 use Prim.Native.Nat.{ℕ, _+_, _-_, _≤_, _<_, min}
 use native.Mathlib.Omega.{arith}
-use borrow.Author.Tests.{eqb-true, eqb-false}
+use borrow.Author.Tests.{eqb-true, eqb-false, ne-eqb}
 use lib.Dec.{eqb}
 use Rattle.board.specs.declared.Response.{Response}
-use Rattle.share.specs.Share.{sum, inTurn}
+use Rattle.board.specs.Lists.{Every, sum}
+use Rattle.share.specs.Share.{inTurn}
 use Rattle.share.specs.Fills.{Fill, fillOf, fillsBy, sizes}
 use Rattle.share.proofs.ShareLaws.{turn-sum, turn-length}
 use Rattle.trade.specs.declared.Deal.{Deal}
-use Rattle.trade.specs.Trade.{isCustomer, Level, customers, levelFills, flat, working, offersAt}
-use Rattle.trade.specs.Demands.{In, Distinct, got}
-use Rattle.trade.proofs.Lists.{all-in, all-fill, in-keep, distinct-keep, got-none, got-fill, tally-append, tally-le, absent-by, total-by}
+use Rattle.trade.specs.Trade.{isCustomer, Level, customers, shared, given, first, contra, levelFills, flat, working, offersAt}
+use Rattle.trade.specs.Demands.{In, Distinct, got, gotAt}
+use Rattle.trade.proofs.Lists.{all-map, all-in, all-fill, in-keep, distinct-keep, got-none, got-fill, tally-append, tally-none, tally-le, absent-by, total-by}
 use Rattle.board.specs.Theorems.{RisingFrom}
 use Rattle.board.proofs.SequenceLaws.{rising-from, rising-filter}
-use Rattle.trade.proofs.Levels.{byCustomers, customer-is}
+use Rattle.trade.proofs.Levels.{byCustomers, customer-is, all-level, got-contra, level-served}
 use Rattle.trade.proofs.Walk.{Fit, Good, Run}
-use Rattle.trade.proofs.Runs.{got-append, positive, here-distinct, is-here, got-elsewhere, run-passed}
+use Rattle.trade.proofs.Runs.{run-from, no-contra, got-append, positive, here-distinct, is-here, got-elsewhere, run-passed}
 
 turnFills : ℕ → ℕ → List Response → List Fill
 turnFills p left cs = fillsBy p cs (inTurn left (sizes cs))
@@ -97,4 +98,71 @@ module _ (d : Deal) (rs : List Response) (s : Fit d rs) (up : RisingFrom 0 rs) (
             got-append (k .sequence) (levelFills l) (flat ls),
             got-elsewhere d rs s k n from left held l (run .0) (λ y. z (sym q ∙ y)),
             ih (omega (arith, got-append (r .sequence) (levelFills l) (flat ls), got-elsewhere d rs s r m from left held l (run .0) z)),
+          )
+
+-- ---- and before the Contra Order
+
+no : (b : Bool) → (b && false) ≡ false
+no true = refl
+no false = refl
+
+gotAt-append : (p : ℕ) (fs gs : List Fill) → gotAt 0 p (fs ++ gs) ≡ gotAt 0 p fs + gotAt 0 p gs
+gotAt-append p fs gs = tally-append (λ f. eqb (f .party) 0 && eqb (f .price) p) fs gs
+
+-- at another price it gets nothing
+pub gotAt-none : (p : ℕ) (fs : List Fill) → Every (λ f. (eqb (f .party) 0 && eqb (f .price) p) ≡ false) fs → gotAt 0 p fs ≡ 0
+gotAt-none p fs a = tally-none (λ f. eqb (f .party) 0 && eqb (f .price) p) fs a
+
+-- no more than it gets in all
+gotAt-le : (p : ℕ) (fs : List Fill) → gotAt 0 p fs ≤ got 0 fs
+gotAt-le p [] = omega arith
+gotAt-le p (f ∷ fs) = go (eqb (f .party) 0) (eqb (f .price) p) (gotAt-le p fs)
+  where
+    go : (a b : Bool) → gotAt 0 p fs ≤ got 0 fs → cond (a && b) (f .quantity) 0 + gotAt 0 p fs ≤ cond a (f .quantity) 0 + got 0 fs
+    go true true h = omega arith
+    go true false h = omega arith
+    go false b h = omega arith
+
+-- where it gets anything, something was left after Customers
+contra-after : (l : Level) → 0 < contra l → sum (sizes (customers l)) ≤ l .left
+contra-after l h = go (l .final) h
+  where
+    go : (b : Bool) → 0 < first l + cond b (shared l - sum (given l)) 0 → sum (sizes (customers l)) ≤ l .left
+    go true h = omega arith
+    go false h = omega arith
+
+module _ (d : Deal) (rs : List Response) (s : Fit d rs) (k : Response) (n : In k rs) (e : k .customer ≡ true) where
+  elsewhere : (l : Level) → l .price ≢ working d k → gotAt 0 (working d k) (levelFills l) ≡ 0
+  elsewhere l z =
+      gotAt-none (working d k) (levelFills l)
+      (all-level l (λ f. (eqb (f .party) 0 && eqb (f .price) (working d k)) ≡ false) (λ j q h. rw (ne-eqb (l .price) (working d k) z) (no (eqb j 0))))
+
+  pub run-before : (from left held : ℕ) (ls : List Level) → Run d rs from left held ls → 0 < gotAt 0 (working d k) (flat ls) → got (k .sequence) (flat ls) ≡ k .size
+  run-before from left held [] run t = absurd (omega arith)
+  run-before from left held (l ∷ ls) run t = go (eqb (working d k) (l .price)) refl (λ t. run-before _ _ _ ls (run .1) t)
+    where
+      later : working d k ≡ l .price → gotAt 0 (working d k) (flat ls) ≡ 0
+      later w =
+          gotAt-none (working d k) (flat ls)
+          (all-map (λ f. l .price + 1 ≤ f .price) (λ f. (eqb (f .party) 0 && eqb (f .price) (working d k)) ≡ false) (flat ls)
+          (λ f h. rw (ne-eqb (f .price) (working d k) (omega arith)) (no (eqb (f .party) 0))) (run-from d rs s _ _ _ ls (run .1)))
+
+      go : (b : Bool) → eqb (working d k) (l .price) ≡ b → (0 < gotAt 0 (working d k) (flat ls) → got (k .sequence) (flat ls) ≡ k .size) → got (k .sequence) (levelFills l ++ flat ls) ≡ k .size
+      go true w ih =
+          let v : working d k ≡ l .price = eqb-true (working d k) (l .price) w in
+          let c : 0 < contra l =
+          omega (arith, gotAt-append (working d k) (levelFills l) (flat ls), later v, gotAt-le (working d k) (levelFills l), got-contra l (no-contra d rs s from left held l (run .0))) in
+          omega (
+            arith,
+            got-append (k .sequence) (levelFills l) (flat ls),
+            run-passed d rs s k n _ _ _ ls (run .1) (omega arith),
+            level-served l k (positive d rs s k n) (here-distinct d rs s k n from left held l (run .0)) (is-here d rs s k n from left held l (run .0) v) e (contra-after l c),
+          )
+      go false w ih =
+          let z : working d k ≢ l .price = eqb-false (working d k) (l .price) w in
+          omega (
+            arith,
+            got-append (k .sequence) (levelFills l) (flat ls),
+            got-elsewhere d rs s k n from left held l (run .0) z,
+            ih (omega (arith, gotAt-append (working d k) (levelFills l) (flat ls), elsewhere l (λ y. z (sym y)))),
           )

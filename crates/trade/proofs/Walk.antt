@@ -57,7 +57,7 @@ entry-below d rs s = go (eqb (d .mode) 2) (eqb (d .mode) 1)
 
 -- ---- the next price
 
--- how many offers work at a price
+-- how many responses work at a price
 abbrev pub countAt : Deal → ℕ → List Response → ℕ
 countAt d p os = length (filter (λ o. eqb (working d o) p) os)
 
@@ -95,7 +95,7 @@ module _ (d : Deal) (from : ℕ) where
       subst (λ y. next d from (x ∷ xs) ≤ working d y) (sym e) c
   next-least (x ∷ xs) o (inr m) h = omega (arith, next-least xs o m h)
 
-  -- a price below the last is an offer's
+  -- a price below the last is a response's
   pub next-some : (os : List Response) → next d from os < top d → 0 < length (filter (λ o. eqb (working d o) (next d from os)) os)
   unfolding next step filter
   next-some [] h = absurd (omega arith)
@@ -143,7 +143,7 @@ pub record Good (d : Deal) (rs : List Response) (from left held : ℕ) (l : Leve
   pub final-want : l .final ≡ true → l .want ≡ guarantee d rs - held
   -- below the entry price the Contra Order takes no part
   pub below-entry : l .price < entry d → (l .want ≡ 0) × (l .final ≡ false)
-  -- it takes no part here, or what is left covers the offers and what it matches, and more
+  -- it takes no part here, or what is left covers the responses and what it matches, and more
   pub open-want : l .final ≡ false → ((l .price < entry d) × (l .want ≡ 0)) ⊎ (sizeHere l + l .want < left)
 
 -- the levels of a walk from the price `from` on: it ends where nothing is left

@@ -1,24 +1,28 @@
 -- What the writers' proofs lean on: their fills, a response at a time.
-use mathlib.Core.Path.{_≡_, refl, sym, ap, _∙_}
+use mathlib.Core.Path.{_≡_, refl, sym, ap, ap₂, _∙_}
+use mathlib.Core.Bool.{Bool, true, false, cond}
 use mathlib.Core.List.{List, [], _∷_, _++_}
 use Prim.Native.Nat.{ℕ, zero, suc, _+_, _-_, _*_, _/_, _^_, _≤_, _<_, min}
 use native.Mathlib.Nat.{mul-zero, zero-div}
 use native.Mathlib.Omega.{arith}
 use borrow.Author.Tests.{le-leb, lt-leb, lt-ltb}
+use lib.Dec.{ltb}
 use lib.ListN.{length, getD}
-use Rattle.words.specs.Bits.{withoutBit}
+use Rattle.words.specs.Bits.{withoutBit, setIn}
+use Rattle.words.proofs.BitLaws.{lowest-set}
 use Rattle.board.specs.declared.Response.{Response}
-use Rattle.board.specs.Lists.{Inserts, Shuffles}
+use Rattle.board.specs.Lists.{Inserts, Shuffles, sum}
 use Rattle.board.specs.Lists.Inserts.{here, there}
 use Rattle.board.specs.Lists.Shuffles.{none, more}
 use Rattle.board.specs.Board.{noResponse, liveIn, inSequence, firstInSequence}
 use Rattle.board.proofs.LiveLaws.{none-live}
 use Rattle.board.proofs.SequenceLaws.{sequence-shuffles}
-use Rattle.board.proofs.FirstLaws.{some-first, first-earliest, earliest-sequence}
-use Rattle.share.specs.Share.{sum, floors, leftover, shares, inTurn}
+use Rattle.board.proofs.FirstLaws.{some-first, first-earliest, earliest-sequence, Best, best-start, best-step, best-end}
+use Rattle.share.specs.Share.{floors, leftover, shares, inTurn}
 use Rattle.share.specs.Fills.{fillOf, sizes}
 use Rattle.share.proofs.ShareLaws.{room, floors-at-most}
-use Rattle.trade.specs.Code.{turnFills, partFills, shareFills}
+use Rattle.trade.specs.Code.{eachFills, dealt, shareFills, Gives}
+use Rattle.trade.specs.declared.Given.{Given}
 use Rattle.trade.proofs.CodeLaws.{cut-less}
 
 -- ---- a turn of a loop by sequence: i is the place of the lowest sequence of rest
@@ -45,25 +49,18 @@ none-left ps = rw (none-live ps)
 
 -- ---- what is left to write
 
-pub turns-pick : (p n : ℕ) (ps : List Response) (rest i q : ℕ) → Pick ps rest i → q ≡ min n (getD ps i noResponse .size)
-    → turnFills p n (inSequence (liveIn rest ps)) ≡ fillOf (getD ps i noResponse .sequence) p q ++ turnFills p (n - q) (inSequence (liveIn (withoutBit rest i) ps))
-unfolding turnFills
-turns-pick p n ps rest i q t e =
-    let f : n - q ≡ n - getD ps i noResponse .size = omega arith in
-    rw (t .cons, f, e)
+pub each-pick : (p : ℕ) (turns : Bool) (R T k : ℕ) (ps : List Response) (rest i : ℕ) (g : Given) → Pick ps rest i → Gives turns R T k (getD ps i noResponse .size) g
+    → eachFills p turns R T k (inSequence (liveIn rest ps)) ≡ fillOf (getD ps i noResponse .sequence) p (g .quantity) ++ eachFills p turns R T (g .left) (inSequence (liveIn (withoutBit rest i) ps))
+unfolding eachFills dealt
+each-pick p true R T k ps rest i g t e =
+    let s = getD ps i noResponse .size in
+    let f : k - s ≡ g .left = omega (arith, e .left) in
+    rw (t .cons, e .quantity, f)
+each-pick p false R T k ps rest i g t e = rw (t .cons, e .quantity, e .left)
 
-pub turns-none : (p n : ℕ) (ps : List Response) → turnFills p n (inSequence (liveIn 0 ps)) ≡ []
-unfolding turnFills
-turns-none p n ps = rw (none-left ps)
-
-pub parts-pick : (p R T k : ℕ) (ps : List Response) (rest i m q : ℕ) → Pick ps rest i → m ≡ min k (min (getD ps i noResponse .size) 1) → q ≡ R * getD ps i noResponse .size / T + m
-    → partFills p R T k (inSequence (liveIn rest ps)) ≡ fillOf (getD ps i noResponse .sequence) p q ++ partFills p R T (k - m) (inSequence (liveIn (withoutBit rest i) ps))
-unfolding partFills
-parts-pick p R T k ps rest i m q t e f = rw (t .cons, f, e)
-
-pub parts-none : (p R T k : ℕ) (ps : List Response) → partFills p R T k (inSequence (liveIn 0 ps)) ≡ []
-unfolding partFills
-parts-none p R T k ps = rw (none-left ps)
+pub each-none : (p : ℕ) (turns : Bool) (R T k : ℕ) (ps : List Response) → eachFills p turns R T k (inSequence (liveIn 0 ps)) ≡ []
+unfolding eachFills
+each-none p turns R T k ps = rw (none-left ps)
 
 pub fill-some : (k p q : ℕ) → 0 < q → length (fillOf k p q) ≡ 1
 fill-some k p q h = rw (lt-ltb 0 q h)
@@ -90,27 +87,30 @@ module _ (g : List Response → ℕ) (step : Response → ℕ → ℕ) (cons : (
   fold-sequence xs = fold-shuffles (sequence-shuffles xs)
 
 pub sizes-sequence : (xs : List Response) → sum (sizes (inSequence xs)) ≡ sum (sizes xs)
+unfolding sum
 sizes-sequence = fold-sequence (λ rs. sum (sizes rs)) (λ r n. r .size + n) (λ r rs. refl) (λ x y n. omega arith)
 
 pub parts-sequence : (R T : ℕ) (xs : List Response) → sum (floors R T (sizes (inSequence xs))) ≡ sum (floors R T (sizes xs))
+unfolding sum
 parts-sequence R T = fold-sequence (λ rs. sum (floors R T (sizes rs))) (λ r n. R * r .size / T + n) (λ r rs. refl) (λ x y n. omega arith)
 
 -- ---- pro rata: R over responses whose sizes come to T
 
 turns-all : (n : ℕ) (ss : List ℕ) → sum ss ≤ n → inTurn n ss ≡ ss
+unfolding sum
 turns-all n [] h = refl
 turns-all n (s ∷ ss) h =
     let e : min n s ≡ s = omega arith in
     rw (e, turns-all (n - s) ss (omega arith))
 
-pub shares-all : (p R T : ℕ) (xs : List Response) → T ≡ sum (sizes xs) → T ≤ R → shareFills p R (inSequence xs) ≡ turnFills p R (inSequence xs)
-unfolding shareFills turnFills shares
+pub shares-all : (p R T : ℕ) (xs : List Response) → T ≡ sum (sizes xs) → T ≤ R → shareFills p R (inSequence xs) ≡ eachFills p true R T R (inSequence xs)
+unfolding shareFills eachFills dealt shares
 shares-all p R T xs e h =
     let l : sum (sizes (inSequence xs)) ≤ R = omega (arith, sizes-sequence xs) in
     rw (le-leb (sum (sizes (inSequence xs))) R l, turns-all R (sizes (inSequence xs)) l)
 
-pub shares-parts : (p R T k : ℕ) (xs : List Response) → T ≡ sum (sizes xs) → R < T → k ≡ R - sum (floors R T (sizes xs)) → shareFills p R (inSequence xs) ≡ partFills p R T k (inSequence xs)
-unfolding shareFills partFills shares
+pub shares-parts : (p R T k : ℕ) (xs : List Response) → T ≡ sum (sizes xs) → R < T → k ≡ R - sum (floors R T (sizes xs)) → shareFills p R (inSequence xs) ≡ eachFills p false R T k (inSequence xs)
+unfolding shareFills eachFills dealt shares
 shares-parts p R T k xs e h f =
     let z : sum (sizes (inSequence xs)) ≡ T = sizes-sequence xs ∙ sym e in
     let y : leftover R (sizes (inSequence xs)) ≡ k = rw (z, parts-sequence R T xs) (sym f) in
@@ -118,3 +118,28 @@ shares-parts p R T k xs e h f =
 
 pub parts-le : (R T : ℕ) (xs : List Response) → T ≡ sum (sizes xs) → R < T → sum (floors R T (sizes xs)) ≤ R
 parts-le R T xs e h = rw e (floors-at-most R (sizes xs) (omega arith))
+
+-- ---- the search for the lowest sequence: best is the earliest of those looked at, and scan is still to be looked at
+
+module _ (ps : List Response) (e : length ps ≡ 64) where
+  pub hunt-start : (rest i : ℕ) → 0 < rest → rest < 2 ^ 64 → i ≡ setIn 64 rest → Best ps rest i (withoutBit rest i)
+  hunt-start rest i p h q = let t = lowest-set rest i p h q in best-start ps rest i (omega (arith, t .place)) t
+
+  pub hunt-step : (rest best scan i n : ℕ) → 0 < scan → scan < 2 ^ 64 → i ≡ setIn 64 scan → n ≡ cond (ltb (getD ps i noResponse .sequence) (getD ps best noResponse .sequence)) i best
+      → Best ps rest best scan → Best ps rest n (withoutBit scan i)
+  hunt-step rest best scan i n p h q f b = let t = lowest-set scan i p h q in rw f (best-step ps scan i (omega (arith, t .place)) t rest best b)
+
+  pub hunt-end : (rest best scan : ℕ) → 0 < rest → rest < 2 ^ 64 → scan ≡ 0 → Best ps rest best scan → Pick ps rest best
+  hunt-end rest best scan p h z b = pick-of ps rest best e p h (sym (best-end ps rest best (rw z at b)))
+
+-- ---- what one is given
+
+pub gives-turns : (R T k s q : ℕ) → q ≡ min k s → k ≤ 4294967295 → Gives true R T k s (record { quantity = q; left = k - q })
+gives-turns R T k s q e h = record { quantity = e; left = ap (λ (n : ℕ). k - n) e; small = omega arith }
+
+pub gives-parts : (R T k s part one : ℕ) → R < T → s ≤ 4294967295 → part ≡ R * s / T → one ≡ min k (min s 1) → Gives false R T k s (record { quantity = part + one; left = k - one })
+gives-parts R T k s part one h l e f =
+    record { quantity = ap₂ (λ (x y : ℕ). x + y) e f; left = ap (λ (n : ℕ). k - n) f; small = omega (arith, part-fits R T s k h) }
+
+pub gives-left : (turns : Bool) (R T k s : ℕ) (g : Given) → Gives turns R T k s g → g .left ≤ k
+gives-left turns R T k s g e = omega (arith, e .left)

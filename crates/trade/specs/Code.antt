@@ -1,15 +1,18 @@
 -- What the private functions of `trade` give, in numbers and words.
 use mathlib.Core.Path.{_≡_}
-use mathlib.Core.Bool.{Bool, cond, _&&_, _||_}
+use mathlib.Core.Bool.{Bool, true, false, cond, not, _&&_, _||_}
 use mathlib.Core.List.{List, [], _∷_, _++_}
-use Prim.Native.Nat.{ℕ, suc, _+_, _-_, _≤_, min, max}
+use Prim.Native.Nat.{ℕ, suc, _+_, _-_, _*_, _/_, _≤_, min, max}
 use lib.Dec.{leb, eqb}
+use Rattle.words.specs.Bits.{withBit}
 use Rattle.board.specs.declared.Response.{Response}
-use Rattle.board.specs.Lists.{filter}
+use Rattle.board.specs.Lists.{filter, sum}
 use Rattle.board.specs.Board.{liveIn, wordOf, inSequence}
-use Rattle.share.specs.Share.{sum, floors, plus, firsts, shares, inTurn}
+use Rattle.share.specs.Share.{floors, plus, firsts, shares, inTurn}
 use Rattle.share.specs.Fills.{Fill, fillOf, fillsBy, sizes}
 use Rattle.trade.specs.declared.Deal.{Deal}
+use Rattle.trade.specs.declared.Found.{Found}
+use Rattle.trade.specs.declared.Given.{Given}
 use Rattle.trade.specs.declared.Price.{Price}
 use Rattle.trade.specs.declared.Walked.{Walked}
 use Rattle.trade.specs.Trade.{Level, customers, others, contra, levelFills, total, top, entry, walk}
@@ -41,6 +44,28 @@ leftOf left C T want last = cond last 0 (left - (C + T + want))
 abbrev pub worksAt : ℕ → ℕ → Response → Bool
 worksAt bound p r = eqb (max (r .price) bound) p
 
+abbrev pub customerAt : ℕ → ℕ → Response → Bool
+customerAt bound p r = worksAt bound p r && r .customer
+
+abbrev pub otherAt : ℕ → ℕ → Response → Bool
+otherAt bound p r = worksAt bound p r && not (r .customer)
+
+-- what a response at place i adds to what was found at the price p
+pub record Adds (bound p : ℕ) (r : Response) (i : ℕ) (f n : Found) : Type 0 where
+  pub customers : n .customers ≡ cond (customerAt bound p r) (withBit (f .customers) i) (f .customers)
+  pub others : n .others ≡ cond (otherAt bound p r) (withBit (f .others) i) (f .others)
+  pub served : n .served ≡ f .served + cond (customerAt bound p r) (r .size) 0
+  pub total : n .total ≡ f .total + cond (otherAt bound p r) (r .size) 0
+  pub small : n .served + n .total ≤ f .served + f .total + 4294967295
+
+-- what is found at the price p among the places of a word
+pub record FoundAt (bound p : ℕ) (places : List Response) (word : ℕ) (f : Found) : Type 0 where
+  pub customers : f .customers ≡ wordOf (customerAt bound p) word places
+  pub others : f .others ≡ wordOf (otherAt bound p) word places
+  pub served : f .served ≡ sum (sizes (filter (customerAt bound p) (liveIn word places)))
+  pub total : f .total ≡ sum (sizes (filter (otherAt bound p) (liveIn word places)))
+  pub small : f .served + f .total ≤ 274877906880
+
 -- the least working price, but at most the last
 unfoldable pub leastOf : ℕ → ℕ → List Response → ℕ
 leastOf bound last [] = last
@@ -48,13 +73,19 @@ leastOf bound last (r ∷ rs) = min (max (r .price) bound) (leastOf bound last r
 
 -- ---- the fills of some responses at a price
 
--- each as far as the amount goes
-unfoldable pub turnFills : ℕ → ℕ → List Response → List Fill
-turnFills p amount rs = fillsBy p rs (inTurn amount (sizes rs))
+-- the quantities: first come first out of k, or the whole parts of R * s / T and one more to the first k
+unfoldable pub dealt : Bool → ℕ → ℕ → ℕ → List ℕ → List ℕ
+dealt true R T k ss = inTurn k ss
+dealt false R T k ss = plus (floors R T ss) (firsts k ss)
 
--- each the whole part of its share, and one more to the first k
-unfoldable pub partFills : ℕ → ℕ → ℕ → ℕ → List Response → List Fill
-partFills p R T k rs = fillsBy p rs (plus (floors R T (sizes rs)) (firsts k (sizes rs)))
+unfoldable pub eachFills : ℕ → Bool → ℕ → ℕ → ℕ → List Response → List Fill
+eachFills p turns R T k rs = fillsBy p rs (dealt turns R T k (sizes rs))
+
+-- what one of the size s gets, and what is left of k
+pub record Gives (turns : Bool) (R T k s : ℕ) (g : Given) : Type 0 where
+  pub quantity : g .quantity ≡ cond turns (min k s) (R * s / T + min k (min s 1))
+  pub left : g .left ≡ k - cond turns (min k s) (min k (min s 1))
+  pub small : g .quantity ≤ 4294967295
 
 -- pro rata
 unfoldable pub shareFills : ℕ → ℕ → List Response → List Fill
@@ -62,7 +93,7 @@ shareFills p R rs = fillsBy p rs (shares R (sizes rs))
 
 -- Customers in turn, the Contra Order, the others pro rata
 unfoldable pub placeFills : ℕ → ℕ → List Response → ℕ → ℕ → List Response → List Fill
-placeFills p left cs contra R os = turnFills p left cs ++ (fillOf 0 p contra ++ shareFills p R os)
+placeFills p left cs contra R os = eachFills p true 0 0 left cs ++ (fillOf 0 p contra ++ shareFills p R os)
 
 -- ---- the walk over the places of a word
 

@@ -8,10 +8,10 @@ use lib.Dec.{ltb, eqb}
 use lib.ListN.{length}
 use Rattle.board.specs.declared.Response.{Response}
 use Rattle.board.specs.declared.Board.{Board}
-use Rattle.board.specs.Lists.{Every, filter}
+use Rattle.board.specs.Lists.{Every, filter, sum}
 use Rattle.board.specs.Board.{liveOf}
 use Rattle.board.specs.Theorems.{Good}
-use Rattle.share.specs.Share.{sum, Near}
+use Rattle.share.specs.Share.{Near}
 use Rattle.share.specs.Fills.{Fill, sizes}
 use Rattle.trade.specs.declared.Deal.{Deal}
 use Rattle.trade.specs.Trade.{offers, isOther, Level, others, shared, levelFills, total, flat, working, entry, guarantee, offersAt, marketTakes, levels, fills}
@@ -36,12 +36,15 @@ abbrev pub tally : (Fill → Bool) → List Fill → ℕ
 tally t [] = 0
 tally t (f ∷ fs) = cond (t f) (f .quantity) 0 + tally t fs
 
--- what a party trades, in all and below a price
+-- what a party trades: in all, below a price, and at a price
 abbrev pub got : ℕ → List Fill → ℕ
 got k fs = tally (λ f. eqb (f .party) k) fs
 
 abbrev pub gotBelow : ℕ → ℕ → List Fill → ℕ
 gotBelow k p fs = tally (λ f. eqb (f .party) k && ltb (f .price) p) fs
+
+abbrev pub gotAt : ℕ → ℕ → List Fill → ℕ
+gotAt k p fs = tally (λ f. eqb (f .party) k && eqb (f .price) p) fs
 
 -- what each response of a list trades
 abbrev pub gots : List Fill → List Response → List ℕ
@@ -127,9 +130,10 @@ pub record Demand3 (d : Deal) (b : Board) (fs : List Fill) : Type 0 where
   pub works-at : (r : Response) → In r (liveOf b) → Every (λ f. f .party ≡ r .sequence → f .price ≡ working d r) fs
   -- where anything trades at p, every response with a better working price is filled
   pub priority : (r : Response) → In r (liveOf b) → (p : ℕ) → 0 < soldAt p fs → working d r < p → got (r .sequence) fs ≡ r .size
-  -- Customers first: where one of the others trades, every Customer at its price is filled
+  -- Customers first: where one of the others or the Contra Order trades at a price, every Customer there is filled
   pub customers-first : (r k : Response) → In r (liveOf b) → In k (liveOf b) → r .customer ≡ false → k .customer ≡ true → working d k ≡ working d r
       → 0 < got (r .sequence) fs → got (k .sequence) fs ≡ k .size
+  pub customers-before-contra : (k : Response) → In k (liveOf b) → k .customer ≡ true → 0 < gotAt 0 (working d k) fs → got (k .sequence) fs ≡ k .size
   -- and by sequence: where a Customer trades, every earlier one at its price is filled
   pub by-sequence : (r k : Response) → In r (liveOf b) → In k (liveOf b) → r .customer ≡ true → k .customer ≡ true → working d k ≡ working d r
       → k .sequence < r .sequence → 0 < got (r .sequence) fs → got (k .sequence) fs ≡ k .size

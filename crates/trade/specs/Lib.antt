@@ -4,5 +4,3 @@ pub mod Demands
 pub mod Plan
 pub mod Write
 pub mod Code
-pub mod Examples
-pub mod Random

@@ -1,38 +1,16 @@
 // Who trades when an auction has ended, and the fills written of it.
 ghost use mathlib.Core.Path.{_≡_};
-ghost use mathlib.Core.List.{_++_};
 ghost use Prim.Native.Nat.{_+_, _*_, _≤_, _<_};
 ghost use lib.ListN.{length};
 ghost use Rattle.board.specs.Board.{liveIn, inSequence};
-ghost use Rattle.share.specs.Share.{sum};
+ghost use Rattle.board.specs.Lists.{sum};
 ghost use Rattle.share.specs.Fills.{sizes, Wrote};
 ghost use Rattle.trade.specs.Trade.{levelFills, flat, marketPrice, guarantee};
 ghost use Rattle.trade.specs.Write.{reported, fillsOf, answer, after};
 ghost use Rattle.trade.specs.Code.{sharedOf, placeFills, levelOf, Looks, Stepped, walkFrom};
 use board::Board;
 use board::Response;
-use numbers::contra_of;
-use numbers::entry_of;
-use numbers::going;
-use numbers::guarantee_of;
-use numbers::is_last;
-use numbers::left_of;
-use numbers::lesser;
-use numbers::matched;
-use numbers::shared_of;
-use numbers::shown_price;
-use numbers::top_of;
-use numbers::wanted;
-use numbers::wide;
-use numbers::working;
-use scan::at_price;
-use scan::customers_of;
-use scan::least_price;
-use scan::sizes_of;
 use words::bits;
-use write::put_fill;
-use write::write_shares;
-use write::write_turns;
 
 mod numbers;
 mod scan;
@@ -70,6 +48,20 @@ struct Price {
     last: bool,
 }
 
+// What stands at a price: the words of its Customers and of the others, and their sizes.
+struct Found {
+    customers: u64,
+    others: u64,
+    served: u64,
+    total: u64,
+}
+
+// What one is given, and what is left to give.
+struct Given {
+    quantity: u64,
+    left: u64,
+}
+
 // Where the walk stands: the lowest price to come, the places not yet walked, the size left, what the Contra Order holds, and the next word.
 struct Walked {
     from: u64,
@@ -84,23 +76,20 @@ fn level_at(d: Deal, places: [Response; 64], g: u64, s: Walked) -> Price
     requires { ⌜ g ≤ 4294967295 ⌝ }
     ensures { λ r. ⌜ Looks d places g s r ⌝ }
 {
-    let top = top_of(d);
-    let entry = entry_of(d);
-    let price = least_price(places, s.rest, d.bound, top);
-    let here = at_price(places, s.rest, d.bound, price);
-    let customers = customers_of(places, here);
-    let others = here - customers;
-    let served = sizes_of(places, customers);
-    let total = sizes_of(places, others);
-    let m = matched(d.mode, g, s.held, served + total);
-    let last = is_last(entry, top, price, s.left, served + total + m);
-    let want = wanted(last, entry, price, g, s.held, m);
+    let top = numbers::top_of(d);
+    let entry = numbers::entry_of(d);
+    let price = scan::least_price(places, s.rest, d.bound, top);
+    let f = scan::found_at(places, s.rest, d.bound, price);
+    let a = f.served + f.total;
+    let m = numbers::matched(d.mode, g, s.held, a);
+    let last = numbers::is_last(entry, top, price, s.left, a + m);
+    let want = numbers::wanted(last, entry, price, g, s.held, m);
     Price {
         price,
-        customers,
-        others,
-        served,
-        total,
+        customers: f.customers,
+        others: f.others,
+        served: f.served,
+        total: f.total,
         want,
         last,
     }
@@ -120,10 +109,10 @@ fn write_level(
     requires { ⌜ at + 3 * length (placeFills price left (inSequence (liveIn (l .customers) places)) contra (sharedOf left (l .served) (l .want)) (inSequence (liveIn (l .others) places))) ≤ length (now out) ⌝ }
     ensures { λ r. ⌜ Wrote (now (out .entry)) at (placeFills price left (inSequence (liveIn (l .customers) places)) contra (sharedOf left (l .served) (l .want)) (inSequence (liveIn (l .others) places))) r (now (out .exit)) ⌝ }
 {
-    let a = write_turns(places, l.customers, price, left, out, at);
-    let b = put_fill(out, a, 0, price, contra);
-    let shared = shared_of(left, l.served, l.want);
-    write_shares(places, l.others, price, shared, l.total, out, b)
+    let a = write::write_each(places, l.customers, price, true, 0, 0, left, out, at);
+    let b = write::put_fill(out, a, 0, price, contra);
+    let shared = numbers::shared_of(left, l.served, l.want);
+    write::write_shares(places, l.others, price, shared, l.total, out, b)
 }
 
 // A price is filled, and the walk stands after it.
@@ -134,12 +123,12 @@ fn turn(d: Deal, places: [Response; 64], g: u64, s: Walked, out: &mut [u32]) -> 
     ensures { λ r. ⌜ Wrote (now (out .entry)) (s .at) (reported (d .sell) (levelFills (levelOf d places g s))) (r .at) (now (out .exit)) ⌝ }
 {
     let l = level_at(d, places, g, s);
-    let contra = contra_of(s.left, l.served, l.total, l.want, l.last);
-    let left = left_of(s.left, l.served, l.total, l.want, l.last);
+    let contra = numbers::contra_of(s.left, l.served, l.total, l.want, l.last);
+    let left = numbers::left_of(s.left, l.served, l.total, l.want, l.last);
     let at = write_level(
         places,
         l,
-        shown_price(d.sell, l.price),
+        numbers::shown_price(d.sell, l.price),
         s.left,
         contra,
         out,
@@ -168,7 +157,7 @@ fn write_walk(
     requires { ⌜ at + 3 * length (reported (d .sell) (flat (walkFrom d (inSequence (liveIn live places)) 0 size 0))) ≤ length (now out) ⌝ }
     ensures { λ r. ⌜ Wrote (now (out .entry)) at (reported (d .sell) (flat (walkFrom d (inSequence (liveIn live places)) 0 size 0))) r (now (out .exit)) ⌝ }
 {
-    let top = top_of(d);
+    let top = numbers::top_of(d);
     let mut s = Walked {
         from: 0,
         rest: live,
@@ -176,7 +165,7 @@ fn write_walk(
         held: 0,
         at,
     };
-    while going(s.left, s.from, top) {
+    while numbers::going(s.left, s.from, top) {
         s = turn(d, places, g, s, out);
     }
     s.at
@@ -186,14 +175,14 @@ fn write_walk(
 fn market_price(d: Deal, places: [Response; 64], live: u64) -> u64
     ensures { λ r. ⌜ (r ≡ marketPrice d (inSequence (liveIn live places))) × (r ≤ 4294967295) ⌝ }
 {
-    let lowest = least_price(places, live, d.bound, top_of(d));
+    let lowest = scan::least_price(places, live, d.bound, numbers::top_of(d));
     if d.mode == 2 {
         if live == 0 {
-            return (wide(d.initiating) + wide(d.bound) + 1) / 2;
+            return (numbers::wide(d.initiating) + numbers::wide(d.bound) + 1) / 2;
         }
         return lowest;
     }
-    lesser(lowest, working(d.stop, d.bound))
+    numbers::lesser(lowest, numbers::working(d.stop, d.bound))
 }
 
 // All the fills, from the first of the lent words on. Answers the place after them.
@@ -202,12 +191,13 @@ fn write_all(d: Deal, b: Board, out: &mut [u32]) -> usize
     ensures { λ r. ⌜ Wrote (now (out .entry)) 0 (fillsOf d b) r (now (out .exit)) ⌝ }
 {
     let places = b.places;
-    let size = wide(d.size);
-    let takes = lesser(size, wide(d.selling));
-    let price = shown_price(d.sell, market_price(d, places, b.live));
-    let at = put_fill(out, 0, d.market, price, takes);
-    let g = guarantee_of(size, bits::ones(b.live));
-    write_walk(d, places, b.live, g, size - takes, out, at)
+    let size = numbers::wide(d.size);
+    let takes = numbers::lesser(size, numbers::wide(d.selling));
+    let left = size - takes;
+    let price = numbers::shown_price(d.sell, market_price(d, places, b.live));
+    let at = write::put_fill(out, 0, d.market, price, takes);
+    let g = numbers::guarantee_of(size, bits::ones(b.live));
+    write_walk(d, places, b.live, g, left, out, at)
 }
 
 // Writes the fills of an ended auction into the part of the lent words from `start` on, and counts them.

@@ -1,16 +1,13 @@
 // Looks over the places of a word, from the lowest up.
 ghost use mathlib.Core.Path.{_≡_};
-ghost use mathlib.Core.Bool.{cond};
-ghost use Prim.Native.Nat.{_*_, _/_, _≤_, _<_};
-ghost use Rattle.words.specs.Bits.{withBit};
-ghost use Rattle.board.specs.Board.{liveIn, wordOf};
-ghost use Rattle.share.specs.Share.{sum, floors};
+ghost use Prim.Native.Nat.{_+_, _*_, _/_, _≤_, _<_};
+ghost use Rattle.board.specs.Board.{liveIn};
+ghost use Rattle.board.specs.Lists.{sum};
+ghost use Rattle.share.specs.Share.{floors};
 ghost use Rattle.share.specs.Fills.{sizes};
-ghost use Rattle.trade.specs.Trade.{isCustomer};
-ghost use Rattle.trade.specs.Code.{leastOf, worksAt};
-use crate::numbers::lesser;
-use crate::numbers::wide;
-use crate::numbers::working;
+ghost use Rattle.trade.specs.Code.{leastOf, Adds, FoundAt};
+use crate::Found;
+use crate::numbers;
 use board::Response;
 use words::bits;
 
@@ -22,62 +19,53 @@ pub(crate) fn least_price(places: [Response; 64], word: u64, bound: u32, last: u
     let mut rest = word;
     while rest != 0 {
         let i = bits::first_set(rest) as usize;
-        best = lesser(working(places[i].price, bound), best);
+        best = numbers::lesser(numbers::working(places[i].price, bound), best);
         rest = bits::without_bit(rest, i);
     }
     best
 }
 
-// The word with place i, where it passed.
-fn sifted(passed: bool, kept: u64, i: usize) -> u64
-    ensures { λ r. ⌜ r ≡ cond passed (withBit kept i) kept ⌝ }
+// What a response at place i adds to what was found at the price p.
+fn found(f: Found, r: Response, bound: u32, p: u64, i: usize) -> Found
+    requires { ⌜ f .served + f .total ≤ 274877906880 ⌝ }
+    ensures { λ n. ⌜ Adds bound p r i f n ⌝ }
 {
-    if passed {
-        return bits::with_bit(kept, i);
+    if numbers::working(r.price, bound) != p {
+        return f;
     }
-    kept
+    if r.customer {
+        return Found {
+            customers: bits::with_bit(f.customers, i),
+            others: f.others,
+            served: f.served + numbers::wide(r.size),
+            total: f.total,
+        };
+    }
+    Found {
+        customers: f.customers,
+        others: bits::with_bit(f.others, i),
+        served: f.served,
+        total: f.total + numbers::wide(r.size),
+    }
 }
 
-// The places that work at the price p.
-pub(crate) fn at_price(places: [Response; 64], word: u64, bound: u32, p: u64) -> u64
-    ensures { λ r. ⌜ r ≡ wordOf (worksAt bound p) word places ⌝ }
+// The places that work at the price p: Customers and others, and their sizes.
+pub(crate) fn found_at(places: [Response; 64], word: u64, bound: u32, p: u64) -> Found
+    ensures { λ r. ⌜ FoundAt bound p places word r ⌝ }
 {
-    let mut kept: u64 = 0;
+    let mut f = Found {
+        customers: 0,
+        others: 0,
+        served: 0,
+        total: 0,
+    };
     let mut rest = word;
     while rest != 0 {
         let i = bits::first_set(rest) as usize;
-        kept = sifted(working(places[i].price, bound) == p, kept, i);
+        f = found(f, places[i], bound, p, i);
         rest = bits::without_bit(rest, i);
     }
-    kept
-}
-
-// The Customers' places.
-pub(crate) fn customers_of(places: [Response; 64], word: u64) -> u64
-    ensures { λ r. ⌜ r ≡ wordOf isCustomer word places ⌝ }
-{
-    let mut kept: u64 = 0;
-    let mut rest = word;
-    while rest != 0 {
-        let i = bits::first_set(rest) as usize;
-        kept = sifted(places[i].customer, kept, i);
-        rest = bits::without_bit(rest, i);
-    }
-    kept
-}
-
-// The sizes, summed.
-pub(crate) fn sizes_of(places: [Response; 64], word: u64) -> u64
-    ensures { λ r. ⌜ (r ≡ sum (sizes (liveIn word places))) × (r ≤ 274877906880) ⌝ }
-{
-    let mut total: u64 = 0;
-    let mut rest = word;
-    while rest != 0 {
-        let i = bits::first_set(rest) as usize;
-        total += wide(places[i].size);
-        rest = bits::without_bit(rest, i);
-    }
-    total
+    f
 }
 
 // The whole part of amount * size / total.
@@ -85,7 +73,7 @@ pub(crate) fn part_of(amount: u64, total: u64, size: u32) -> u64
     requires { ⌜ (amount ≤ 4294967295) × (amount < total) ⌝ }
     ensures { λ r. ⌜ (r ≡ amount * size / total) × (r ≤ size) × (size ≤ 4294967295) ⌝ }
 {
-    amount * wide(size) / total
+    amount * numbers::wide(size) / total
 }
 
 // The whole parts, summed.

@@ -1,18 +1,16 @@
 // Writes fills into lent words.
 ghost use mathlib.Core.Path.{_≡_};
-ghost use mathlib.Core.List.{_++_};
+ghost use mathlib.Core.Bool.{false};
 ghost use Prim.Native.Nat.{_+_, _*_, _≤_, _<_, min};
 ghost use lib.ListN.{length};
 ghost use Rattle.board.specs.Board.{liveIn, inSequence};
-ghost use Rattle.share.specs.Share.{sum, shares};
+ghost use Rattle.board.specs.Lists.{sum};
 ghost use Rattle.share.specs.Fills.{fillOf, sizes, Wrote};
-ghost use Rattle.trade.specs.Code.{turnFills, partFills, shareFills};
-use crate::numbers::lesser;
-use crate::numbers::wide;
-use crate::scan::part_of;
-use crate::scan::parts_of;
+ghost use Rattle.trade.specs.Code.{eachFills, shareFills, Gives};
+use crate::Given;
+use crate::numbers;
+use crate::scan;
 use board::Response;
-use board::first_in_sequence;
 use words::bits;
 
 // One fill of three words, and none where the quantity is zero. Answers the place after it.
@@ -31,33 +29,6 @@ pub(crate) fn put_fill(out: &mut [u32], at: usize, party: u32, price: u32, quant
     }
 }
 
-// The responses of the word by sequence, each as far as the amount goes.
-pub(crate) fn write_turns(
-    places: [Response; 64],
-    word: u64,
-    price: u32,
-    amount: u64,
-    out: &mut [u32],
-    at: usize,
-) -> usize
-    requires { ⌜ amount ≤ 4294967295 ⌝ }
-    requires { ⌜ at + 3 * length (turnFills price amount (inSequence (liveIn word places))) ≤ length (now out) ⌝ }
-    ensures { λ r. ⌜ Wrote (now (out .entry)) at (turnFills price amount (inSequence (liveIn word places))) r (now (out .exit)) ⌝ }
-{
-    let mut w = at;
-    let mut left = amount;
-    let mut rest = word;
-    while rest != 0 {
-        let i = first_in_sequence(places, rest);
-        let r = places[i];
-        let q = lesser(left, wide(r.size));
-        w = put_fill(out, w, r.sequence, price, q);
-        left -= q;
-        rest = bits::without_bit(rest, i);
-    }
-    w
-}
-
 // What a member of the size s is given of k leftovers: one, if there is one and it has a size.
 fn one_of(k: u64, s: u32) -> u64
     ensures { λ r. ⌜ r ≡ min k (min s 1) ⌝ }
@@ -71,37 +42,61 @@ fn one_of(k: u64, s: u32) -> u64
     1
 }
 
-// The responses of the word by sequence, each the whole part of its share, and one more while leftovers last.
-fn write_parts(
+// What one of this size gets of k, first come first, or the whole part of its share and one of k leftovers.
+fn given(turns: bool, amount: u64, total: u64, k: u64, size: u32) -> Given
+    requires { ⌜ (amount ≤ 4294967295) × (k ≤ 4294967295) × (turns ≡ false → amount < total) ⌝ }
+    ensures { λ g. ⌜ Gives turns amount total k size g ⌝ }
+{
+    if turns {
+        let q = numbers::lesser(k, numbers::wide(size));
+        return Given {
+            quantity: q,
+            left: k - q,
+        };
+    }
+    let one = one_of(k, size);
+    let part = scan::part_of(amount, total, size);
+    Given {
+        quantity: part + one,
+        left: k - one,
+    }
+}
+
+// The responses of the word by sequence, each with what it is given. A turn looks at one more place for the lowest sequence, or writes the fill of the place found.
+pub(crate) fn write_each(
     places: [Response; 64],
     word: u64,
     price: u32,
+    turns: bool,
     amount: u64,
     total: u64,
-    leftover: u64,
+    k: u64,
     out: &mut [u32],
     at: usize,
 ) -> usize
-    requires { ⌜ (amount ≤ 4294967295) × (amount < total) ⌝ }
-    requires { ⌜ at + 3 * length (partFills price amount total leftover (inSequence (liveIn word places))) ≤ length (now out) ⌝ }
-    ensures { λ r. ⌜ Wrote (now (out .entry)) at (partFills price amount total leftover (inSequence (liveIn word places))) r (now (out .exit)) ⌝ }
+    requires { ⌜ (amount ≤ 4294967295) × (k ≤ 4294967295) × (turns ≡ false → amount < total) ⌝ }
+    requires { ⌜ at + 3 * length (eachFills price turns amount total k (inSequence (liveIn word places))) ≤ length (now out) ⌝ }
+    ensures { λ r. ⌜ Wrote (now (out .entry)) at (eachFills price turns amount total k (inSequence (liveIn word places))) r (now (out .exit)) ⌝ }
 {
     let mut w = at;
-    let mut k = leftover;
+    let mut left = k;
     let mut rest = word;
+    let mut best = bits::first_set(word) as usize;
+    let mut unseen = bits::without_bit(word, best);
     while rest != 0 {
-        let i = first_in_sequence(places, rest);
-        let r = places[i];
-        let one = one_of(k, r.size);
-        w = put_fill(
-            out,
-            w,
-            r.sequence,
-            price,
-            part_of(amount, total, r.size) + one,
-        );
-        k -= one;
-        rest = bits::without_bit(rest, i);
+        if unseen != 0 {
+            let i = bits::first_set(unseen) as usize;
+            best = board::sooner(places[best].sequence, best, places[i].sequence, i);
+            unseen = bits::without_bit(unseen, i);
+            continue;
+        }
+        let r = places[best];
+        let g = given(turns, amount, total, left, r.size);
+        w = put_fill(out, w, r.sequence, price, g.quantity);
+        left = g.left;
+        rest = bits::without_bit(rest, best);
+        best = bits::first_set(rest) as usize;
+        unseen = bits::without_bit(rest, best);
     }
     w
 }
@@ -121,8 +116,8 @@ pub(crate) fn write_shares(
     ensures { λ r. ⌜ Wrote (now (out .entry)) at (shareFills price amount (inSequence (liveIn word places))) r (now (out .exit)) ⌝ }
 {
     if total <= amount {
-        return write_turns(places, word, price, amount, out, at);
+        return write_each(places, word, price, true, amount, total, amount, out, at);
     }
-    let leftover = amount - parts_of(places, word, amount, total);
-    write_parts(places, word, price, amount, total, leftover, out, at)
+    let leftover = amount - scan::parts_of(places, word, amount, total);
+    write_each(places, word, price, false, amount, total, leftover, out, at)
 }

@@ -39,6 +39,9 @@ wide-requires-2 c κs = search needs
 lesser-requires : tie.Need-lesser-requires
 lesser-requires c κs = search needs
 
+sub-left : tie.Need-sub-left
+sub-left c = search needs
+
 market-price-requires : tie.Need-market-price-requires
 market-price-requires c κs = search needs
 
@@ -57,9 +60,6 @@ ones-requires c κs = search needs
 
 guarantee-of-requires : tie.Need-guarantee-of-requires
 guarantee-of-requires c κs = search needs
-
-sub-write-walk : tie.Need-sub-write-walk
-sub-write-walk c = search needs
 
 write-walk-requires : tie.Need-write-walk-requires
 write-walk-requires c κs =
@@ -86,12 +86,12 @@ write-all-spec =
     wide-requires
     wide-requires-2
     lesser-requires
+    sub-left
     market-price-requires
     shown-price-requires
     put-fill-requires
     ones-requires
     guarantee-of-requires
-    sub-write-walk
     write-walk-requires
     same-length
     returns)

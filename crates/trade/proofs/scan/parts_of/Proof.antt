@@ -5,7 +5,8 @@ use lib.ListN.{length}
 use borrow.Author.Needs.{needs}
 use Rattle.words.proofs.BitLaws.{without-le}
 use Rattle.board.specs.Board.{liveIn}
-use Rattle.share.specs.Share.{sum, floors}
+use Rattle.board.specs.Lists.{sum}
+use Rattle.share.specs.Share.{floors}
 use Rattle.share.specs.Fills.{sizes}
 use Rattle.trade.proofs.CodeLaws.{Turn, turn-of, parts-turn, parts-none, count-turn, live-short}
 use Rattle.trade.proofs.scan.parts_of.Statement.{statement}

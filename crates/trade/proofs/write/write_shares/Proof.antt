@@ -1,17 +1,18 @@
 use mathlib.Core.Path.{ap}
 use Prim.Native.Nat.{ℕ, _-_}
 use native.Mathlib.Omega.{arith}
-use Rattle.trade.proofs.WriteLaws.{shares-all, shares-parts, parts-le}
 use Rattle.board.specs.Board.{liveIn}
+use Rattle.trade.proofs.WriteLaws.{shares-all, shares-parts, parts-le}
+use mathlib.Core.Bool.{true≢false}
 use borrow.Author.Needs.{needs}
 use Rattle.trade.proofs.write.write_shares.Statement.{statement}
 use Rattle.trade.proofs.write.write_shares.Tie as tie
 
-write-turns-requires : tie.Need-write-turns-requires
-write-turns-requires c κs =
+write-each-requires : tie.Need-write-each-requires
+write-each-requires c κs =
     let s = c .before .before .before in
     let a = s .args in
-    (s .pre .0 .0, rw (shares-all (a .price) (a .amount) (a .total) (liveIn (a .word) (a .places)) (s .pre .0 .1) (c .before .if1 .taken)) at (s .pre .1))
+    ((s .pre .0 .0, s .pre .0 .0, λ e. absurd (true≢false e)), rw (shares-all (a .price) (a .amount) (a .total) (liveIn (a .word) (a .places)) (s .pre .0 .1) (c .before .if1 .taken)) at (s .pre .1))
 
 same-length : tie.Need-same-length
 same-length c = search needs
@@ -20,7 +21,7 @@ returns : tie.Need-returns
 returns c =
     let s = c .before .before .before .before .before .before in
     let a = s .args in
-    rw (shares-all (a .price) (a .amount) (a .total) (liveIn (a .word) (a .places)) (s .pre .0 .1) (c .before .before .before .before .if1 .taken)) (c .before .before .write-turns .ensures)
+    rw (shares-all (a .price) (a .amount) (a .total) (liveIn (a .word) (a .places)) (s .pre .0 .1) (c .before .before .before .before .if1 .taken)) (c .before .before .write-each .ensures)
 
 parts-of-requires : tie.Need-parts-of-requires
 parts-of-requires c κs = search needs
@@ -31,11 +32,11 @@ sub-leftover c =
     let a = s .args in
     omega (arith, c .parts-of .ensures, parts-le (a .amount) (a .total) (liveIn (a .word) (a .places)) (s .pre .0 .1) (omega arith))
 
-write-parts-requires : tie.Need-write-parts-requires
-write-parts-requires c κs =
+write-each-requires-2 : tie.Need-write-each-requires-2
+write-each-requires-2 c κs =
     let s = c .before .before .before .before in
     let a = s .args in (
-      (s .pre .0 .0, omega arith),
+      (s .pre .0 .0, omega (arith, s .pre .0 .0), λ e. omega arith),
       rw (shares-parts (a .price) (a .amount) (a .total) _ (liveIn (a .word) (a .places)) (s .pre .0 .1) (omega arith) (ap (λ (n : ℕ). a .amount - n) (c .before .parts-of .ensures))) at (s .pre .1),
     )
 
@@ -46,17 +47,17 @@ returns-2 : tie.Need-returns-2
 returns-2 c =
     let s = c .before .before .before .before .before .before .before in
     let a = s .args in
-    rw (shares-parts (a .price) (a .amount) (a .total) _ (liveIn (a .word) (a .places)) (s .pre .0 .1) (omega arith) (ap (λ (n : ℕ). a .amount - n) (c .before .before .before .before .parts-of .ensures))) (c .before .before .write-parts .ensures)
+    rw (shares-parts (a .price) (a .amount) (a .total) _ (liveIn (a .word) (a .places)) (s .pre .0 .1) (omega arith) (ap (λ (n : ℕ). a .amount - n) (c .before .before .before .before .parts-of .ensures))) (c .before .before .write-each2 .ensures)
 
 pub write-shares-spec : {M : Type 1} → statement M
 write-shares-spec =
     tie.close
     (tie.spec
-    write-turns-requires
+    write-each-requires
     same-length
     returns
     parts-of-requires
     sub-leftover
-    write-parts-requires
+    write-each-requires-2
     same-length-2
     returns-2)

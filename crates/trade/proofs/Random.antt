@@ -4,13 +4,13 @@ use mathlib.Core.Bool.{Bool, true, false}
 use mathlib.Core.List.{List, [], _∷_, map}
 use Prim.Native.Nat.{ℕ}
 use Rattle.board.specs.declared.Response.{Response}
-use Rattle.board.specs.Lists.{filter}
+use Rattle.board.specs.Lists.{sum, filter}
 use Rattle.board.specs.Board.{liveIn, inserted, inSequence}
 use Rattle.share.specs.Share.{shares}
 use Rattle.share.specs.Fills.{words}
 use Rattle.trade.specs.Trade.{levelFills, guaranteeOf, top, entry, next, offersAt, matches, isFinal, wants, levelAt, walk, marketPrice, levels, fills}
 use Rattle.trade.specs.Write.{fillsOf}
-use Rattle.trade.specs.Examples.{Case, board, deal, ended}
+use Rattle.trade.proofs.Examples.{Case, board, deal, ended}
 
 abbrev response : ℕ → ℕ → ℕ → Bool → Response
 response k s p c = record { sequence = k; size = s; price = p; customer = c; gtx = true }
@@ -68,5 +68,5 @@ cases =
     ∷ []
 
 pub cases-hold : map (λ (c : Case). words (fillsOf (c .deal) (c .board))) cases ≡ map (λ (c : Case). c .want) cases
-unfolding cases filter liveIn inserted inSequence shares levelFills guaranteeOf top entry next offersAt matches isFinal wants levelAt walk marketPrice levels fills fillsOf
+unfolding sum cases filter liveIn inserted inSequence shares levelFills guaranteeOf top entry next offersAt matches isFinal wants levelAt walk marketPrice levels fills fillsOf
 cases-hold = refl

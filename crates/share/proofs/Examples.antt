@@ -2,6 +2,7 @@
 use mathlib.Core.Path.{_≡_, refl}
 use mathlib.Core.List.{List, [], _∷_, map}
 use Prim.Native.Nat.{ℕ}
+use Rattle.board.specs.Lists.{sum}
 use Rattle.share.specs.Share.{shares}
 
 pub record Case : Type 0 where
@@ -20,5 +21,5 @@ cases =
     ∷ []
 
 pub table : map (λ (c : Case). shares (c .count) (c .sizes)) cases ≡ map (λ (c : Case). c .want) cases
-unfolding shares
+unfolding sum shares
 table = refl

@@ -6,7 +6,7 @@ use Prim.Native.Nat.{ℕ, _-_, _^_}
 use lib.ListN.{length, replicate}
 use Rattle.board.specs.declared.Response.{Response}
 use Rattle.board.specs.declared.Board.{Board}
-use Rattle.board.specs.Lists.{filter}
+use Rattle.board.specs.Lists.{sum, filter}
 use Rattle.board.specs.Board.{noResponse, liveIn, inserted, inSequence}
 use Rattle.share.specs.Share.{shares}
 use Rattle.share.specs.Fills.{words}
@@ -69,5 +69,5 @@ figures =
     ∷ []
 
 pub figures-hold : map (λ (c : Case). words (fillsOf (c .deal) (c .board))) figures ≡ map (λ (c : Case). c .want) figures
-unfolding filter liveIn inserted inSequence shares levelFills guaranteeOf top entry next offersAt matches isFinal wants levelAt walk marketPrice levels fills fillsOf
+unfolding sum filter liveIn inserted inSequence shares levelFills guaranteeOf top entry next offersAt matches isFinal wants levelAt walk marketPrice levels fills fillsOf
 figures-hold = refl

@@ -1,0 +1,220 @@
+use mathlib.Core.Path.{_≡_, refl, ap}
+use mathlib.Core.List.{_++_}
+use Prim.Native.Nat.{_+_, _*_, _^_, _≤_, _<_}
+use native.Mathlib.Omega.{arith}
+use lib.ListN.{length, getD}
+use borrow.Author.Needs.{needs}
+use Rattle.words.specs.Bits.{withoutBit}
+use Rattle.words.proofs.BitLaws.{without-le, set-le}
+use Rattle.board.specs.Board.{noResponse, liveIn, inSequence}
+use Rattle.board.proofs.FirstLaws.{Best}
+use Rattle.share.specs.Fills.{fillOf}
+use Rattle.share.proofs.FillsLaws.{Left, left-start, left-turn, left-done}
+use Rattle.trade.specs.Code.{eachFills}
+use Rattle.trade.proofs.CodeLaws.{Turn, turn-of}
+use Rattle.trade.proofs.WriteLaws.{Pick, each-pick, each-none, hunt-start, hunt-step, hunt-end, gives-left}
+use lib.ListN.{length-append}
+use Rattle.trade.proofs.write.write_each.Statement.{statement}
+use Rattle.trade.proofs.write.write_each.Tie as tie
+
+abbrev Inv-loop : tie.InvT-loop
+Inv-loop word price turns amount total k out₀ at places w₀ left₀ rest₀ best₀ unseen₀ out w left rest best unseen =
+    (rest < 2 ^ 64)
+    × (unseen < 2 ^ 64)
+    × (left ≤ 4294967295)
+    × (length out ≡ length out₀)
+    × (0 < rest → Best places rest best unseen)
+    × Left out₀ at (eachFills price turns amount total k (inSequence (liveIn word places))) out w (eachFills price turns amount total left (inSequence (liveIn rest places)))
+
+abbrev μ-loop : tie.MeasureT-loop
+μ-loop word price turns amount total k out₀ at places w₀ left₀ rest₀ best₀ unseen₀ out w left rest best unseen =
+    rest * 18446744073709551616 + unseen
+
+first-set-requires : tie.Need-first-set-requires Inv-loop μ-loop
+first-set-requires c κs = search needs
+
+cast-best : tie.Need-cast-best Inv-loop μ-loop
+cast-best c = omega (arith, c .first-set .ensures, set-le 64 (c .before .before .args .word))
+
+without-bit-requires : tie.Need-without-bit-requires Inv-loop μ-loop
+without-bit-requires c κs = search needs
+
+len : (c : tie.Start Inv-loop μ-loop) → length (c .args .t1) ≡ 64
+len c = search needs
+
+-- the next place to look at
+look : (c : tie.After-first-set2 Inv-loop μ-loop) → Turn (c .before .before .before .before .before .before .before .args .t1) (c .before .before .before .loop .unseen) (c .first-set2 .result)
+look c = turn-of (c .before .before .before .before .before .before .before .args .t1) (c .before .before .before .loop .unseen) _ (len (c .before .before .before .before .before .before .before)) (omega arith) (c .before .before .before .loop .inv .1) (c .first-set2 .ensures)
+
+-- where all were looked at, the place found is the next in sequence
+pick : (c : tie.Else1 Inv-loop μ-loop) → Pick (c .before .before .before .before .before .before .args .t1) (c .before .before .loop .rest) (c .before .before .loop .best)
+pick c =
+    let l = c .before .before in
+    let p : 0 < l .loop .rest = omega arith in
+    hunt-end (c .before .before .before .before .before .before .args .t1) (len (c .before .before .before .before .before .before)) (l .loop .rest) (l .loop .best) (l .loop .unseen) p (l .loop .inv .0) (c .if1 .left) (l .loop .inv .4 p)
+
+-- what is still to be written: this response's fill, and the others'
+step : (c : tie.After-given Inv-loop μ-loop)
+    → eachFills (c .before .before .before .before .before .before .before .before .args .price) (c .before .before .before .before .before .before .before .before .args .turns) (c .before .before .before .before .before .before .before .before .args .amount) (c .before .before .before .before .before .before .before .before .args .total) (c .before .before .before .before .loop .left)
+    (inSequence (liveIn (c .before .before .before .before .loop .rest) (c .before .before .before .before .before .before .before .before .args .t1)))
+    ≡ fillOf (getD (c .before .before .before .before .before .before .before .before .args .t1) (c .before .before .before .before .loop .best) noResponse .sequence) (c .before .before .before .before .before .before .before .before .args .price) (c .given .result .quantity)
+    ++ eachFills (c .before .before .before .before .before .before .before .before .args .price) (c .before .before .before .before .before .before .before .before .args .turns) (c .before .before .before .before .before .before .before .before .args .amount) (c .before .before .before .before .before .before .before .before .args .total) (c .given .result .left)
+    (inSequence (liveIn (withoutBit (c .before .before .before .before .loop .rest) (c .before .before .before .before .loop .best)) (c .before .before .before .before .before .before .before .before .args .t1)))
+step c =
+    let l = c .before .before .before .before in
+    let a = c .before .before .before .before .before .before .before .before .args in
+    each-pick (a .price) (a .turns) (a .amount) (a .total) (l .loop .left) (a .t1) (l .loop .rest) (l .loop .best) (c .given .result) (pick (c .before .before)) (c .given .ensures)
+
+loop-holds : tie.Need-loop-holds Inv-loop μ-loop
+loop-holds c =
+    let s = c .before .before .before in
+    let a = s .args in
+    let f : a .word < 2 ^ 64 = search needs in
+    let e = c .without-bit .ensures in (
+      f,
+      rw e (omega (arith, without-le (a .word) (c .before .first-set .result))),
+      s .pre .0 .1,
+      refl,
+      λ p. rw e (hunt-start (a .t1) (len s) (a .word) _ p f (c .before .first-set .ensures)),
+      left-start _ _ _,
+    )
+
+first-set-requires-2 : tie.Need-first-set-requires-2 Inv-loop μ-loop
+first-set-requires-2 c κs = search needs
+
+cast-i : tie.Need-cast-i Inv-loop μ-loop
+cast-i c = omega (arith, look c .low)
+
+mul-sooner : tie.Need-mul-sooner Inv-loop μ-loop
+mul-sooner c = let l = c .before .before .before in omega (arith, l .loop .inv .4 (omega arith) .place, len (c .before .before .before .before .before .before .before))
+
+element-copy-out-sooner : tie.Need-element-copy-out-sooner Inv-loop μ-loop
+element-copy-out-sooner c = let l = c .before .before .before in omega (arith, l .loop .inv .4 (omega arith) .place, len (c .before .before .before .before .before .before .before))
+
+mul-sooner-2 : tie.Need-mul-sooner-2 Inv-loop μ-loop
+mul-sooner-2 c = omega (arith, look c .low)
+
+element-copy-out-sooner-2 : tie.Need-element-copy-out-sooner-2 Inv-loop μ-loop
+element-copy-out-sooner-2 c = look c .low
+
+sooner-requires : tie.Need-sooner-requires Inv-loop μ-loop
+sooner-requires c κs = search needs
+
+without-bit-requires-2 : tie.Need-without-bit-requires-2 Inv-loop μ-loop
+without-bit-requires-2 c κs = search needs
+
+loop-less : tie.Need-loop-less Inv-loop μ-loop
+loop-less c = rw (c .without-bit2 .ensures) (omega (arith, look (c .before .before) .less))
+
+loop-again : tie.Need-loop-again Inv-loop μ-loop
+loop-again c =
+    let d = c .before .before in
+    let l = d .before .before .before in
+    let s = l .before .before .before .before in
+    let a = s .args in
+    let e = c .without-bit2 .ensures in (
+      l .loop .inv .0,
+      rw e (omega (arith, without-le (l .loop .unseen) (d .first-set2 .result), l .loop .inv .1)),
+      l .loop .inv .2,
+      l .loop .inv .3,
+      λ p. rw e (hunt-step (a .t1) (len s) (l .loop .rest) (l .loop .best) (l .loop .unseen) _ _ (omega arith) (l .loop .inv .1) (d .first-set2 .ensures) (c .before .sooner .ensures) (l .loop .inv .4 p)),
+      l .loop .inv .5,
+    )
+
+mul-r : tie.Need-mul-r Inv-loop μ-loop
+mul-r c = omega (arith, pick c .low)
+
+array-copy-out-r : tie.Need-array-copy-out-r Inv-loop μ-loop
+array-copy-out-r c = pick c .low
+
+given-requires : tie.Need-given-requires Inv-loop μ-loop
+given-requires c κs =
+    let l = c .before .before .before in
+    let s = l .before .before .before .before in
+    (s .pre .0 .0, l .loop .inv .2, s .pre .0 .2)
+
+put-fill-requires : tie.Need-put-fill-requires Inv-loop μ-loop
+put-fill-requires c κs =
+    let g = c .before in
+    let l = g .before .before .before .before in
+    let s = l .before .before .before .before in
+    (g .given .ensures .small, omega (arith, l .loop .inv .3, l .loop .inv .5 .place, s .pre .1, simp length-append at (ap length (step g))))
+
+without-bit-requires-3 : tie.Need-without-bit-requires-3 Inv-loop μ-loop
+without-bit-requires-3 c κs = search needs
+
+first-set-requires-3 : tie.Need-first-set-requires-3 Inv-loop μ-loop
+first-set-requires-3 c κs = search needs
+
+cast-best-2 : tie.Need-cast-best-2 Inv-loop μ-loop
+cast-best-2 c = omega (arith, c .first-set3 .ensures, set-le 64 (c .before .without-bit3 .result))
+
+without-bit-requires-4 : tie.Need-without-bit-requires-4 Inv-loop μ-loop
+without-bit-requires-4 c κs = search needs
+
+loop-less-2 : tie.Need-loop-less-2 Inv-loop μ-loop
+loop-less-2 c =
+    let d = c .before .before .before .before .before .before .before .before .before in
+    let r = c .before .before .without-bit3 in
+    omega (arith, rw (← r .ensures) at (pick d .less), rw (← c .without-bit4 .ensures) at (without-le (r .result) (c .before .first-set3 .result)), d .before .before .loop .inv .0)
+
+loop-again-2 : tie.Need-loop-again-2 Inv-loop μ-loop
+loop-again-2 c =
+    let g = c .before .before .before .before .before .before .before in
+    let d = g .before .before in
+    let l = d .before .before in
+    let s = l .before .before .before .before in
+    let a = s .args in
+    let r = c .before .before .without-bit3 in
+    let f = c .before .before .before .before .before .put-fill in
+    let e = c .without-bit4 .ensures in
+    let small : r .result < 2 ^ 64 = rw (r .ensures) (omega (arith, without-le (l .loop .rest) (l .loop .best), l .loop .inv .0)) in (
+      small,
+      rw e (omega (arith, without-le (r .result) (c .before .first-set3 .result))),
+      omega (arith, gives-left (a .turns) (a .amount) (a .total) (l .loop .left) _ (g .given .result) (g .given .ensures), l .loop .inv .2),
+      omega (arith, f .kept .0, l .loop .inv .3),
+      λ p. rw e (hunt-start (a .t1) (len s) (r .result) _ p small (c .before .first-set3 .ensures)),
+      rw (r .ensures) (left-turn (rw (step g) at (l .loop .inv .5)) (f .ensures)),
+    )
+
+same-length : tie.Need-same-length Inv-loop μ-loop
+same-length c = search needs
+
+returns : tie.Need-returns Inv-loop μ-loop
+returns c =
+    let l = c .before in
+    let z : l .loop .rest ≡ 0 = omega arith in
+    left-done (rw (z, each-none) at (l .loop .inv .5))
+
+pub write-each-spec : {M : Type 1} → statement M
+write-each-spec =
+    tie.close
+    (tie.spec
+    Inv-loop
+    μ-loop
+    first-set-requires
+    cast-best
+    without-bit-requires
+    loop-holds
+    first-set-requires-2
+    cast-i
+    mul-sooner
+    element-copy-out-sooner
+    mul-sooner-2
+    element-copy-out-sooner-2
+    sooner-requires
+    without-bit-requires-2
+    loop-less
+    loop-again
+    mul-r
+    array-copy-out-r
+    given-requires
+    put-fill-requires
+    without-bit-requires-3
+    first-set-requires-3
+    cast-best-2
+    without-bit-requires-4
+    loop-less-2
+    loop-again-2
+    same-length
+    returns)

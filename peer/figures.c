@@ -1,0 +1,461 @@
+/* figures.c: the document's figures a to k and its listing, on both sides,
+ * and other listings worked out by hand from its sentences.
+ *
+ * Each case is one tape, and the listing that the document's words give it.
+ * Its mirror is made here, apart from the engine, and checked as well.
+ * "figures tape" writes the tape of the document's own listing. */
+#include "build.h"
+
+#include <stdio.h>
+#include <stdlib.h>
+#include <string.h>
+
+static int failed, passed;
+
+/* Quotes 100/110 on both markets, the middle of a day. */
+static struct peer_order buy(uint32_t size, uint32_t mode, uint32_t limit, uint32_t stop)
+{
+    struct peer_order o;
+
+    memset(&o, 0, sizeof o);
+    o.side = PEER_BUY;
+    o.mode = mode;
+    o.size = size;
+    o.limit = limit;
+    o.stop = stop;
+    o.nbb = o.bb = 100;
+    o.nbo = o.bo = 110;
+    o.time = 2000;
+    o.open = 1000;
+    o.close = 50000;
+    o.interval = 100;
+    return o;
+}
+
+static uint32_t turn(uint32_t p) { return 1000000 - p; }
+
+/* The wanted text turned to the other side, line by line. */
+static void turn_text(const char *text, char *out)
+{
+    char line[200], word1[40], word2[40];
+    unsigned a, b, c;
+
+    *out = 0;
+    while (*text) {
+        size_t n = strcspn(text, "\n");
+
+        memcpy(line, text, n);
+        line[n] = 0;
+        text += n + (text[n] == '\n');
+        if (sscanf(line, "AUCTION %39s size %u range %u to %u", word1, &a, &b, &c) == 4)
+            sprintf(line, "AUCTION %s size %u range %u to %u", strcmp(word1, "buy") ? "buy" : "sell", a, turn(c), turn(b));
+        else if (sscanf(line, "END %39s range %u to %u", word1, &a, &b) == 3)
+            sprintf(line, "END %s range %u to %u", word1, turn(b), turn(a));
+        else if (sscanf(line, "FILL %39s %u %u", word2, &a, &b) == 3)
+            sprintf(line, "FILL %s %u %u", word2, turn(a), b);
+        out += sprintf(out, "%s\n", line);
+    }
+}
+
+static void compare(const char *name, const char *side, const struct peer_order *o,
+                    const struct peer_event *e, int n, const char *want)
+{
+    unsigned char tape[4096];
+    char got[PEER_LISTING_MAX + 1];
+    size_t len = build_tape(tape, o, e, n);
+
+    got[peer_listing(tape, len, got)] = 0;
+    if (strcmp(got, want) == 0) {
+        passed++;
+        return;
+    }
+    failed++;
+    printf("FAILED %s (%s)\nwanted:\n%sgot:\n%s", name, side, want, got);
+}
+
+static void figure(const char *name, struct peer_order o, const struct peer_event *e, int n, const char *want)
+{
+    struct peer_event turned[100];
+    char text[4096];
+    int i;
+
+    compare(name, "as written", &o, e, n, want);
+    o = build_turn_order(o);
+    for (i = 0; i < n; i++)
+        turned[i] = build_turn_event(e[i]);
+    turn_text(want, text);
+    compare(name, "mirror", &o, turned, n, text);
+}
+
+#define SELL_GTX(seq, size, price) build_gtx(seq, 20, PEER_SELL, size, price, 0)
+#define BID(seq, size, price) build_limit(seq, 20, PEER_BUY, size, price, 0)
+
+/* The document's figures. */
+static void figures(void)
+{
+    struct peer_event e[8];
+    struct peer_order o;
+
+    e[0] = SELL_GTX(1, 30, 105);
+    e[1] = SELL_GTX(2, 60, 108);
+    e[2] = SELL_GTX(3, 40, 108);
+    figure("a", buy(100, 1, 110, 108), e, 3,
+           "AUCTION buy size 100 range 100 to 110\n"
+           "EVENT 1 taken\nEVENT 2 taken\nEVENT 3 taken\n"
+           "END time range 100 to 110\n"
+           "FILL 1 105 30\nFILL contra 108 40\nFILL 2 108 18\nFILL 3 108 12\nTOTAL 100\n");
+
+    e[0] = SELL_GTX(1, 31, 108);
+    e[1] = SELL_GTX(2, 30, 108);
+    e[2] = SELL_GTX(3, 30, 108);
+    figure("b", buy(100, 1, 110, 108), e, 3,
+           "AUCTION buy size 100 range 100 to 110\n"
+           "EVENT 1 taken\nEVENT 2 taken\nEVENT 3 taken\n"
+           "END time range 100 to 110\n"
+           "FILL contra 108 40\nFILL 1 108 21\nFILL 2 108 20\nFILL 3 108 19\nTOTAL 100\n");
+
+    e[0] = SELL_GTX(1, 3, 105);
+    e[1] = SELL_GTX(1, 3, 105);
+    figure("c", buy(10, 2, 110, 0), e, 2,
+           "AUCTION buy size 10 range 101 to 109\n"
+           "EVENT 1 taken\n"
+           "EVENT 1 refused 33\n"
+           "END time range 101 to 109\n"
+           "FILL contra 105 3\n"
+           "FILL 1 105 3\n"
+           "FILL contra 109 4\n"
+           "TOTAL 10\n");
+
+    e[0] = build_market(1, 20, PEER_SELL, 4, 0);
+    figure("d", buy(10, 2, 108, 0), e, 1,
+           "AUCTION buy size 10 range 101 to 108\n"
+           "EVENT 1 ended\n"
+           "END opposite range 101 to 108\n"
+           "FILL 1 105 4\nFILL contra 108 6\nTOTAL 10\n");
+
+    o = buy(10, 2, 102, 0);
+    o.side = PEER_SELL;
+    e[0] = build_market(1, 20, PEER_BUY, 4, 0);
+    figure("e", o, e, 1,
+           "AUCTION sell size 10 range 102 to 109\n"
+           "EVENT 1 ended\n"
+           "END opposite range 102 to 109\n"
+           "FILL 1 105 4\nFILL contra 102 6\nTOTAL 10\n");
+
+    e[0] = SELL_GTX(1, 1, 105);
+    figure("f", buy(1, 1, 110, 105), e, 1,
+           "AUCTION buy size 1 range 101 to 109\n"
+           "EVENT 1 taken\n"
+           "END time range 101 to 109\n"
+           "FILL contra 105 1\nTOTAL 1\n");
+
+    e[0] = BID(1, 5, 108);
+    figure("g, bid 108", buy(10, 2, 110, 0), e, 1,
+           "AUCTION buy size 10 range 101 to 109\n"
+           "EVENT 1 taken\n"
+           "END time range 109 to 109\n"
+           "FILL contra 109 10\nTOTAL 10\n");
+    e[0] = BID(1, 5, 109);
+    figure("g, bid 109", buy(10, 2, 110, 0), e, 1,
+           "AUCTION buy size 10 range 101 to 109\n"
+           "EVENT 1 ended\n"
+           "END improve range 101 to 109\n"
+           "FILL contra 109 10\nTOTAL 10\n");
+
+    e[0] = SELL_GTX(1, 20, 101);
+    e[1] = SELL_GTX(2, 80, 104);
+    e[2] = SELL_GTX(3, 30, 106);
+    figure("h", buy(200, 3, 110, 103), e, 3,
+           "AUCTION buy size 200 range 100 to 110\n"
+           "EVENT 1 taken\nEVENT 2 taken\nEVENT 3 taken\n"
+           "END time range 100 to 110\n"
+           "FILL 1 101 20\nFILL contra 104 80\nFILL 2 104 80\nFILL 3 106 20\nTOTAL 200\n");
+
+    o = buy(10, 1, 101, 100);
+    o.nbb = 100;
+    o.nbo = 101;
+    o.bb = 90;
+    o.bo = 110;
+    figure("i, stop 100", o, e, 0,
+           "AUCTION buy size 10 range 100 to 101\n"
+           "END time range 100 to 101\n"
+           "FILL contra 100 10\nTOTAL 10\n");
+    o.stop = 101;
+    figure("i, stop 101", o, e, 0, "REFUSED 12\n");
+
+    o = buy(49, 2, 101, 0);
+    o.nbb = o.bb = 100;
+    o.nbo = o.bo = 101;
+    figure("j, size 49", o, e, 0, "REFUSED 9\n");
+    o.size = 50;
+    figure("j, size 50", o, e, 0,
+           "AUCTION buy size 50 range 100 to 101\n"
+           "END time range 100 to 101\n"
+           "FILL contra 101 50\nTOTAL 50\n");
+
+    o = buy(10, 2, 110, 0);
+    o.close = 5000;
+    o.time = 3999;
+    figure("k, time 3,999", o, e, 0,
+           "AUCTION buy size 10 range 101 to 109\n"
+           "END time range 101 to 109\n"
+           "FILL contra 109 10\nTOTAL 10\n");
+    o.time = 4000;
+    figure("k, time 4,000", o, e, 0, "REFUSED 5\n");
+}
+
+/* Sentences of the document, worked out by hand. */
+static void readings(void)
+{
+    struct peer_event e[100];
+    struct peer_order o;
+    char text[4096], *p;
+    int i;
+
+    e[0] = SELL_GTX(1, 10, 95);
+    figure("a response below the bound works at the bound", buy(100, 1, 110, 108), e, 1,
+           "AUCTION buy size 100 range 100 to 110\n"
+           "EVENT 1 taken\n"
+           "END time range 100 to 110\n"
+           "FILL 1 100 10\nFILL contra 108 90\nTOTAL 100\n");
+
+    e[0] = SELL_GTX(1, 10, 105);
+    e[1] = build_cancel(2, 20, 1);
+    e[2] = e[0];
+    e[3] = build_cancel(3, 20, 1);
+    figure("a cancelled response's resend stays out", buy(100, 2, 110, 0), e, 4,
+           "AUCTION buy size 100 range 100 to 110\n"
+           "EVENT 1 taken\nEVENT 2 taken\nEVENT 1 refused 33\nEVENT 3 refused 37\n"
+           "END time range 100 to 110\n"
+           "FILL contra 110 100\nTOTAL 100\n");
+
+    e[0] = SELL_GTX(1, 100, 105);
+    e[1] = build_limit(2, 20, PEER_SELL, 100, 105, 0);
+    figure("a GTX is capped, a limit order isn't", buy(10, 1, 110, 105), e, 2,
+           "AUCTION buy size 10 range 101 to 109\n"
+           "EVENT 1 taken\nEVENT 2 taken\n"
+           "END time range 101 to 109\n"
+           "FILL contra 105 4\nFILL 1 105 1\nFILL 2 105 5\nTOTAL 10\n");
+
+    e[0] = SELL_GTX(1, 100, 108);
+    figure("half for Contra against one response", buy(100, 1, 110, 108), e, 1,
+           "AUCTION buy size 100 range 100 to 110\n"
+           "EVENT 1 taken\n"
+           "END time range 100 to 110\n"
+           "FILL contra 108 50\nFILL 1 108 50\nTOTAL 100\n");
+
+    e[0] = build_limit(1, 20, PEER_SELL, 30, 100, 0);
+    figure("a marketable limit order takes a place and ends it", buy(100, 1, 110, 108), e, 1,
+           "AUCTION buy size 100 range 100 to 110\n"
+           "EVENT 1 ended\n"
+           "END opposite range 100 to 110\n"
+           "FILL 1 100 30\nFILL contra 108 70\nTOTAL 100\n");
+
+    e[0] = build_market(1, 20, PEER_SELL, 30, 0);
+    figure("a market order at the stop", buy(100, 1, 110, 108), e, 1,
+           "AUCTION buy size 100 range 100 to 110\n"
+           "EVENT 1 ended\n"
+           "END opposite range 100 to 110\n"
+           "FILL 1 108 30\nFILL contra 108 70\nTOTAL 100\n");
+
+    e[0] = SELL_GTX(1, 20, 101);
+    e[1] = build_market(2, 20, PEER_SELL, 50, 0);
+    figure("a market order below the auto-match limit", buy(200, 3, 110, 103), e, 2,
+           "AUCTION buy size 200 range 100 to 110\n"
+           "EVENT 1 taken\nEVENT 2 ended\n"
+           "END opposite range 100 to 110\n"
+           "FILL 2 101 50\nFILL 1 101 20\nFILL contra 110 130\nTOTAL 200\n");
+
+    e[0] = build_gtx(1, 99, PEER_SELL, 10, 105, 0);
+    e[1] = build_gtx(2, 100, PEER_SELL, 10, 105, 0);
+    e[2] = build_gtx(3, 100, PEER_SELL, 10, 105, 0);
+    e[3] = build_gtx(4, 100, PEER_SELL, 0, 105, 0);
+    figure("the interval's end, and 31 before 32", buy(100, 1, 110, 108), e, 4,
+           "AUCTION buy size 100 range 100 to 110\n"
+           "EVENT 1 taken\nEVENT 2 late\nEVENT 3 refused 31\nEVENT 4 refused 31\n"
+           "END time range 100 to 110\n"
+           "FILL 1 105 10\nFILL contra 108 90\nTOTAL 100\n");
+
+    e[0] = build_quotes(1, 20, 105, 110, 105, 110, 0);
+    e[1] = BID(2, 5, 105);
+    e[2] = build_limit(3, 20, PEER_BUY, 5, 104, PEER_CUSTOMER);
+    e[3] = build_limit(4, 20, PEER_BUY, 5, 105, PEER_CUSTOMER);
+    figure("improve by a mark at an equal price", buy(100, 2, 105, 0), e, 4,
+           "AUCTION buy size 100 range 100 to 105\n"
+           "EVENT 1 taken\nEVENT 2 taken\nEVENT 3 taken\nEVENT 4 ended\n"
+           "END improve range 105 to 105\n"
+           "FILL contra 105 100\nTOTAL 100\n");
+
+    e[0] = build_quotes(1, 20, 105, 110, 105, 110, PEER_CUST_BB);
+    figure("improve by quotes leaves the old bound", buy(100, 2, 105, 0), e, 1,
+           "AUCTION buy size 100 range 100 to 105\n"
+           "EVENT 1 ended\n"
+           "END improve range 100 to 105\n"
+           "FILL contra 105 100\nTOTAL 100\n");
+
+    p = text + sprintf(text, "AUCTION buy size 100 range 100 to 110\n");
+    for (i = 0; i < 64; i++) {
+        e[i] = SELL_GTX((uint32_t)i + 1, 1, 109);
+        p += sprintf(p, "EVENT %d taken\n", i + 1);
+    }
+    e[64] = SELL_GTX(65, 1, 109);
+    e[65] = build_limit(66, 20, PEER_SELL, 1, 100, 0);
+    e[66] = build_limit(67, 20, PEER_SELL, 1, 111, 0);
+    e[67] = build_cancel(68, 20, 7);
+    e[68] = SELL_GTX(69, 1, 109);
+    p += sprintf(p, "EVENT 65 refused 38\nEVENT 66 refused 38\nEVENT 67 taken\nEVENT 68 taken\nEVENT 69 taken\n");
+    p += sprintf(p, "END time range 100 to 110\nFILL contra 108 100\nTOTAL 100\n");
+    figure("a full board", buy(100, 1, 110, 108), e, 69, text);
+
+    e[0] = build_limit(1, 20, PEER_SELL, 10, 105, 0);
+    e[1] = build_cancel(2, 20, 1);
+    e[2] = SELL_GTX(3, 1, 110);
+    e[3] = SELL_GTX(4, 1, 111);
+    e[4] = build_gtx(5, 20, PEER_BUY, 1, 111, 0);
+    e[5] = build_gtx(6, 19, PEER_SELL, 1, 105, 0);
+    e[6] = build_gtx(0, 20, PEER_SELL, 1, 105, 0);
+    figure("refused events", buy(100, 1, 110, 108), e, 7,
+           "AUCTION buy size 100 range 100 to 110\n"
+           "EVENT 1 taken\nEVENT 2 refused 37\nEVENT 3 taken\nEVENT 4 refused 36\nEVENT 5 refused 35\n"
+           "EVENT 6 refused 34\nEVENT 0 refused 33\n"
+           "END time range 100 to 110\n"
+           "FILL 1 105 10\nFILL contra 108 90\nTOTAL 100\n");
+
+    o = buy(100, 2, 110, 0);
+    o.bb = 95;
+    o.bo = 115;
+    e[0] = build_limit(1, 20, PEER_SELL, 10, 100, PEER_NON_ROUTABLE);
+    e[1] = build_limit(2, 20, PEER_BUY, 5, 110, PEER_NON_ROUTABLE);
+    e[2] = build_limit(3, 20, PEER_SELL, 7, 110, 0);
+    figure("non-routable orders look at the exchange's own quotes", o, e, 3,
+           "AUCTION buy size 100 range 100 to 110\n"
+           "EVENT 1 taken\nEVENT 2 taken\nEVENT 3 ended\n"
+           "END opposite range 110 to 110\n"
+           "FILL contra 110 83\nFILL 1 110 10\nFILL 3 110 7\nTOTAL 100\n");
+
+    e[0] = SELL_GTX(1, 30, 105);
+    e[1] = build_gtx(2, 20, PEER_SELL, 30, 105, PEER_CUSTOMER);
+    figure("Customers, Contra, others", buy(100, 2, 110, 0), e, 2,
+           "AUCTION buy size 100 range 100 to 110\n"
+           "EVENT 1 taken\nEVENT 2 taken\n"
+           "END time range 100 to 110\n"
+           "FILL 2 105 30\nFILL contra 105 40\nFILL 1 105 30\nTOTAL 100\n");
+
+    e[0] = SELL_GTX(1, 30, 105);
+    e[1] = build_market(2, 20, PEER_SELL, 40, 0);
+    figure("left is 2A", buy(100, 2, 110, 0), e, 2,
+           "AUCTION buy size 100 range 100 to 110\n"
+           "EVENT 1 taken\nEVENT 2 ended\n"
+           "END opposite range 100 to 110\n"
+           "FILL 2 105 40\nFILL contra 105 50\nFILL 1 105 10\nTOTAL 100\n");
+    e[0] = SELL_GTX(1, 29, 105);
+    figure("left is above 2A", buy(100, 2, 110, 0), e, 2,
+           "AUCTION buy size 100 range 100 to 110\n"
+           "EVENT 1 taken\nEVENT 2 ended\n"
+           "END opposite range 100 to 110\n"
+           "FILL 2 105 40\nFILL contra 105 29\nFILL 1 105 29\nFILL contra 110 2\nTOTAL 100\n");
+
+    e[0] = SELL_GTX(1, 80, 104);
+    e[1] = SELL_GTX(2, 10, 106);
+    e[2] = SELL_GTX(3, 30, 107);
+    figure("Contra holds G, and left is A", buy(200, 3, 110, 103), e, 3,
+           "AUCTION buy size 200 range 100 to 110\n"
+           "EVENT 1 taken\nEVENT 2 taken\nEVENT 3 taken\n"
+           "END time range 100 to 110\n"
+           "FILL contra 104 80\nFILL 1 104 80\nFILL 2 106 10\nFILL 3 107 30\nTOTAL 200\n");
+    e[1] = SELL_GTX(2, 10, 110);
+    figure("Contra holds G, the rest at the initiating price", buy(200, 3, 110, 103), e, 2,
+           "AUCTION buy size 200 range 100 to 110\n"
+           "EVENT 1 taken\nEVENT 2 taken\n"
+           "END time range 100 to 110\n"
+           "FILL contra 104 80\nFILL 1 104 80\nFILL contra 110 30\nFILL 2 110 10\nTOTAL 200\n");
+
+    o = buy(100, 2, 110, 0);
+    o.marks = PEER_CUST_BB;
+    figure("a Customer at BB", o, e, 0,
+           "AUCTION buy size 100 range 101 to 110\n"
+           "END time range 101 to 110\n"
+           "FILL contra 110 100\nTOTAL 100\n");
+    e[0] = BID(1, 5, 101);
+    figure("a higher bid without the mark", o, e, 1,
+           "AUCTION buy size 100 range 101 to 110\n"
+           "EVENT 1 taken\n"
+           "END time range 101 to 110\n"
+           "FILL contra 110 100\nTOTAL 100\n");
+    e[1] = build_limit(2, 20, PEER_BUY, 5, 102, PEER_CUSTOMER);
+    figure("a higher bid with the mark", o, e, 2,
+           "AUCTION buy size 100 range 101 to 110\n"
+           "EVENT 1 taken\nEVENT 2 taken\n"
+           "END time range 103 to 110\n"
+           "FILL contra 110 100\nTOTAL 100\n");
+}
+
+/* One tape whose bytes are given, and its whole listing. */
+static void bytes_give(const char *name, const unsigned char *tape, size_t n, const char *want)
+{
+    char got[PEER_LISTING_MAX + 1];
+
+    got[peer_listing(tape, n, got)] = 0;
+    if (strcmp(got, want) == 0) {
+        passed++;
+        return;
+    }
+    failed++;
+    printf("FAILED %s\nwanted:\n%sgot:\n%s", name, want, got);
+}
+
+/* The numbers 21, 22, 23 and the recorder's bytes. */
+static void tapes(void)
+{
+    static unsigned char t[PEER_TAPE_MAX + 64];
+    struct peer_order o = buy(10, 2, 110, 0);
+    const char *fine = "AUCTION buy size 10 range 101 to 109\nEND time range 101 to 109\nFILL contra 109 10\nTOTAL 10\n";
+    size_t n;
+
+    n = build_tape(t, &o, NULL, 0);
+    bytes_give("80 bytes", t, n, fine);
+    bytes_give("no bytes", t, 0, "REFUSED 21\n");
+    bytes_give("15 bytes", t, 15, "REFUSED 21\n");
+    bytes_give("16 bytes of an order", t, 16, "REFUSED 22\n");
+    bytes_give("a trailer alone", t + 64, 16, "REFUSED 23\n");
+    bytes_give("one byte short in front", t + 1, n - 1, "REFUSED 23\n");
+    build_trailer(t + 64, 1, 0);
+    bytes_give("the offset one too high", t, n, "REFUSED 23\n");
+    build_trailer(t + 64, 0, 1u << 27);
+    bytes_give("a sum that would wrap", t, n, "REFUSED 23\n");
+    build_trailer(t + 64, 0u - 32, 1);
+    bytes_give("an offset that would wrap", t, n, "REFUSED 23\n");
+    build_trailer(t + 64, 0, 0);
+    t[79] = 1;
+    bytes_give("the last word", t, n, "REFUSED 22\n");
+    t[79] = 0;
+    t[64] = 'c';
+    bytes_give("the first word", t, n, "REFUSED 22\n");
+
+    memset(t, 0xEE, sizeof t);
+    build_tape(t + PEER_TAPE_MAX - 80, &o, NULL, 0);
+    build_trailer(t + PEER_TAPE_MAX - 16, PEER_TAPE_MAX - 80, 0);
+    bytes_give("the greatest length", t, PEER_TAPE_MAX, fine);
+    build_tape(t + PEER_TAPE_MAX - 79, &o, NULL, 0);
+    build_trailer(t + PEER_TAPE_MAX - 15, PEER_TAPE_MAX - 79, 0);
+    bytes_give("one byte over", t, PEER_TAPE_MAX + 1, "REFUSED 21\n");
+}
+
+int main(int argc, char **argv)
+{
+    if (argc == 2 && strcmp(argv[1], "tape") == 0) {
+        unsigned char t[200];
+        struct peer_order o = buy(10, 2, 110, 0);
+        struct peer_event e[2];
+        size_t n;
+
+        e[0] = e[1] = SELL_GTX(1, 3, 105);
+        n = build_tape(t, &o, e, 2);
+        return fwrite(t, 1, n, stdout) == n ? EXIT_SUCCESS : EXIT_FAILURE;
+    }
+    figures();
+    readings();
+    tapes();
+    printf("figures: %d passed, %d failed\n", passed, failed);
+    return failed ? EXIT_FAILURE : EXIT_SUCCESS;
+}

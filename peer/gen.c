@@ -1,0 +1,1490 @@
+/* gen.c: random tapes aimed at the edges of the rules.
+ *
+ * A tape is drafted as a buy, and mirrored record by record for a sell, so
+ * that every edge is as common on either side. While drafting, the engine
+ * is run along as a guide to where the edges are. No expression draws two
+ * random numbers, since C leaves the order of the draws open. */
+#include "gen.h"
+
+#include "build.h"
+
+#include <string.h>
+
+/* ------------------------------------------------------------------ */
+/* Random numbers                                                     */
+
+struct rng {
+    uint64_t state;
+};
+
+static uint64_t next(struct rng *g)
+{
+    uint64_t z = g->state += 0x9E3779B97F4A7C15u;
+
+    z = (z ^ z >> 30) * 0xBF58476D1CE4E5B9u;
+    z = (z ^ z >> 27) * 0x94D049BB133111EBu;
+    return z ^ z >> 31;
+}
+
+/* 0 to n - 1 */
+static uint32_t below(struct rng *g, uint32_t n) { return (uint32_t)((next(g) >> 32) * n >> 32); }
+
+static uint32_t between(struct rng *g, uint32_t low, uint32_t high)
+{
+    return high <= low ? low : low + below(g, high - low + 1);
+}
+
+static int chance(struct rng *g, uint32_t percent) { return below(g, 100) < percent; }
+
+static int32_t pick_of(struct rng *g, const int32_t *list, size_t n) { return list[below(g, (uint32_t)n)]; }
+
+#define PICK(g, ...) \
+    pick_of(g, (const int32_t[]){ __VA_ARGS__ }, sizeof((const int32_t[]){ __VA_ARGS__ }) / sizeof(int32_t))
+
+static uint32_t clamp(int64_t n, int64_t low, int64_t high)
+{
+    return (uint32_t)(n < low ? low : n > high ? high : n);
+}
+
+static uint32_t as_price(int64_t n) { return clamp(n, 1, PEER_PRICE_MAX); }
+static uint32_t as_size(int64_t n) { return clamp(n, 1, PEER_SIZE_MAX); }
+
+/* A step away from an edge, most often none. */
+static int32_t step_off(struct rng *g) { return PICK(g, 0, 0, 0, 0, 0, -1, -1, -1, 1, 1, 1, 2, -2, 3, -5); }
+
+/* ------------------------------------------------------------------ */
+/* Orders, drafted as buys                                            */
+
+static uint32_t order_size(struct rng *g)
+{
+    switch (below(g, 8)) {
+    case 0: return between(g, 1, 9);
+    case 1: return between(g, 1, 49);
+    case 2: return (uint32_t)PICK(g, 1, 2, 3, 48, 49, 49);
+    case 3: return (uint32_t)PICK(g, 50, 50, 51, 52, 53, 99, 100);
+    case 4: return between(g, 50, 200);
+    case 5: return between(g, 200, 5000);
+    case 6: return (uint32_t)PICK(g, 100000, 99999, 50000, 65536, 99998);
+    default: return between(g, 5, 120);
+    }
+}
+
+/* What the order's words make, needed to place limit and stop near them. */
+static uint32_t bound_of(const struct peer_order *o)
+{
+    uint32_t b = o->bb + (o->size < 50 || (o->marks & PEER_CUST_BB) ? 1 : 0);
+
+    return b > o->nbb ? b : o->nbb;
+}
+
+static uint32_t init_of(const struct peer_order *o)
+{
+    uint32_t p = o->limit < o->nbo ? o->limit : o->nbo;
+
+    return o->size < 50 && o->bo - 1 < p ? o->bo - 1 : p;
+}
+
+/* How much room an order's range has. */
+enum room { ANY_ROOM, SOME_ROOM, WIDE_ROOM };
+
+static void draft_quotes_of_order(struct rng *g, struct peer_order *o, int room)
+{
+    uint32_t spread, kind = below(g, 12);
+
+    if (room == WIDE_ROOM)
+        spread = between(g, 66, 300);
+    else if (room == SOME_ROOM)
+        spread = between(g, 4, 30);
+    else
+        spread = (uint32_t)PICK(g, 1, 1, 2, 2, 3, 4, 5, 6, 8, 10, 10, 10, 20, 40);
+    if (kind == 0)
+        o->nbb = between(g, 1, 3);
+    else if (kind == 1)
+        o->nbb = PEER_PRICE_MAX - spread - below(g, 3);
+    else if (kind == 2)
+        o->nbb = between(g, 1, PEER_PRICE_MAX - spread);
+    else
+        o->nbb = between(g, 95, 105);
+    o->nbo = o->nbb + spread;
+    o->bb = clamp((int64_t)o->nbb - PICK(g, 0, 0, 0, 0, 0, 0, 1, 1, 2, 5, 10), 0, PEER_PRICE_MAX);
+    o->bo = clamp((int64_t)o->nbo + PICK(g, 0, 0, 0, 0, 0, 0, 1, 1, 2, 5, 10), 1, PEER_MIRROR);
+    if (chance(g, 7))
+        o->bb = 0;
+    if (chance(g, 7))
+        o->bo = PEER_MIRROR;
+}
+
+static void draft_limit_and_stop(struct rng *g, struct peer_order *o)
+{
+    uint32_t bound = bound_of(o), init;
+    int64_t p;
+
+    switch (below(g, 8)) {
+    case 0: p = bound; break;
+    case 1: p = (int64_t)bound + 1; break;
+    case 2: p = between(g, bound, o->nbo); break;
+    case 3: p = (int64_t)o->nbo - 1; break;
+    case 4: p = (int64_t)o->nbo + below(g, 6); break;
+    case 5: p = (int64_t)o->bo + PICK(g, -2, -1, 0, 1); break;
+    case 6: p = chance(g, 20) ? PEER_PRICE_MAX : o->nbo; break;
+    default: p = o->nbo; break;
+    }
+    o->limit = as_price(p);
+    init = init_of(o);
+    o->stop = 0;
+    if (o->mode == PEER_MATCH)
+        return;
+    switch (below(g, 8)) {
+    case 0: p = bound; break;
+    case 1: p = (int64_t)bound - between(g, 1, 5); break;
+    case 2: p = init; break;
+    case 3: p = (int64_t)init - 1; break;
+    case 4: p = (int64_t)bound + 1; break;
+    case 5: p = chance(g, 30) ? 1 : bound; break;
+    default: p = between(g, bound, init); break;
+    }
+    o->stop = as_price(p);
+}
+
+static void draft_times(struct rng *g, struct peer_order *o)
+{
+    switch (below(g, 6)) {
+    case 0:                                 /* at the open */
+        o->time = o->open = below(g, 1000000);
+        o->close = o->time + 20000;
+        break;
+    case 1:                                 /* the last time that passes */
+        o->open = below(g, 1000000);
+        o->time = o->open + below(g, 1000000);
+        o->close = o->time + 1001;
+        break;
+    case 2:                                 /* the end of the day */
+        o->close = PEER_TIME_MAX;
+        o->time = PEER_TIME_MAX - 1001 - below(g, 3);
+        o->open = chance(g, 50) ? 0 : o->time;
+        break;
+    case 3:                                 /* the start of the day */
+        o->open = o->time = 0;
+        o->close = between(g, 1001, 5000);
+        break;
+    default:
+        o->open = 34200000;
+        o->close = 57600000;
+        o->time = between(g, o->open, o->close - 1001);
+        break;
+    }
+    switch (below(g, 4)) {
+    case 0: o->interval = 100; break;
+    case 1: o->interval = 1000; break;
+    case 2: o->interval = (uint32_t)PICK(g, 101, 200, 500, 999); break;
+    default: o->interval = between(g, 100, 1000); break;
+    }
+}
+
+static struct peer_order draft_order(struct rng *g, uint32_t mode, int room)
+{
+    struct peer_order o;
+
+    memset(&o, 0, sizeof o);
+    o.side = PEER_BUY;
+    o.mode = mode;
+    o.size = order_size(g);
+    if (room == WIDE_ROOM)
+        o.size = (uint32_t)PICK(g, 1000, 2000, 10000, 100000, 300, 130, 128);
+    draft_quotes_of_order(g, &o, room);
+    if (chance(g, 25))
+        o.marks |= PEER_CUST_BB;
+    if (chance(g, 25))
+        o.marks |= PEER_CUST_BO;
+    draft_limit_and_stop(g, &o);
+    if (room != ANY_ROOM) {
+        o.limit = o.nbo - (room == SOME_ROOM ? below(g, 2) : 0);
+        if (mode != PEER_MATCH && chance(g, 60)) {
+            uint32_t off = room == SOME_ROOM ? below(g, 4) : 0;
+
+            o.stop = mode == PEER_STOP ? init_of(&o) - off : bound_of(&o) + off;
+        }
+    }
+    draft_times(g, &o);
+    return o;
+}
+
+static struct peer_order good_order(struct rng *g, uint32_t mode, int room)
+{
+    struct peer_order o;
+    struct peer_auction a;
+
+    do
+        o = draft_order(g, mode, room);
+    while (peer_accept(&o, &a) != 0);
+    return o;
+}
+
+/* Makes one number of 2 to 12 come true of an order, or nearly. */
+static void spoil_order(struct rng *g, struct peer_order *o, int number)
+{
+    switch (number) {
+    case 2:
+        if (chance(g, 50))
+            o->bb = o->nbb + (uint32_t)PICK(g, 1, 1, 1, 2);
+        else
+            o->bo = o->nbo - (uint32_t)PICK(g, 1, 1, 1, 2);
+        if (o->bb > PEER_PRICE_MAX)
+            o->bb = PEER_PRICE_MAX;
+        if (o->bo < 1 || o->bo > PEER_MIRROR)
+            o->bo = 1;
+        break;
+    case 3:
+        o->size = 0;
+        break;
+    case 4:
+        o->open = o->time + (uint32_t)PICK(g, 1, 1, 1, 2, 100);
+        if (o->close <= o->open)
+            o->close = o->open + 5000;
+        break;
+    case 5:
+        o->close = o->time + (uint32_t)PICK(g, 1000, 1000, 1000, 999, 500, 1);
+        if (chance(g, 15))
+            o->close = o->time;
+        break;
+    case 6:
+        o->marks |= PEER_HALTED;
+        break;
+    case 7:
+        o->marks |= PEER_OTHER_OPEN;
+        break;
+    case 8:
+        o->nbb = o->nbo + (uint32_t)PICK(g, 0, 0, 0, 1, 2);
+        if (o->bb > o->nbb || chance(g, 50))
+            o->bb = o->nbb;
+        break;
+    case 9:
+        o->size = (uint32_t)PICK(g, 1, 10, 48, 49, 49);
+        o->nbo = o->bo = o->nbb + 1;
+        o->bb = o->nbb;
+        break;
+    case 10:
+        o->limit = as_price((int64_t)bound_of(o) - PICK(g, 1, 1, 1, 1, 2, 10));
+        break;
+    case 11:
+        if (o->mode != PEER_MATCH)
+            o->stop = as_price((int64_t)init_of(o) + PICK(g, 1, 1, 1, 1, 2, 10));
+        break;
+    case 12:
+        o->size = (uint32_t)PICK(g, 1, 10, 48, 49, 49);
+        o->nbo = o->nbb + 1;
+        o->bb = clamp((int64_t)o->nbb - PICK(g, 0, 1, 1, 10), 0, PEER_PRICE_MAX);
+        o->bo = clamp((int64_t)o->nbo + PICK(g, 1, 1, 2, 10), 1, PEER_MIRROR);
+        o->limit = as_price((int64_t)o->nbo + PICK(g, 0, 0, 1, 5));
+        if (o->mode != PEER_MATCH)
+            o->stop = o->nbo;
+        break;
+    }
+}
+
+/* An order refused by the number; often others are true of it also. */
+static struct peer_order refused_order(struct rng *g, uint32_t mode, int number)
+{
+    struct peer_order o;
+    struct peer_auction a;
+    int tries = 0;
+
+    do {
+        o = draft_order(g, mode, ANY_ROOM);
+        if (number < 12 && chance(g, 50))
+            spoil_order(g, &o, number + 1); /* the very next is true as well */
+        else if (number < 12 && chance(g, 40))
+            spoil_order(g, &o, (int)between(g, (uint32_t)number + 1, 12));
+        spoil_order(g, &o, number);
+    } while (peer_accept(&o, &a) != number && ++tries < 1000);
+    return o;
+}
+
+/* Order fields at their bounds and just past them: place, bytes, value. */
+static const struct {
+    unsigned char at, bytes;
+    uint32_t value;
+} order_edge[] = {
+    { 0, 1, 0 }, { 0, 1, 3 }, { 0, 1, 129 }, { 1, 1, 0 }, { 1, 1, 4 }, { 1, 1, 255 },
+    { 2, 1, 16 }, { 2, 1, 32 }, { 2, 1, 64 }, { 2, 1, 128 }, { 2, 1, 12 }, { 3, 1, 1 }, { 3, 1, 128 },
+    { 4, 4, 1 }, { 4, 4, 49 }, { 4, 4, 50 }, { 4, 4, 100000 }, { 4, 4, 100001 }, { 4, 4, UINT32_MAX },
+    { 8, 4, 0 }, { 8, 4, 1 }, { 8, 4, 999999 }, { 8, 4, 1000000 }, { 8, 4, UINT32_MAX },
+    { 12, 4, 0 }, { 12, 4, 1 }, { 12, 4, 999999 }, { 12, 4, 1000000 }, { 12, 4, UINT32_MAX },
+    { 16, 4, 0 }, { 16, 4, 1 }, { 16, 4, 999999 }, { 16, 4, 1000000 },
+    { 20, 4, 0 }, { 20, 4, 1 }, { 20, 4, 999999 }, { 20, 4, 1000000 },
+    { 24, 4, 0 }, { 24, 4, 999999 }, { 24, 4, 1000000 }, { 24, 4, UINT32_MAX },
+    { 28, 4, 0 }, { 28, 4, 1 }, { 28, 4, 1000000 }, { 28, 4, 1000001 }, { 28, 4, UINT32_MAX },
+    { 32, 4, 0 }, { 32, 4, 86400000 }, { 32, 4, 86400001 }, { 32, 4, UINT32_MAX },
+    { 36, 4, 0 }, { 36, 4, 86400000 }, { 36, 4, 86400001 },
+    { 40, 4, 0 }, { 40, 4, 86400000 }, { 40, 4, 86400001 }, { 40, 4, UINT32_MAX },
+    { 44, 4, 99 }, { 44, 4, 100 }, { 44, 4, 1000 }, { 44, 4, 1001 }, { 44, 4, 0 }, { 44, 4, UINT32_MAX },
+    { 48, 1, 1 }, { 49, 1, 128 }, { 55, 1, 1 }, { 56, 1, 255 }, { 62, 1, 1 }, { 63, 1, 1 }, { 63, 1, 128 }
+};
+
+enum { ORDER_EDGES = sizeof order_edge / sizeof order_edge[0] };
+
+/* Takes one field of an order's bytes to its bounds or just past them. */
+static void damage_order(unsigned char *p, uint32_t k)
+{
+    k %= ORDER_EDGES + 1;
+    if (k == ORDER_EDGES)
+        memcpy(p + 36, p + 40, 4);          /* open and close the same */
+    else if (order_edge[k].bytes == 1)
+        p[order_edge[k].at] = (unsigned char)order_edge[k].value;
+    else
+        build_word(p + order_edge[k].at, order_edge[k].value);
+}
+
+/* ------------------------------------------------------------------ */
+/* Events, drafted as of a buy                                        */
+
+/* What a tape is to look like. */
+enum plan_body {
+    BODY_NONE, BODY_ONE, BODY_SHARE, BODY_LEVELS, BODY_FULL, BODY_BOUND, BODY_MIX, BODY_DAMAGED, BODY_LONG
+};
+
+enum plan_ending {
+    END_LATE, END_CLOSE, END_SAME_LIMIT, END_SAME_MARKET, END_OPP_LIMIT, END_OPP_MARKET,
+    END_IMPROVE_BID, END_IMPROVE_QUOTES, END_KINDS
+};
+
+struct draft {
+    struct rng g;
+    int sell;
+    struct peer_auction a;                  /* the guide */
+    unsigned char bytes[PEER_EVENTS_MAX * PEER_EVENT_BYTES];
+    int n;
+    uint32_t last_seq;                      /* the highest sent, taken or not */
+    uint32_t customers;                     /* per cent of responses */
+    uint32_t market;                        /* size planned for the market order that ends it */
+};
+
+static void send_bytes(struct draft *d, const unsigned char *p)
+{
+    struct peer_event e;
+
+    if (d->n == PEER_EVENTS_MAX)
+        return;
+    memcpy(d->bytes + PEER_EVENT_BYTES * d->n++, p, PEER_EVENT_BYTES);
+    peer_read_event(p, &e);
+    peer_step(&d->a, &e);
+    if (e.seq > d->last_seq)
+        d->last_seq = e.seq;
+}
+
+/* The bytes of an event drafted as of a buy. */
+static void to_bytes(const struct draft *d, const struct peer_event *e, unsigned char *p)
+{
+    struct peer_event m = d->sell && peer_event_form(e) ? build_turn_event(*e) : *e;
+
+    build_event(p, &m);
+}
+
+static void send_event(struct draft *d, const struct peer_event *e)
+{
+    unsigned char p[PEER_EVENT_BYTES];
+
+    to_bytes(d, e, p);
+    send_bytes(d, p);
+}
+
+/* How the auction would stand after the bytes. */
+static int ending_after(const struct draft *d, const unsigned char *p)
+{
+    struct peer_auction a = d->a;
+    struct peer_event e;
+
+    peer_read_event(p, &e);
+    peer_step(&a, &e);
+    return a.ending;
+}
+
+/* The next sequence and time, written into an event. */
+static struct peer_event stamp(struct draft *d, struct peer_event e)
+{
+    uint32_t last_ms = d->a.order.interval - 1;
+    uint32_t t = d->a.clock;
+
+    e.seq = d->last_seq + (uint32_t)PICK(&d->g, 1, 1, 1, 1, 1, 2, 3);
+    if (d->last_seq < 1000 && below(&d->g, 500) == 0)
+        e.seq += 0x80000000u + below(&d->g, 1000);      /* half way round */
+    switch (below(&d->g, 10)) {
+    case 0:
+        t += below(&d->g, 40);
+        break;
+    case 1:
+        t = chance(&d->g, 10) ? last_ms : t + 1;
+        break;
+    case 2: case 3: case 4:
+        t += below(&d->g, 4);
+        break;
+    }
+    e.time = t > last_ms ? last_ms : t;
+    return e;
+}
+
+/* A price at or close to an edge of the auction. */
+static uint32_t edge_price(struct draft *d)
+{
+    const struct peer_auction *a = &d->a;
+    uint32_t p;
+
+    switch (below(&d->g, 13)) {
+    case 0: case 1: p = a->bb; break;
+    case 2: case 3: p = a->nbb; break;
+    case 4: case 5: p = a->nbo; break;
+    case 6: p = a->bo; break;
+    case 7: p = peer_bound(a); break;
+    case 8: case 9: p = a->init; break;
+    case 10: p = a->order.stop ? a->order.stop : a->init; break;
+    case 11: p = a->nbb_start; break;
+    default: p = chance(&d->g, 50) ? 1 : PEER_PRICE_MAX; break;
+    }
+    return as_price((int64_t)p + step_off(&d->g));
+}
+
+/* A price at which a response can stand, often one already taken. */
+static uint32_t response_price(struct draft *d)
+{
+    const struct peer_auction *a = &d->a;
+    uint32_t bound = peer_bound(a);
+    int64_t p;
+
+    if (a->n_live > 0 && chance(&d->g, 40))
+        return a->live[below(&d->g, (uint32_t)a->n_live)].price;
+    switch (below(&d->g, 9)) {
+    case 0: p = a->init; break;
+    case 1: p = (int64_t)a->init - 1; break;
+    case 2: p = bound; break;
+    case 3: p = (int64_t)bound - below(&d->g, 3); break;
+    case 4: p = (int64_t)a->order.stop + PICK(&d->g, 0, 0, 0, -1, 1); break;
+    case 5: p = chance(&d->g, 20) ? 1 : bound + 1; break;
+    default: p = between(&d->g, bound, a->init); break;
+    }
+    return clamp(p, 1, a->init);
+}
+
+static uint32_t response_size(struct draft *d)
+{
+    uint32_t size = d->a.order.size;
+
+    switch (below(&d->g, 12)) {
+    case 0: return 1;
+    case 1: return size;
+    case 2: return as_size((int64_t)size + PICK(&d->g, -1, 1));
+    case 3: return as_size(size / 2);
+    case 4: return as_size(size / 3);
+    case 5: return as_size((int64_t)(size * 40 / 100) + PICK(&d->g, -1, 0, 1));
+    case 6: return (uint32_t)PICK(&d->g, 100000, 99999, 49, 50);
+    case 7: return between(&d->g, 10, 60);
+    case 8: return between(&d->g, 1, as_size(size));
+    default: return between(&d->g, 1, 9);
+    }
+}
+
+static uint32_t response_mark(struct draft *d) { return chance(&d->g, d->customers) ? PEER_CUSTOMER : 0; }
+
+/* A response of a size and price: a GTX, or now and then a limit order. */
+static struct peer_event response(struct draft *d, uint32_t size, uint32_t price)
+{
+    uint32_t marks = response_mark(d);
+    uint32_t best = d->a.nbb;
+
+    if (chance(&d->g, 15)) {
+        if (chance(&d->g, 40)) {
+            marks |= PEER_NON_ROUTABLE;
+            best = d->a.bb;
+        }
+        if (price > best)
+            return stamp(d, build_limit(0, 0, PEER_SELL, size, price, marks));
+    }
+    return stamp(d, build_gtx(0, 0, PEER_SELL, size, price, marks & PEER_CUSTOMER));
+}
+
+static struct peer_event any_response(struct draft *d)
+{
+    uint32_t size = response_size(d);
+    uint32_t price = response_price(d);
+
+    return response(d, size, price);
+}
+
+static struct peer_event any_limit(struct draft *d, uint32_t side)
+{
+    uint32_t price = edge_price(d);
+    uint32_t size = response_size(d);
+    uint32_t marks = below(&d->g, 4);
+
+    return stamp(d, build_limit(0, 0, side, size, price, marks));
+}
+
+static struct peer_event any_market(struct draft *d, uint32_t side)
+{
+    uint32_t size = response_size(d);
+    uint32_t marks = below(&d->g, 2);
+
+    if (side == PEER_SELL && d->market > 0 && chance(&d->g, 90))
+        size = d->market;
+    return stamp(d, build_market(0, 0, side, size, marks));
+}
+
+static struct peer_event any_quotes(struct draft *d)
+{
+    const struct peer_auction *a = &d->a;
+    uint32_t nbb = a->nbb, nbo = a->nbo, bb = a->bb, bo = a->bo;
+    uint32_t marks = below(&d->g, 4) << 2;
+
+    switch (below(&d->g, 8)) {
+    case 0:                                 /* all four near edges; they may cross */
+        nbb = edge_price(d);
+        nbo = edge_price(d);
+        bb = edge_price(d);
+        bo = edge_price(d);
+        break;
+    case 1:                                 /* the exchange bid about the initiating price */
+    case 2:
+        bb = clamp((int64_t)a->init + PICK(&d->g, -2, -1, -1, -1, 0, 0, 0, 1), 0, PEER_PRICE_MAX);
+        if (chance(&d->g, 50))
+            nbb = as_price(bb);
+        break;
+    case 3:                                 /* the national bid above the initiating price */
+        nbb = as_price((int64_t)a->init + PICK(&d->g, 0, 1, 1, 2, 3));
+        break;
+    case 4:                                 /* room above the initiating price */
+        nbo = as_price((int64_t)a->init + PICK(&d->g, 0, 1, 2, 3, 10));
+        bo = clamp((int64_t)nbo + PICK(&d->g, 0, 0, 1, 5), 1, PEER_MIRROR);
+        break;
+    case 5:                                 /* no exchange bid, no exchange offer */
+        if (chance(&d->g, 60))
+            bb = 0;
+        if (chance(&d->g, 60))
+            bo = PEER_MIRROR;
+        break;
+    case 6:                                 /* the exchange bid about the present bound */
+        bb = clamp((int64_t)peer_bound(a) + step_off(&d->g), 0, PEER_PRICE_MAX);
+        break;
+    default:                                /* only the marks change */
+        break;
+    }
+    return stamp(d, build_quotes(0, 0, nbb, nbo, bb, bo, marks));
+}
+
+static uint32_t seq_of_sent(const struct draft *d, int i)
+{
+    struct peer_event e;
+
+    peer_read_event(d->bytes + PEER_EVENT_BYTES * i, &e);
+    return e.seq;
+}
+
+static struct peer_event any_cancel(struct draft *d)
+{
+    struct peer_event e = stamp(d, build_cancel(0, 0, 0));
+    const struct peer_auction *a = &d->a;
+    uint32_t which = 0;
+    int i;
+
+    switch (below(&d->g, 10)) {
+    case 0:                                 /* any sent: live, dead or never a response */
+    case 1:
+        if (d->n > 0)
+            which = seq_of_sent(d, (int)below(&d->g, (uint32_t)d->n));
+        break;
+    case 2:                                 /* never seen */
+        which = d->last_seq + between(&d->g, 1, 5);
+        break;
+    case 3:                                 /* odd numbers, and its own */
+        which = chance(&d->g, 50) ? e.seq : chance(&d->g, 50) ? 0 : UINT32_MAX;
+        break;
+    case 4:                                 /* a limit order that took a place */
+        for (i = 0; i < a->n_live; i++)
+            if (!a->live[i].gtx)
+                which = a->live[i].seq;
+        break;
+    default:                                /* a live one */
+        if (a->n_live > 0)
+            which = a->live[below(&d->g, (uint32_t)a->n_live)].seq;
+        break;
+    }
+    e.field[0] = which;
+    return e;
+}
+
+static struct peer_event any_event(struct draft *d)
+{
+    switch (below(&d->g, 16)) {
+    case 0: case 1: case 2: case 3: case 4:
+        return any_response(d);
+    case 5: case 6:
+        return any_cancel(d);
+    case 7: case 8:
+        return any_limit(d, PEER_SELL);
+    case 9: case 10: case 11:
+        return any_limit(d, PEER_BUY);
+    case 12:
+        return any_market(d, chance(&d->g, 50) ? PEER_BUY : PEER_SELL);
+    default:
+        return any_quotes(d);
+    }
+}
+
+static struct peer_event event_of_kind(struct draft *d, uint32_t kind)
+{
+    uint32_t side = between(&d->g, 1, 2);
+
+    switch (kind) {
+    case PEER_GTX: return any_response(d);
+    case PEER_CANCEL: return any_cancel(d);
+    case PEER_LIMIT: return any_limit(d, side);
+    case PEER_MARKET: return any_market(d, side);
+    default: return any_quotes(d);
+    }
+}
+
+/* Takes one field of an event's bytes to its bounds or just past them. */
+static void damage_event(struct rng *g, unsigned char *p)
+{
+    uint32_t kind = p[8];
+    int k;
+
+    switch (below(g, 11)) {
+    case 0:
+        p[8] = (unsigned char)PICK(g, 0, 6, 6, 255);
+        break;
+    case 1:
+        p[9] = (unsigned char)(p[9] | 1 << below(g, 8));
+        break;
+    case 2:
+        p[10] = (unsigned char)PICK(g, 0, 1, 2, 3, 3, 255);
+        break;
+    case 3:
+        p[11] = (unsigned char)PICK(g, 1, 128, 255);
+        break;
+    case 4:
+        k = (int)between(g, 28, 31);
+        p[k] = (unsigned char)PICK(g, 1, 128, 255);
+        break;
+    case 5:
+        build_word(p + 4, (uint32_t)PICK(g, 86400001, 86400001, -1, 86400000));
+        break;
+    case 6:                                 /* size, in three kinds */
+    case 7:                                 /* price, in two kinds */
+        if (kind == PEER_QUOTES) {
+            k = (int)below(g, 4);
+            build_word(p + 12 + 4 * k, (uint32_t)PICK(g, 0, 0, 1, 999999, 1000000, 1000000, 1000001, -1));
+        } else if (kind == PEER_GTX || kind == PEER_LIMIT) {
+            if (chance(g, 50))
+                build_word(p + 12, (uint32_t)PICK(g, 0, 0, 1, 100000, 100001, 100001, -1));
+            else
+                build_word(p + 16, (uint32_t)PICK(g, 0, 0, 1, 999999, 1000000, 1000000, -1));
+        } else {
+            build_word(p + 12, (uint32_t)PICK(g, 0, 0, 1, 100000, 100001, 100001, -1));
+        }
+        break;
+    case 8:
+    case 9:                                 /* a field that is not used */
+        k = (int)(kind == PEER_GTX || kind == PEER_LIMIT ? between(g, 2, 3) : between(g, 1, 3));
+        k = 12 + 4 * k + (int)below(g, 4);
+        if (kind != PEER_QUOTES)
+            p[k] = (unsigned char)PICK(g, 1, 128, 255);
+        else
+            p[10] = (unsigned char)PICK(g, 1, 2);
+        break;
+    default:
+        k = (int)between(g, 4, 31);
+        p[k] = (unsigned char)(p[k] ^ 1 << below(g, 8));
+        break;
+    }
+}
+
+/* One event that should be refused, or is odd in some way. */
+static void odd_bytes(struct draft *d, unsigned char *p)
+{
+    struct peer_auction *a = &d->a;
+    struct peer_event e;
+
+    switch (below(&d->g, 12)) {
+    case 0:                                 /* the same record again */
+    case 1:
+        if (d->n > 0) {
+            uint32_t i = below(&d->g, (uint32_t)d->n);
+
+            memcpy(p, d->bytes + PEER_EVENT_BYTES * i, PEER_EVENT_BYTES);
+            return;
+        }
+        e = any_event(d);
+        break;
+    case 2:                                 /* the last record again */
+        if (d->n > 0) {
+            memcpy(p, d->bytes + PEER_EVENT_BYTES * (d->n - 1), PEER_EVENT_BYTES);
+            return;
+        }
+        e = any_event(d);
+        break;
+    case 3:                                 /* an old sequence, at times with an old time too */
+        e = any_event(d);
+        e.seq = chance(&d->g, 50) ? a->top_seq : below(&d->g, a->top_seq + 1);
+        if (chance(&d->g, 20) && a->clock > 0)
+            e.time = a->clock - 1;
+        else if (chance(&d->g, 30))
+            e.time = a->order.interval;     /* late, but refused before that */
+        break;
+    case 4:                                 /* time going back, by one or more */
+        e = any_event(d);
+        if (a->clock > 0)
+            e.time = chance(&d->g, 60) ? a->clock - 1 : below(&d->g, a->clock);
+        break;
+    case 5:                                 /* a GTX on the order's own side */
+        e = any_response(d);
+        e = stamp(d, build_gtx(0, 0, PEER_BUY, e.field[0], edge_price(d), e.marks & PEER_CUSTOMER));
+        break;
+    case 6:                                 /* a GTX about the initiating price */
+        e = stamp(d, build_gtx(0, 0, PEER_SELL, response_size(d), 1, 0));
+        e.marks = response_mark(d);
+        e.field[1] = as_price((int64_t)a->init + PICK(&d->g, 1, 1, 1, 0, 2, 100));
+        break;
+    case 7:                                 /* a cancel, then perhaps the record again */
+        e = any_cancel(d);
+        break;
+    case 8:                                 /* just above the highest taken */
+        e = any_event(d);
+        e.seq = a->top_seq + 1;
+        break;
+    default:                                /* a field at or past its bounds */
+        e = event_of_kind(d, between(&d->g, 1, 5));
+        if (chance(&d->g, 15))
+            e.time = a->order.interval;
+        if (chance(&d->g, 15))
+            e.seq = a->top_seq;
+        to_bytes(d, &e, p);
+        damage_event(&d->g, p);
+        return;
+    }
+    to_bytes(d, &e, p);
+}
+
+/* Sends an odd record; it seldom ends the auction. */
+static void send_odd(struct draft *d)
+{
+    unsigned char p[PEER_EVENT_BYTES];
+    int tries;
+
+    for (tries = 0; tries < 20; tries++) {
+        odd_bytes(d, p);
+        if (ending_after(d, p) == d->a.ending || chance(&d->g, 2))
+            break;
+    }
+    send_bytes(d, p);
+}
+
+/* Sends the event unless it would end the auction. */
+static int send_quiet(struct draft *d, const struct peer_event *e)
+{
+    unsigned char p[PEER_EVENT_BYTES];
+
+    to_bytes(d, e, p);
+    if (ending_after(d, p) != d->a.ending)
+        return 0;
+    send_bytes(d, p);
+    return 1;
+}
+
+/* Tries of one kind until one goes through quietly. */
+static void send_some(struct draft *d, struct peer_event (*make)(struct draft *))
+{
+    struct peer_event e;
+    int tries;
+
+    for (tries = 0; tries < 20; tries++) {
+        e = make(d);
+        if (send_quiet(d, &e))
+            return;
+    }
+}
+
+static struct peer_event any_bid(struct draft *d) { return any_limit(d, PEER_BUY); }
+static struct peer_event any_offer(struct draft *d) { return any_limit(d, PEER_SELL); }
+
+/* ------------------------------------------------------------------ */
+/* Bodies: what comes before the ending                               */
+
+static void body_one(struct draft *d)
+{
+    send_some(d, any_response);
+    if (chance(&d->g, 30)) {                /* a second one, taken back */
+        struct peer_event e = stamp(d, build_gtx(0, 0, PEER_SELL, 5, response_price(d), 0));
+        uint32_t seq = e.seq;
+
+        send_event(d, &e);
+        e = stamp(d, build_cancel(0, 0, seq));
+        send_event(d, &e);
+    }
+}
+
+/* Small sizes at few prices, so that shares have leftovers. */
+static void body_share(struct draft *d)
+{
+    uint32_t price[2];
+    uint32_t k, count = between(&d->g, 2, 14);
+    uint32_t most = (uint32_t)PICK(&d->g, 1, 2, 3, 7, 20, 60);
+    struct peer_event e;
+
+    price[0] = response_price(d);
+    price[1] = response_price(d);
+    if (d->a.order.mode != PEER_MATCH && chance(&d->g, 60))
+        price[0] = clamp(d->a.order.stop, 1, d->a.init);
+    for (k = 0; k < count; k++) {
+        uint32_t which = chance(&d->g, 75) ? 0 : 1;
+        uint32_t size = between(&d->g, 1, most);
+
+        if (chance(&d->g, 20))
+            size = as_size(d->a.order.size / count + below(&d->g, 3));
+        e = response(d, size, price[which]);
+        send_quiet(d, &e);
+        if (chance(&d->g, 12))
+            send_some(d, any_cancel);       /* a freed place is taken again out of order */
+        if (chance(&d->g, 8))
+            send_odd(d);
+    }
+}
+
+/* The sizes at each price are set close to where the rule of the walk
+ * changes: left = 2A, left = A, and what Contra lacks of G. */
+static void body_levels(struct draft *d)
+{
+    const struct peer_auction *a = &d->a;
+    uint32_t size = a->order.size, mode = a->order.mode;
+    uint32_t bound = peer_bound(a);
+    uint32_t stop = a->order.stop > bound ? a->order.stop : bound;
+    uint32_t price = bound, guarantee = as_size(size * 40 / 100);
+    int64_t left = (int64_t)size - (d->market < size ? d->market : size), held = 0;
+    struct peer_event list[40];
+    int n = 0, i, level, levels = (int)between(&d->g, 1, 7);
+
+    for (level = 0; level < levels && price <= a->init && n < 30; level++) {
+        int64_t total;
+        int parts = PICK(&d->g, 1, 1, 2, 3, 4), part;
+        int matching = mode == PEER_MATCH || (mode == PEER_MATCH_LIMIT && price >= stop);
+
+        switch (level + 1 < levels && chance(&d->g, 65) ? between(&d->g, 7, 11) : below(&d->g, 8)) {
+        case 0: total = left / 2; break;
+        case 1: total = (left + 1) / 2; break;
+        case 2: total = left / 2 + PICK(&d->g, -1, 1); break;
+        case 3: total = left + PICK(&d->g, -1, -1, 0, 0, 1); break;
+        case 4: case 7: total = (int64_t)guarantee - held + PICK(&d->g, -1, 0, 0, 1); break;
+        case 5: total = left / 3; break;
+        case 6: total = left - guarantee + PICK(&d->g, -1, 0, 1); break;
+        case 8: total = left / 5; break;
+        case 9: total = left / 8; break;
+        default: total = between(&d->g, 1, 5); break;
+        }
+        if (matching && left > 1 && left * 5 < (int64_t)size * 4 && chance(&d->g, 25))
+            total = (left + PICK(&d->g, -1, 0, 0, 0, 1)) / 2;   /* Contra lacks more than A */
+        if (mode != PEER_MATCH && price < stop && chance(&d->g, 40))
+            total = left / between(&d->g, 3, 9);                /* leave some for later */
+        if (total < 1)
+            total = 1;
+        if (parts > total)
+            parts = 1;
+        for (part = 0; part < parts; part++) {
+            int64_t own = part == parts - 1 ? total : (int64_t)between(&d->g, 1, (uint32_t)(total - (parts - 1 - part)));
+
+            if (n < 40) {
+                uint32_t at = price;
+
+                if (at == bound && at > 1 && chance(&d->g, 30))
+                    at = as_price((int64_t)at - between(&d->g, 1, 3));  /* works at the bound */
+                list[n++] = response(d, as_size(own), at);
+            }
+            total -= own;
+            left -= own;
+            if (matching && (held < guarantee || mode == PEER_MATCH)) {
+                held += own;
+                left -= own;
+            }
+        }
+        if (left < 1)
+            left = 1;
+        switch (below(&d->g, 5)) {
+        case 0: price = price < stop ? stop : price + 1; break;
+        case 1: price = price < a->init ? a->init : price + 1; break;
+        case 2: price += between(&d->g, 1, 4); break;
+        default: price += 1; break;
+        }
+    }
+    while (n > 0) {                         /* sent in any order of price */
+        i = (int)below(&d->g, (uint32_t)n);
+        list[i] = stamp(d, list[i]);
+        send_quiet(d, &list[i]);
+        list[i] = list[--n];
+        if (chance(&d->g, 5))
+            send_odd(d);
+    }
+}
+
+/* 64 live and more tries. */
+static void body_full(struct draft *d, int wide)
+{
+    const struct peer_auction *a = &d->a;
+    struct peer_event e;
+    int k, goal = PICK(&d->g, 63, 64, 64, 64, 64, 64, 64, 64);
+    int spread = wide || chance(&d->g, 50);
+    uint32_t most = (uint32_t)PICK(&d->g, 1, 1, 2, 5, 50);
+    uint32_t start = peer_bound(a);
+
+    for (k = 0; k < 120 && a->n_live < goal && a->ending == PEER_OPEN; k++) {
+        uint32_t price = spread ? clamp((int64_t)start + k, 1, a->init) : response_price(d);
+        uint32_t size = between(&d->g, 1, most);
+
+        e = response(d, size, price);
+        send_quiet(d, &e);
+        if (!wide && chance(&d->g, 4))
+            send_some(d, any_cancel);
+        if (!wide && chance(&d->g, 3))
+            send_odd(d);
+    }
+    for (k = (int)below(&d->g, wide ? 3 : 9); k > 0; k--) {
+        switch (below(&d->g, 8)) {
+        case 0:                             /* marketable, but it has to be placed */
+            e = stamp(d, build_limit(0, 0, PEER_SELL, response_size(d), 1, 0));
+            e.field[1] = clamp((int64_t)a->nbb + PICK(&d->g, 0, 0, -1), 1, a->init);
+            break;
+        case 1:                             /* a limit order in or just out of the range */
+            e = stamp(d, build_limit(0, 0, PEER_SELL, response_size(d), 1, 0));
+            e.field[1] = as_price((int64_t)a->init + PICK(&d->g, 0, 0, 1, -1));
+            break;
+        case 2:                             /* a place freed, and the same tried again */
+            e = any_cancel(d);
+            send_quiet(d, &e);
+            e = any_response(d);
+            break;
+        case 3:
+            e = any_limit(d, PEER_BUY);
+            break;
+        case 4:
+            if (chance(&d->g, 50)) {        /* a national bid above the range */
+                e = stamp(d, build_quotes(0, 0, as_price((int64_t)a->init + 2), a->nbo, a->bb, a->bo,
+                                          a->cust_bb ? PEER_CUST_BB : 0));
+                break;
+            }
+            send_odd(d);
+            e = any_response(d);
+            break;
+        default:
+            e = any_response(d);
+            break;
+        }
+        send_quiet(d, &e);
+    }
+}
+
+/* Bids and quotes that move the bound, with responses around it. */
+static void body_bound(struct draft *d)
+{
+    int k;
+
+    for (k = (int)between(&d->g, 3, 14); k > 0; k--) {
+        switch (below(&d->g, 8)) {
+        case 0: case 1: case 2:
+            send_some(d, any_response);
+            break;
+        case 3: case 4:
+            send_some(d, any_bid);
+            break;
+        case 5: case 6:
+            send_some(d, any_quotes);
+            break;
+        default:
+            send_some(d, any_offer);
+            break;
+        }
+    }
+}
+
+static void body_mix(struct draft *d, int count)
+{
+    int k;
+
+    for (k = 0; k < count; k++) {
+        if (chance(&d->g, 25))
+            send_odd(d);
+        else
+            send_some(d, any_event);
+    }
+}
+
+/* ------------------------------------------------------------------ */
+/* Short runs of events aimed at one edge                             */
+
+static int try_limit(struct draft *d, uint32_t side, int64_t price, uint32_t marks)
+{
+    struct peer_event e = stamp(d, build_limit(0, 0, side, response_size(d), as_price(price), marks));
+
+    return send_quiet(d, &e);
+}
+
+static int try_quotes(struct draft *d, int64_t nbb, int64_t nbo, int64_t bb, int64_t bo, uint32_t marks)
+{
+    struct peer_event e = stamp(d, build_quotes(0, 0, as_price(nbb), as_price(nbo), clamp(bb, 0, PEER_PRICE_MAX),
+                                                clamp(bo, 1, PEER_MIRROR), marks));
+
+    return send_quiet(d, &e);
+}
+
+static uint32_t mark_bb(const struct draft *d) { return d->a.cust_bb ? PEER_CUST_BB : 0; }
+
+/* Events that come as close to an ending as they can. */
+static void near_miss(struct draft *d)
+{
+    const struct peer_auction *a = &d->a;
+    uint32_t customer = below(&d->g, 2);
+
+    switch (below(&d->g, 6)) {
+    case 0: try_limit(d, PEER_SELL, (int64_t)a->nbb + 1, customer); break;
+    case 1: try_limit(d, PEER_SELL, (int64_t)a->bb + 1, customer | PEER_NON_ROUTABLE); break;
+    case 2: try_limit(d, PEER_BUY, (int64_t)a->nbo - 1, customer); break;
+    case 3: try_limit(d, PEER_BUY, (int64_t)a->bo - 1, customer | PEER_NON_ROUTABLE); break;
+    case 4: try_limit(d, PEER_BUY, (int64_t)a->init - 1, customer | PEER_NON_ROUTABLE); break;
+    default: try_limit(d, PEER_BUY, a->init, PEER_NON_ROUTABLE); break;
+    }
+}
+
+static void script(struct draft *d)
+{
+    const struct peer_auction *a = &d->a;
+    struct peer_event e;
+    unsigned char p[PEER_EVENT_BYTES];
+    uint32_t seq, marks;
+
+    switch (below(&d->g, 9)) {
+    case 0:                                 /* a bid that raises NBB, then offers about it */
+        marks = below(&d->g, 4);
+        if (!try_limit(d, PEER_BUY, (int64_t)a->nbb + PICK(&d->g, 1, 1, 2, 3), marks))
+            break;
+        try_limit(d, PEER_SELL, (int64_t)a->nbb + 1, 0);
+        if (chance(&d->g, 40)) {
+            e = stamp(d, build_limit(0, 0, PEER_SELL, response_size(d), as_price(a->nbb), 0));
+            send_event(d, &e);
+        }
+        break;
+    case 1:                                 /* crossed: a bid below BB and above NBB */
+        try_quotes(d, (int64_t)a->init - 5, a->nbo, (int64_t)a->init - 1, a->bo, 0);
+        if (!try_limit(d, PEER_BUY, (int64_t)a->init - PICK(&d->g, 2, 3, 4), 0))
+            break;
+        if (chance(&d->g, 60)) {
+            e = stamp(d, build_limit(0, 0, PEER_SELL, response_size(d), as_price((int64_t)a->init - 3), 0));
+            send_event(d, &e);
+        }
+        break;
+    case 2:                                 /* NBB above the range, and an offer between */
+        if (!try_quotes(d, (int64_t)a->init + 2, a->nbo, a->bb, a->bo, mark_bb(d)))
+            break;
+        try_limit(d, PEER_SELL, (int64_t)a->init + 1, PEER_NON_ROUTABLE);
+        if (chance(&d->g, 60)) {
+            e = stamp(d, build_limit(0, 0, PEER_SELL, response_size(d), 1, 0));
+            e.field[1] = as_price((int64_t)a->init + PICK(&d->g, 0, 1, 1, 2, 3));
+            send_event(d, &e);
+        }
+        break;
+    case 3:                                 /* the mark at an equal price, at the very top */
+        if (!try_quotes(d, a->nbb, (int64_t)a->init + 2, a->init, (int64_t)a->init + 2, 0))
+            try_quotes(d, a->nbb, (int64_t)a->init + 2, (int64_t)a->init - 1, (int64_t)a->init + 2, 0);
+        try_limit(d, PEER_BUY, a->bb, 0);
+        try_limit(d, PEER_BUY, (int64_t)a->bb - 1, PEER_CUSTOMER);
+        if (chance(&d->g, 50)) {
+            e = stamp(d, build_limit(0, 0, PEER_BUY, response_size(d), as_price(a->bb), PEER_CUSTOMER));
+            send_event(d, &e);
+        }
+        break;
+    case 4:                                 /* a mark set by an equal bid, or lost by a higher one */
+        if (chance(&d->g, 50))
+            try_quotes(d, a->nbb, a->nbo, a->bb, a->bo, PEER_CUST_BB);
+        if (chance(&d->g, 50))
+            try_limit(d, PEER_BUY, a->bb, below(&d->g, 2));
+        try_limit(d, PEER_BUY, (int64_t)a->bb + 1, below(&d->g, 4));
+        break;
+    case 5:                                 /* placed, cancelled, the same bytes again, then anew */
+        e = stamp(d, build_gtx(0, 0, PEER_SELL, response_size(d), 1, 0));
+        e.field[1] = response_price(d);
+        seq = e.seq;
+        to_bytes(d, &e, p);
+        send_bytes(d, p);
+        e = stamp(d, build_cancel(0, 0, seq));
+        send_event(d, &e);
+        send_bytes(d, p);
+        if (chance(&d->g, 50)) {
+            peer_read_event(p, &e);
+            e.seq = d->last_seq + 1;
+            e.time = a->clock;
+            build_event(p, &e);
+            send_bytes(d, p);
+        }
+        if (chance(&d->g, 30)) {
+            e = stamp(d, build_cancel(0, 0, seq));
+            send_event(d, &e);
+        }
+        break;
+    case 6:                                 /* a limit order that took a place can't be cancelled */
+        seq = (uint32_t)d->n;
+        marks = below(&d->g, 4);
+        try_limit(d, PEER_SELL, (int64_t)a->init - PICK(&d->g, 0, 0, 1), marks);
+        if ((uint32_t)d->n > seq) {
+            e = stamp(d, build_cancel(0, 0, d->last_seq));
+            send_event(d, &e);
+        }
+        break;
+    case 7:                                 /* the bound raised above responses that stand */
+        send_some(d, any_response);
+        try_limit(d, PEER_BUY, (int64_t)a->init - PICK(&d->g, 1, 1, 2), PEER_NON_ROUTABLE);
+        send_some(d, any_response);
+        break;
+    default:                                /* the bound let down again by quotes */
+        send_some(d, any_response);
+        try_quotes(d, a->nbb, a->nbo, (int64_t)a->init - PICK(&d->g, 1, 2), a->bo, 0);
+        if (chance(&d->g, 50))
+            try_quotes(d, a->nbb, a->nbo, 0, a->bo, below(&d->g, 2) ? PEER_CUST_BB : 0);
+        break;
+    }
+}
+
+/* Many records at and past the bounds of their fields. */
+static void body_damaged(struct draft *d)
+{
+    unsigned char p[PEER_EVENT_BYTES];
+    int k;
+
+    for (k = (int)between(&d->g, 10, 60); k > 0; k--) {
+        struct peer_event e = event_of_kind(d, between(&d->g, 1, 5));
+
+        to_bytes(d, &e, p);
+        damage_event(&d->g, p);
+        if (ending_after(d, p) == d->a.ending)
+            send_bytes(d, p);
+        if (chance(&d->g, 10))
+            send_some(d, any_response);
+    }
+}
+
+/* ------------------------------------------------------------------ */
+/* Endings                                                            */
+
+static struct peer_event ending_event(struct draft *d, int ending)
+{
+    const struct peer_auction *a = &d->a;
+    struct peer_event e;
+    uint32_t marks;
+
+    switch (ending) {
+    case END_LATE:
+        e = any_event(d);
+        e.time = a->order.interval + (uint32_t)PICK(&d->g, 0, 0, 0, 0, 1, 1, 1000);
+        if (chance(&d->g, 5))
+            e.time = PEER_TIME_MAX;
+        return e;
+    case END_SAME_LIMIT:
+        e = any_limit(d, PEER_BUY);
+        if (chance(&d->g, 60))
+            e.field[1] = as_price(e.marks & PEER_NON_ROUTABLE ? a->bo : a->nbo);
+        return e;
+    case END_SAME_MARKET:
+        return any_market(d, PEER_BUY);
+    case END_OPP_LIMIT:
+        e = any_limit(d, PEER_SELL);
+        if (chance(&d->g, 60))
+            e.field[1] = as_price(e.marks & PEER_NON_ROUTABLE ? a->bb : a->nbb);
+        if (d->market > 0 && chance(&d->g, 50))
+            e.field[0] = d->market;
+        return e;
+    case END_OPP_MARKET:
+        return any_market(d, PEER_SELL);
+    case END_IMPROVE_BID:
+        marks = below(&d->g, 4);
+        e = stamp(d, build_limit(0, 0, PEER_BUY, response_size(d), 1, marks));
+        e.field[1] = as_price((int64_t)a->init + PICK(&d->g, -1, 0, 0, 0, 0, 1, 1, 2));
+        return e;
+    default:
+        return any_quotes(d);
+    }
+}
+
+static void send_ending(struct draft *d, int ending)
+{
+    static const int stands[END_KINDS] = {
+        PEER_BY_TIME, PEER_BY_TIME, PEER_BY_SAME, PEER_BY_SAME, PEER_BY_OPPOSITE, PEER_BY_OPPOSITE,
+        PEER_BY_IMPROVE, PEER_BY_IMPROVE
+    };
+    unsigned char p[PEER_EVENT_BYTES];
+    struct peer_event e;
+    int tries;
+
+    if (ending == END_CLOSE || d->a.ending != PEER_OPEN)
+        return;
+    for (tries = 0; tries < 80; tries++) {
+        e = ending_event(d, ending);
+        to_bytes(d, &e, p);
+        if (ending_after(d, p) == stands[ending]) {
+            send_bytes(d, p);
+            return;
+        }
+        if (ending == END_IMPROVE_BID && tries == 20) {     /* offers out of the way of a bid */
+            e = stamp(d, build_quotes(0, 0, d->a.nbb, as_price((int64_t)d->a.init + 3), d->a.bb,
+                                      as_price((int64_t)d->a.init + PICK(&d->g, 3, 4)),
+                                      d->a.cust_bb ? PEER_CUST_BB : 0));
+            send_quiet(d, &e);
+        }
+    }
+}
+
+/* Records after the ending, good and bad. */
+static void send_tail(struct draft *d)
+{
+    int k;
+
+    for (k = (int)between(&d->g, 1, 4); k > 0; k--) {
+        if (chance(&d->g, 50)) {
+            send_odd(d);
+        } else {
+            struct peer_event e = any_event(d);
+
+            if (chance(&d->g, 30))
+                e.time = d->a.order.interval + 5;
+            send_event(d, &e);
+        }
+    }
+}
+
+/* ------------------------------------------------------------------ */
+/* The whole tape                                                     */
+
+static void draft_events(struct draft *d, int body, int ending, int wide)
+{
+    uint32_t size = d->a.order.size;
+
+    d->customers = (uint32_t)PICK(&d->g, 0, 0, 20, 40, 60, 100);
+    d->market = 0;
+    if (ending == END_OPP_MARKET || ending == END_OPP_LIMIT) {
+        switch (below(&d->g, 6)) {
+        case 0: d->market = 1; break;
+        case 1: d->market = as_size((int64_t)size + PICK(&d->g, -1, 0, 1)); break;
+        case 2: d->market = as_size(size / 2); break;
+        case 3: d->market = as_size(size * 60 / 100 + below(&d->g, 3)); break;
+        default: d->market = between(&d->g, 1, as_size(size / 3)); break;
+        }
+        if (wide)
+            d->market = between(&d->g, 1, 3);
+    }
+    if (body != BODY_NONE && !wide && chance(&d->g, 12))
+        send_odd(d);
+    switch (body) {
+    case BODY_ONE: body_one(d); break;
+    case BODY_SHARE: body_share(d); break;
+    case BODY_LEVELS: body_levels(d); break;
+    case BODY_FULL: body_full(d, wide); break;
+    case BODY_BOUND: body_bound(d); break;
+    case BODY_MIX: body_mix(d, (int)between(&d->g, 1, 25)); break;
+    case BODY_DAMAGED: body_damaged(d); break;
+    case BODY_LONG: body_mix(d, PEER_EVENTS_MAX - 30); break;
+    }
+    if (!wide && body != BODY_NONE && chance(&d->g, 20))
+        script(d);
+    if (!wide && chance(&d->g, 10))
+        send_some(d, chance(&d->g, 50) ? any_bid : any_quotes);
+    if (!wide && chance(&d->g, 15))
+        near_miss(d);
+    if (!wide && chance(&d->g, 20))
+        send_odd(d);
+    send_ending(d, ending);
+    if (ending != END_CLOSE && chance(&d->g, 25))
+        send_tail(d);
+    if (body == BODY_LONG)                  /* as many events as a tape can hold */
+        while (d->n < PEER_EVENTS_MAX)
+            send_odd(d);
+}
+
+/* Damage to the tape as a whole: the trailer, the lengths, the ends. */
+static size_t damage_tape(struct rng *g, unsigned char *p, size_t n, uint32_t s, uint32_t events)
+{
+    unsigned char *trailer = p + n - PEER_TRAILER_BYTES;
+    uint32_t k;
+    size_t i;
+
+    switch (below(g, 17)) {
+    case 0:
+        return 0;
+    case 1:
+        return between(g, 1, 15);
+    case 2:                                 /* cut short */
+        k = (uint32_t)PICK(g, 1, 1, 2, 16, 32, 48);
+        return n > k ? n - k : 0;
+    case 3:                                 /* bytes after the end */
+        k = (uint32_t)PICK(g, 1, 4, 16, 32);
+        memset(p + n, chance(g, 50) ? 0 : 0x5A, k);
+        return n + k;
+    case 4:                                 /* the first word */
+        k = below(g, 4);
+        trailer[k] ^= (unsigned char)PICK(g, 1, 32, 128);
+        return n;
+    case 5:
+        memcpy(trailer, chance(g, 50) ? "TBUC" : "cubt", 4);
+        return n;
+    case 6:                                 /* the last word */
+        k = between(g, 12, 15);
+        trailer[k] = (unsigned char)PICK(g, 1, 128, 255);
+        return n;
+    case 7:                                 /* the offset */
+        build_word(trailer + 4, s + (uint32_t)PICK(g, 1, -1, 32, -32, 16, 65536));
+        return n;
+    case 8:                                 /* the count */
+        build_word(trailer + 8, events + (uint32_t)PICK(g, 1, -1, 2, -2, 65536));
+        return n;
+    case 9:                                 /* right only if the sum may wrap */
+        if (chance(g, 50)) {
+            build_word(trailer + 8, events + (1u << 27) * between(g, 1, 31));
+        } else {
+            k = s / 32 + between(g, 1, 5);
+            build_word(trailer + 4, s - 32 * k);
+            build_word(trailer + 8, events + k);
+        }
+        return n;
+    case 10:                                /* one byte too long, all else right */
+        i = PEER_TAPE_MAX + (size_t)PICK(g, 1, 1, 32) - n;
+        memmove(p + i, p, n);
+        memset(p, 0x33, i);
+        build_word(p + i + n - 12, s + (uint32_t)i);
+        return n + i;
+    case 11:                                /* bytes before the recorder's own, offset unmoved */
+        k = (uint32_t)PICK(g, 1, 16, 32);
+        memmove(p + k, p, n);
+        memset(p, 0, k);
+        return n + k;
+    case 12:                                /* a trailer alone, or less than an order before it */
+        k = (uint32_t)PICK(g, 0, 0, 1, 63, 32);
+        memset(p, 0, k);
+        build_trailer(p + k, 0, 0);
+        return k + PEER_TRAILER_BYTES;
+    case 13:                                /* noise */
+        k = between(g, 1, 400);
+        for (i = 0; i < k; i++)
+            p[i] = (unsigned char)below(g, 256);
+        return k;
+    case 14:                                /* lengths add up, but the order is read from the wrong bytes */
+        build_word(trailer + 4, s + 32);
+        build_word(trailer + 8, events - 1);
+        return n;
+    case 15:                                /* two words wrong */
+        build_word(trailer + 4, s + 1);
+        trailer[between(g, 12, 15)] = 1;
+        return n;
+    default:                                /* the greatest words */
+        build_word(trailer + (chance(g, 50) ? 4 : 8), UINT32_MAX);
+        return n;
+    }
+}
+
+/* The recorder's own bytes before the order. */
+static uint32_t prefix_length(struct rng *g, size_t rest)
+{
+    uint32_t room = (uint32_t)(PEER_TAPE_MAX - rest);
+    uint32_t k;
+
+    switch (below(g, 10)) {
+    case 0: k = (uint32_t)PICK(g, 1, 3, 7); break;
+    case 1: k = (uint32_t)PICK(g, 16, 32, 64, 80); break;
+    case 2: k = below(g, 500); break;
+    case 3: k = chance(g, 4) ? room : 0; break;     /* the longest tape there is */
+    default: k = 0; break;
+    }
+    return k > room ? room : k;
+}
+
+size_t gen_tape(uint64_t seed, uint32_t index, unsigned char *out)
+{
+    struct draft d;
+    struct rng *g = &d.g;
+    unsigned char order_bytes[PEER_ORDER_BYTES];
+    struct peer_order o, m;
+    uint32_t kind = index % 12, turn = index / 12;
+    uint32_t mode, s, i;
+    int number = 0, room, body, ending;
+    size_t n;
+
+    memset(&d, 0, sizeof d);
+    g->state = seed * 0xD1342543DE82EF95u + index;
+    next(g);
+    g->state ^= next(g);
+
+    /* Every twelfth tape is refused for its order; numbers, sides and modes
+     * take turns, so that each comes up. The rest are drawn. */
+    d.sell = (int)below(g, 2);
+    mode = between(g, 1, 3);
+    if (kind == 5) {
+        number = 1 + (int)(turn % 12);
+        d.sell = (int)(turn / 12 % 2);
+        mode = 1 + turn / 24 % 3;
+        if (number == 11 && mode == PEER_MATCH)
+            mode = PEER_STOP;
+    }
+    body = (int)PICK(g, BODY_NONE, BODY_ONE, BODY_SHARE, BODY_SHARE, BODY_SHARE, BODY_SHARE, BODY_LEVELS, BODY_LEVELS,
+                     BODY_LEVELS, BODY_LEVELS, BODY_LEVELS, BODY_LEVELS, BODY_LEVELS, BODY_FULL, BODY_BOUND, BODY_BOUND,
+                     BODY_BOUND, BODY_MIX, BODY_MIX, BODY_MIX);
+    ending = (int)below(g, END_KINDS);
+    if (ending == END_OPP_MARKET && mode == PEER_MATCH && chance(g, 20))
+        body = BODY_NONE;                   /* the midpoint */
+    if (kind == 2 && chance(g, 30))
+        body = BODY_DAMAGED;
+    if (index % 500 == 498)
+        body = BODY_LONG;
+    room = ANY_ROOM;
+    if (body == BODY_FULL && chance(g, 50)) {
+        room = WIDE_ROOM;
+        if (chance(g, 40))
+            ending = END_OPP_MARKET;        /* with it come the most fills there can be */
+    } else if (body == BODY_LEVELS && chance(g, 60))
+        room = SOME_ROOM;
+
+    o = number > 1 ? refused_order(g, mode, number) : good_order(g, mode, room);
+    m = d.sell && peer_order_form(&o) ? build_turn_order(o) : o;
+    build_order(order_bytes, &m);
+    if (number == 1) {
+        struct peer_order damaged;
+
+        for (i = 0; i < 50; i++) {
+            build_order(order_bytes, &m);
+            damage_order(order_bytes, below(g, ORDER_EDGES + 1));
+            peer_read_order(order_bytes, &damaged);
+            if (!peer_order_form(&damaged))
+                break;
+        }
+    } else if (kind == 7 && chance(g, 60)) {
+        damage_order(order_bytes, turn);    /* whatever comes of it */
+    }
+
+    /* The guide starts from the order as it was before any damage. */
+    if (peer_accept(&m, &d.a) != 0) {
+        o = good_order(g, mode, ANY_ROOM);
+        m = d.sell ? build_turn_order(o) : o;
+        peer_accept(&m, &d.a);
+        body = BODY_MIX;
+        room = ANY_ROOM;
+    }
+    if (chance(g, 4))
+        d.last_seq = UINT32_MAX - below(g, 40);
+    else if (chance(g, 5))
+        d.last_seq = between(g, 1, 1000000);
+    if (chance(g, 90) || number == 0)
+        draft_events(&d, body, ending, room == WIDE_ROOM);
+
+    n = PEER_ORDER_BYTES + (size_t)d.n * PEER_EVENT_BYTES + PEER_TRAILER_BYTES;
+    s = prefix_length(g, n);
+    for (i = 0; i < s; i++)
+        out[i] = (unsigned char)below(g, 256);
+    if (s >= 16 && chance(g, 30))
+        build_trailer(out, 0, 0);
+    memcpy(out + s, order_bytes, PEER_ORDER_BYTES);
+    memcpy(out + s + PEER_ORDER_BYTES, d.bytes, (size_t)d.n * PEER_EVENT_BYTES);
+    build_trailer(out + s + n - PEER_TRAILER_BYTES, s, (uint32_t)d.n);
+    n += s;
+    if (kind == 9 && chance(g, 60))
+        n = damage_tape(g, out, n, s, (uint32_t)d.n);
+    return n;
+}
