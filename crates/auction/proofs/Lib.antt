@@ -8,4 +8,5 @@ pub mod SoundLaws
 pub mod ComesFrom
 pub mod MirrorForm
 pub mod Mirrors
+pub mod LentLaws
 pub mod Figures

@@ -4,5 +4,6 @@ pub mod Accept
 pub mod Step
 pub mod Fills
 pub mod Run
+pub mod Lent
 pub mod Demands
 pub mod Figures

@@ -5,6 +5,7 @@ use board::Response;
 mod decide;
 mod events;
 mod fills;
+mod lent;
 mod mirror;
 mod orders;
 
@@ -15,6 +16,8 @@ pub use fills::has_ended;
 pub use fills::live_responses;
 pub use fills::price_range;
 pub use fills::write_fills;
+pub use lent::apply;
+pub use lent::cancel;
 pub use orders::accept;
 
 // What is fixed at acceptance. `floor` is the NBB at initiation, `stop` the stop or auto-match limit as it was given.

@@ -2,4 +2,5 @@
 pub mod Form
 pub mod Records
 pub mod Tape
+pub mod Reader
 pub mod Demands

@@ -2,6 +2,17 @@
 use words::bytes::join;
 use words::bytes::read_word;
 use words::bytes::write_words;
+
+mod reader;
+
+pub use reader::Current;
+pub use reader::Tape;
+pub use reader::current_event;
+pub use reader::held_order;
+pub use reader::hold;
+pub use reader::next;
+pub use reader::tape_event;
+pub use reader::tape_order;
 ghost use mathlib.Core.Path.{_≡_};
 ghost use mathlib.Core.Bool.{true};
 ghost use Prim.Native.Nat.{_≤_};

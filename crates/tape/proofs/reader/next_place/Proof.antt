@@ -1,0 +1,19 @@
+use borrow.Author.Tests.{lt-ltb, le-ltb}
+use Rattle.tape.specs.Reader.{nextPlace}
+use borrow.Author.Needs.{needs}
+use Rattle.tape.proofs.reader.next_place.Statement.{statement}
+use Rattle.tape.proofs.reader.next_place.Tie as tie
+
+add-result : tie.Need-add-result
+add-result c = search needs
+
+returns : tie.Need-returns
+unfolding nextPlace
+returns c = simp (lt-ltb _ _ (c .if1 .taken))
+
+returns-2 : tie.Need-returns-2
+unfolding nextPlace
+returns-2 c = simp (le-ltb _ _ (c .if1 .left))
+
+pub next-place-spec : {M : Type 1} → statement M
+next-place-spec = tie.close (tie.spec add-result returns returns-2)
