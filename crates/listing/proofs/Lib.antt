@@ -1,0 +1,4 @@
+-- Laws and theorems of `listing`.
+pub mod WroteLaws
+pub mod DecimalLaws
+pub mod Examples
