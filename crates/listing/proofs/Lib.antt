@@ -1,4 +1,5 @@
 -- Laws and theorems of `listing`.
 pub mod WroteLaws
 pub mod DecimalLaws
+pub mod FillLaws
 pub mod Examples

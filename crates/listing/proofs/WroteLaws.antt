@@ -1,5 +1,5 @@
 -- Laws of writing bytes, one text after the other.
-use mathlib.Core.Path.{_≡_, sym, subst, ap, _∙_}
+use mathlib.Core.Path.{_≡_, refl, sym, subst, ap, _∙_}
 use mathlib.Core.List.{List, [], _∷_, _++_, append-assoc}
 use Prim.Native.Nat.{ℕ, zero, suc, _+_, _≤_, _<_}
 use native.Mathlib.Nat.{add-zero, add-suc, suc-add}
@@ -31,3 +31,26 @@ sets-more xs s at i h =
     sym (ap (λ (t : List ℕ). sets xs at t) (ap (λ (k : ℕ). take k s) (add-one i) ∙ take-suc s i 0 h)
     ∙ sets-append xs at (take i s) (getD s i 0 ∷ [])
     ∙ ap (λ (k : ℕ). set (sets xs at (take i s)) (at + k) (getD s i 0)) l)
+
+-- ---- a loop that writes: to write t at w in ys comes to the same as to write s at `at` in xs
+
+pub record Left (xs : List ℕ) (at : ℕ) (s : List ℕ) (ys : List ℕ) (w : ℕ) (t : List ℕ) : Type 0 where
+  pub bytes : sets ys w t ≡ sets xs at s
+  pub place : w + length t ≡ at + length s
+
+pub left-start : (xs : List ℕ) (at : ℕ) (s : List ℕ) → Left xs at s xs at s
+left-start xs at s = record { bytes = refl; place = refl }
+
+-- after a writer of the first part of what is left
+pub left-wrote : {xs ys zs : List ℕ} {at w next : ℕ} {s t u : List ℕ} → Left xs at s ys w (t ++ u) → Wrote ys w t next zs → Left xs at s zs next u
+left-wrote {xs} {ys} {zs} {at} {w} {next} {s} {t} {u} l a =
+    record {
+      bytes = cc (sets-append ys w t u, l .bytes, a .bytes, a .place);
+      place = omega (arith, length-append t u, l .place, a .place);
+    }
+
+pub left-same : {xs ys : List ℕ} {at w : ℕ} {s t u : List ℕ} → Left xs at s ys w t → t ≡ u → Left xs at s ys w u
+left-same {xs} {ys} {at} {w} {s} l e = subst (λ v. Left xs at s ys w v) e l
+
+pub left-done : {xs ys : List ℕ} {at w : ℕ} {s : List ℕ} → Left xs at s ys w [] → Wrote xs at s w ys
+left-done l = record { bytes = l .bytes; place = omega (arith, l .place) }

@@ -2,12 +2,15 @@
 use mathlib.Core.Path.{_≡_}
 use mathlib.Core.Bool.{Bool, cond}
 use mathlib.Core.List.{List, [], _∷_, _++_}
-use Prim.Native.Nat.{ℕ}
+use Prim.Native.Nat.{ℕ, zero, suc}
+use Prim.Native.String.{String}
 use lib.Dec.{eqb, ltb}
-use lib.ListN.{length, drop}
+use lib.ListN.{length, getD, drop}
 use lib.Seq.{sets}
 use Rattle.share.specs.Fills.{Fill}
 use Rattle.trade.specs.Trade.{total}
+use Rattle.trade.specs.declared.Filled.{Filled}
+use Rattle.trade.specs.declared.Filled.the-variants.{Count, Refused as NoFills}
 use Rattle.auction.specs.declared.Auction.{Auction}
 use Rattle.auction.specs.declared.Range.{Range}
 use Rattle.auction.specs.declared.Ending.{Ending}
@@ -22,30 +25,34 @@ use Rattle.listing.specs.declared.Listed.the-variants.{Short, Refused as
 
 -- ---- lines
 
+-- a text, and a number after it
+abbrev pub field : String → ℕ → List ℕ
+field s n = text s ++ decimal n
+
 -- REFUSED and the number
 unfoldable pub refusedLine : ℕ → List ℕ
-refusedLine number = text "REFUSED " ++ (decimal number ++ newline)
+refusedLine number = field "REFUSED " number ++ newline
 
 -- a range, low to high, up to the line's end
 unfoldable pub rangeText : Range → List ℕ
-rangeText r = text " range " ++ (decimal (r .low) ++ (text " to " ++ (decimal (r .high) ++ newline)))
+rangeText r = field " range " (r .low) ++ (field " to " (r .high) ++ newline)
 
 abbrev pub sideText : Bool → List ℕ
 sideText sell = cond sell (text "AUCTION sell") (text "AUCTION buy")
 
 -- the order's side and size, and the range at the opening
 unfoldable pub auctionLine : Auction → List ℕ
-auctionLine a = sideText (a .terms .sell) ++ (text " size " ++ (decimal (a .terms .size) ++ rangeText (rangeOf a)))
+auctionLine a = sideText (a .terms .sell) ++ (field " size " (a .terms .size) ++ rangeText (rangeOf a))
 
 unfoldable pub answerText : Answer → List ℕ
 answerText Taken = text " taken\n"
 answerText Ended = text " ended\n"
 answerText Late = text " late\n"
-answerText (Refused number) = text " refused " ++ (decimal number ++ newline)
+answerText (Refused number) = field " refused " number ++ newline
 
 -- the sequence and the answer
 unfoldable pub eventLine : Said → List ℕ
-eventLine e = text "EVENT " ++ (decimal (e .sequence) ++ answerText (e .answer))
+eventLine e = field "EVENT " (e .sequence) ++ answerText (e .answer)
 
 -- why it ended (never `open`: an auction still open is closed by hand)
 unfoldable pub endText : Ending → List ℕ
@@ -61,14 +68,17 @@ endLine a = endText (a .ending) ++ rangeText (rangeOf a)
 
 -- the party is 0 for the Contra Order
 unfoldable pub partyText : ℕ → List ℕ
-partyText party = cond (eqb party 0) (text "FILL contra") (text "FILL " ++ decimal party)
+partyText party = cond (eqb party 0) (text "FILL contra") (field "FILL " party)
+
+abbrev pub fill : ℕ → ℕ → ℕ → Fill
+fill party price quantity = record { party = party; price = price; quantity = quantity }
 
 -- party, price, quantity
 unfoldable pub fillLine : Fill → List ℕ
-fillLine f = partyText (f .party) ++ (text " " ++ (decimal (f .price) ++ (text " " ++ (decimal (f .quantity) ++ newline))))
+fillLine f = partyText (f .party) ++ (field " " (f .price) ++ (field " " (f .quantity) ++ newline))
 
 unfoldable pub totalLine : ℕ → List ℕ
-totalLine n = text "TOTAL " ++ (decimal n ++ newline)
+totalLine n = field "TOTAL " n ++ newline
 
 -- ---- the listing
 
@@ -90,6 +100,17 @@ linesOf (ended first said last) = auctionLine first ++ (eventLines said ++ endLi
 
 unfoldable pub listingOf : List ℕ → List ℕ
 listingOf s = linesOf (runOf s)
+
+-- ---- fills as the writer of fills leaves them
+
+-- n fills, by their words
+unfoldable pub fillsIn : ℕ → List ℕ → List Fill
+fillsIn zero ws = []
+fillsIn (suc n) ws = fill (getD ws 0 0) (getD ws 1 0) (getD ws 2 0) ∷ fillsIn n (drop 3 ws)
+
+abbrev pub countIn : Filled → ℕ
+countIn (Count n) = n
+countIn (NoFills n) = 0
 
 -- ---- what `listing` answers, and the lent bytes after it
 

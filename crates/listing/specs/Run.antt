@@ -33,11 +33,14 @@ pub record Said : Type 0 where
   pub sequence : ℕ
   pub answer : Answer
 
+abbrev pub said : ℕ → Answer → Said
+said sequence answer = record { sequence = sequence; answer = answer }
+
 -- what is said of n records, the first of which stands at the start of s
 unfoldable pub answers : ℕ → List ℕ → Auction → List Said
 answers zero s a = []
 answers (suc n) s a =
-    record { sequence = wordAt s 0; answer = heard a (readEvent s) .answer } ∷ answers n (drop 32 s) (heard a (readEvent s) .auction)
+    said (wordAt s 0) (heard a (readEvent s) .answer) ∷ answers n (drop 32 s) (heard a (readEvent s) .auction)
 
 -- the auction after them
 unfoldable pub heardAll : ℕ → List ℕ → Auction → Auction

@@ -1,6 +1,8 @@
 // The runner's listing of a tape, into lent bytes.
 use auction::Ending;
 
+mod lines;
+mod results;
 mod text;
 
 // What came of a tape, and the length of its listing.

@@ -65,3 +65,12 @@ pub(crate) fn put_field(out: &mut [u8], at: usize, s: &[u8], n: u64) -> usize
     let w = put_text(out, at, s);
     put_number(out, w, n)
 }
+
+// A text, and a word after it.
+pub(crate) fn put_word(out: &mut [u8], at: usize, s: &[u8], n: u32) -> usize
+    requires { ⌜ at + length (now s) + 20 ≤ length (now out) ⌝ }
+    ensures { λ r. ⌜ Wrote (now (out .entry)) at (now (s .entry) ++ decimal n) r (now (out .exit)) ⌝ }
+    ensures { λ r. ⌜ r ≤ at + length (now (s .entry)) + 20 ⌝ }
+{
+    put_field(out, at, s, n as u64)
+}
