@@ -6,11 +6,11 @@ use mathlib.Core.Logic.{_≢_}
 use Prim.Native.Nat.{ℕ, zero, suc, _+_, _-_, _*_, _/_, _%_, _^_, _≤_, _<_}
 use native.Mathlib.Nat.{pow-suc}
 use native.Mathlib.Omega.{arith}
-use borrow.Author.Tests.{ne-eqb}
+use borrow.Author.Tests.{ne-eqb, eqb-true}
 use lib.Dec.{eqb}
 use lib.ListN.{length, set, getD, take, drop, length-append, length-drop, length-set, drop-of-length-le}
 use lib.Seq.{drop-cons, getD-set-same, drop-set-lt, append-snoc, take-all}
-use Rattle.listing.specs.Text.{digit, digits, decimal}
+use Rattle.listing.specs.Text.{digit, digits, decimal, valueFrom}
 
 pub digits-none : (k : ℕ) → digits k 0 ≡ []
 unfolding digits
@@ -89,3 +89,22 @@ left-some n bytes (suc k) rest h l = omega arith
 -- the part that holds the number
 pub number-part : (n : ℕ) (bytes : List ℕ) (from : ℕ) → (from ≤ 19) × (length bytes ≡ 20) × (drop from bytes ≡ decimal n) → take (20 - from) (drop from bytes) ≡ decimal n
 number-part n bytes from (low, room, e) = take-all (20 - from) (drop from bytes) (omega (arith, length-drop from bytes)) ∙ e
+
+-- ---- digits read back
+
+value-append : (m : ℕ) (s : List ℕ) (d : ℕ) → valueFrom m (s ++ (d ∷ [])) ≡ valueFrom m s * 10 + (d - 48)
+value-append m [] d = refl
+value-append m (x ∷ s) d = value-append (m * 10 + (x - 48)) s d
+
+digits-value : (k n : ℕ) → n < 10 ^ k → valueFrom 0 (digits k n) ≡ n
+unfolding digits
+digits-value zero n h = omega arith
+digits-value (suc k) n h = go (eqb n 0) refl (digits-value k (n / 10) (omega (arith, pow-suc 10 k)))
+  where
+    go : (b : Bool) → eqb n 0 ≡ b → valueFrom 0 (digits k (n / 10)) ≡ n / 10 → valueFrom 0 (cond b [] (digits k (n / 10) ++ (digit n ∷ []))) ≡ n
+    go true e ih = sym (eqb-true n 0 e)
+    go false e ih = value-append 0 (digits k (n / 10)) (digit n) ∙ omega (arith, ih)
+
+pub decimal-value : (n : ℕ) → n < 10 ^ 20 → valueFrom 0 (decimal n) ≡ n
+unfolding decimal
+decimal-value n h = value-append 0 (digits 19 (n / 10)) (digit n) ∙ omega (arith, digits-value 19 (n / 10) (omega arith))

@@ -6,3 +6,4 @@ pub mod RunLaws
 pub mod LengthLaws
 pub mod ListsLaws
 pub mod Examples
+pub mod Theorems

@@ -123,6 +123,12 @@ abbrev pub answerOf : ℕ → Run → Listed
 answerOf n (refused number) = NoAuction number n
 answerOf n (ended first said last) = Auctioned (last .ending) n
 
+-- the length in an answer
+abbrev pub lengthIn : Listed → ℕ
+lengthIn Short = 0
+lengthIn (NoAuction number n) = n
+lengthIn (Auctioned ending n) = n
+
 unfoldable pub listedOf : List ℕ → List ℕ → Listed
 listedOf s out = cond (ltb (length out) roomOf) Short (answerOf (length (listingOf s)) (runOf s))
 

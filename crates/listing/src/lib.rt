@@ -8,7 +8,7 @@ ghost use Rattle.tape.specs.Tape.{eventPlace};
 ghost use Rattle.auction.specs.Step.{isOpen};
 ghost use Rattle.listing.specs.Text.{Wrote};
 ghost use Rattle.listing.specs.Run.{heard, answers, heardAll, refused, runEntry, runOrder};
-ghost use Rattle.listing.specs.Listing.{eventLines, roomOf, listedOf, bytesOf, Lists};
+ghost use Rattle.listing.specs.Listing.{eventLines, roomOf, lengthIn, listedOf, bytesOf, Lists};
 use auction::Answer;
 use auction::Auction;
 use auction::Ending;
@@ -41,6 +41,17 @@ pub enum Listed {
 
 // Every listing fits.
 pub const ROOM: usize = 131072;
+
+// How many bytes were written.
+pub fn length_of(l: Listed) -> usize
+    ensures { λ r. ⌜ r ≡ lengthIn l ⌝ }
+{
+    match l {
+        Listed::Short => 0,
+        Listed::Refused { number: _, length } => length,
+        Listed::Ended { ending: _, length } => length,
+    }
+}
 
 // ---- the event records
 
