@@ -1,0 +1,9 @@
+-- Laws and theorems of `listing`.
+pub mod WroteLaws
+pub mod DecimalLaws
+pub mod FillLaws
+pub mod RunLaws
+pub mod LengthLaws
+pub mod ListsLaws
+pub mod Examples
+pub mod Theorems

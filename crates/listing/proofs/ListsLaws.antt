@@ -1,0 +1,48 @@
+-- Laws of the writers of a run's lines.
+use mathlib.Core.Path.{_≡_, refl, sym, subst, ap, _∙_}
+use mathlib.Core.Bool.{cond}
+use mathlib.Core.List.{List, _++_}
+use Prim.Native.Nat.{ℕ, _+_, _≤_, _<_}
+use native.Mathlib.Omega.{arith}
+use borrow.Author.Tests.{lt-ltb, le-ltb}
+use lib.Dec.{ltb}
+use lib.ListN.{length, drop}
+use lib.Seq.{sets}
+use Rattle.words.proofs.ByteLaws.{sets-front}
+use Rattle.auction.specs.declared.Auction.{Auction}
+use Rattle.auction.specs.declared.Ending.{Ending}
+use Rattle.listing.specs.declared.Listed.{Listed}
+use Rattle.listing.specs.declared.Listed.the-variants.{Short, Ended as Auctioned}
+use Rattle.listing.specs.Text.{Wrote}
+use Rattle.listing.specs.Run.{Said, Run, ended, runOf}
+use Rattle.listing.specs.Listing.{auctionLine, eventLines, endLines, linesOf, listingOf, roomOf, answerOf, listedOf, bytesOf, Lists}
+use Rattle.listing.proofs.WroteLaws.{wrote-append}
+use Rattle.listing.proofs.LengthLaws.{listing-fits}
+
+pub wrote-lists : {xs ys : List ℕ} {n : ℕ} (run : Run) → Wrote xs 0 (linesOf run) n ys → Lists run xs (answerOf n run) ys
+wrote-lists {xs} {ys} {n} run a =
+    let e : n ≡ length (linesOf run) = omega (arith, a .place) in
+    record { answer = ap (λ (k : ℕ). answerOf k run) e; bytes = a .bytes }
+
+pub lists-same : {xs ys : List ℕ} {r : Listed} {run other : Run} → Lists run xs r ys → run ≡ other → Lists other xs r ys
+lists-same {xs} {ys} {r} l e = subst (λ u. Lists u xs r ys) e l
+
+-- an auction: its opening, its records, and its end
+pub auction-lists : {ws xs ys zs : List ℕ} {u v n : ℕ} {a : Auction} {es : List Said} {last : Auction} → Wrote ws 0 (auctionLine a) u xs → Wrote xs u (eventLines es) v ys → Wrote ys v (endLines last) n zs
+    → (g : Ending) (b : Auction) → g ≡ last .ending → last ≡ b → Lists (ended a es b) ws (Auctioned g n) zs
+auction-lists {ws} {xs} {ys} {zs} {u} {v} {n} {a} {es} {last} p q r g b eg el =
+    subst (λ h. Lists (ended a es b) ws (Auctioned h n) zs) (sym eg)
+    (subst (λ c. Lists (ended a es c) ws (Auctioned (last .ending) n) zs) el
+    (wrote-lists (ended a es last) (wrote-append p (wrote-append q r))))
+
+-- ---- the whole listing
+
+module _ (s xs : List ℕ) where
+  pub too-small : length xs < roomOf → (Short ≡ listedOf s xs) × (xs ≡ bytesOf s xs)
+  unfolding listedOf bytesOf
+  too-small h = rw (lt-ltb (length xs) roomOf h) (refl, refl)
+
+  pub lists-whole : {r : Listed} {ys : List ℕ} → roomOf ≤ length xs → Lists (runOf s) xs r ys → (r ≡ listedOf s xs) × (ys ≡ bytesOf s xs)
+  unfolding listedOf bytesOf listingOf
+  lists-whole h l =
+      rw (le-ltb (length xs) roomOf h) (l .answer, l .bytes ∙ sets-front (linesOf (runOf s)) xs (length (linesOf (runOf s))) refl (omega (arith, listing-fits s)))

@@ -1,0 +1,118 @@
+-- Laws of what a tape comes to, and of the loop over its event records.
+use mathlib.Core.Path.{_≡_, refl, sym, ap, ap₂, _∙_}
+use mathlib.Core.Bool.{Bool, true, false, cond, not}
+use mathlib.Core.List.{List, [], _∷_, _++_}
+use Prim.Native.Nat.{ℕ, zero, suc, _+_, _-_, _*_, _≤_, _<_}
+use native.Mathlib.Nat.{sub-zero}
+use native.Mathlib.Omega.{arith}
+use borrow.Author.Tests.{not-true, not-false}
+use lib.ListN.{length, take, drop, take-append-drop}
+use lib.Seq.{drop-drop, length-take-le}
+use Rattle.words.specs.Bytes.{wordAt}
+use Rattle.words.proofs.ByteLaws.{word-past}
+use Rattle.tape.specs.declared.Trailer.{Trailer}
+use Rattle.tape.specs.declared.Opened.the-variants.{Tape}
+use Rattle.tape.specs.declared.ReadEvent.{ReadEvent}
+use Rattle.tape.specs.Records.{readEvent}
+use Rattle.tape.specs.Tape.{openTape, eventPlace}
+use Rattle.tape.specs.Demands.{Holds}
+use Rattle.tape.proofs.TapeBack.{holds}
+use Rattle.auction.specs.declared.Auction.{Auction}
+use Rattle.auction.specs.declared.Stepped.{Stepped}
+use Rattle.auction.specs.Step.{isOpen, gives, endedByTime, closeOf}
+use Rattle.auction.specs.declared.Answer.the-variants.{Late, Refused}
+use Rattle.auction.specs.Fills.{hasEnded}
+use Rattle.listing.specs.Run.{Said, said, heard, answers, heardAll, closed}
+use Rattle.listing.specs.Listing.{eventLine, eventLines}
+
+-- ---- the tape
+
+-- an opened tape holds its order and all its records before its trailer
+pub tape-fits : (s : List ℕ) (t : Trailer) → openTape s ≡ Tape t → (t .order + 80 + t .events * 32 ≤ length s) × (length s ≤ 65536)
+tape-fits s t e = go (t .events) refl
+  where
+    h : Holds s t
+    h = holds s t e
+    go : (n : ℕ) → t .events ≡ n → (t .order + 80 + t .events * 32 ≤ length s) × (length s ≤ 65536)
+    go zero z = (omega (arith, h .order), h .short)
+    go (suc n) z = (omega (arith, h .event n (omega arith)), h .short)
+
+-- an auction that was closed by hand has ended
+pub closed-ended : (a : Auction) → hasEnded (closed a) ≡ true
+unfolding closeOf endedByTime
+closed-ended a = go (isOpen (a .ending)) refl
+  where
+    go : (b : Bool) → isOpen (a .ending) ≡ b → not (isOpen (cond b (gives Late (endedByTime a)) (gives (Refused 31) a) .auction .ending)) ≡ true
+    go true e = refl
+    go false e = rw e
+
+-- the number of a record out of form
+pub form-ended : (a : Auction) → hasEnded a ≡ true → _≡_ {A = ℕ} 31 (cond (isOpen (a .ending)) 32 31)
+form-ended a e = ap {B = ℕ} (λ b. cond b 32 31) (sym (not-true (isOpen (a .ending)) e))
+
+pub form-open : (a : Auction) → hasEnded a ≡ false → _≡_ {A = ℕ} 32 (cond (isOpen (a .ending)) 32 31)
+form-open a e = ap {B = ℕ} (λ b. cond b 32 31) (sym (not-false (isOpen (a .ending)) e))
+
+-- ---- the records, from record k on
+
+-- the word at a place is the first of what stands there
+word-from : (s : List ℕ) (p : ℕ) → p ≤ length s → wordAt s p ≡ wordAt (drop p s) 0
+word-from s p h =
+    let z : p + 0 ≡ p = omega arith in
+    rw (take-append-drop p s, z) at (word-past (take p s) (drop p s) p 0 (length-take-le p s h))
+
+module _ (s : List ℕ) (at events : ℕ) where
+  abbrev pub answersFrom : ℕ → Auction → List Said
+  answersFrom k a = answers (events - k) (drop (eventPlace at k) s) a
+
+  abbrev pub heardFrom : ℕ → Auction → Auction
+  heardFrom k a = heardAll (events - k) (drop (eventPlace at k) s) a
+
+  next-place : (k : ℕ) → drop 32 (drop (eventPlace at k) s) ≡ drop (eventPlace at (k + 1)) s
+  next-place k = let e : eventPlace at k + 32 ≡ eventPlace at (k + 1) = omega arith in drop-drop 32 (eventPlace at k) s ∙ ap (λ (p : ℕ). drop p s) e
+
+  record-at : ℕ → ReadEvent
+  record-at k = readEvent (drop (eventPlace at k) s)
+
+  answers-more : (k : ℕ) (a : Auction) → k < events → eventPlace at k ≤ length s
+      → answersFrom k a ≡ said (wordAt s (eventPlace at k)) (heard a (record-at k) .answer) ∷ answersFrom (k + 1) (heard a (record-at k) .auction)
+  unfolding answers record-at
+  answers-more k a h p =
+      let e : events - k ≡ suc (events - (k + 1)) = omega arith in
+      ap (λ (n : ℕ). answers n (drop (eventPlace at k) s) a) e
+      ∙ ap₂ {C = List Said} (λ q r. said q (heard a (record-at k) .answer) ∷ answers (events - (k + 1)) r (heard a (record-at k) .auction)) (sym (word-from s (eventPlace at k) p)) (next-place k)
+
+  heard-more : (k : ℕ) (a : Auction) → k < events → heardFrom k a ≡ heardFrom (k + 1) (heard a (record-at k) .auction)
+  unfolding heardAll record-at
+  heard-more k a h =
+      let e : events - k ≡ suc (events - (k + 1)) = omega arith in
+      ap (λ (n : ℕ). heardAll n (drop (eventPlace at k) s) a) e
+      ∙ ap (λ (r : List ℕ). heardAll (events - (k + 1)) r (heard a (record-at k) .auction)) (next-place k)
+
+  -- a turn of the loop: record k was read as r, its first word as q, and it did t
+  module _ (k q : ℕ) (a : Auction) (r : ReadEvent) (t : Stepped) (eq : q ≡ wordAt s (eventPlace at k)) (er : r ≡ readEvent (drop (eventPlace at k) s)) (et : t ≡ heard a r) where
+    did : t ≡ heard a (record-at k)
+    unfolding record-at
+    did = et ∙ ap (heard a) er
+
+    pub events-turn : k < events → eventPlace at k ≤ length s → eventLines (answersFrom k a) ≡ eventLine (said q (t .answer)) ++ eventLines (answersFrom (k + 1) (t .auction))
+    events-turn h p =
+        ap eventLines (answers-more k a h p)
+        ∙ ap₂ {C = List ℕ} (λ v u. eventLine (said v (u .answer)) ++ eventLines (answersFrom (k + 1) (u .auction))) (sym eq) (sym did)
+
+    pub heard-turn : k < events → heardFrom (k + 1) (t .auction) ≡ heardFrom k a
+    heard-turn h = ap (λ (u : Stepped). heardFrom (k + 1) (u .auction)) did ∙ sym (heard-more k a h)
+
+  pub answers-none : (k : ℕ) (a : Auction) → events ≤ k → answersFrom k a ≡ []
+  unfolding answers
+  answers-none k a h = let e : events - k ≡ 0 = omega arith in rw e
+
+  pub heard-none : (k : ℕ) (a : Auction) → events ≤ k → heardFrom k a ≡ a
+  unfolding heardAll
+  heard-none k a h = let e : events - k ≡ 0 = omega arith in rw e
+
+  pub answers-all : (a : Auction) → answers events (drop (eventPlace at 0) s) a ≡ answersFrom 0 a
+  answers-all a = rw (sub-zero events)
+
+  pub heard-all : (a : Auction) → heardAll events (drop (eventPlace at 0) s) a ≡ heardFrom 0 a
+  heard-all a = rw (sub-zero events)

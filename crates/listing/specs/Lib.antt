@@ -1,0 +1,5 @@
+-- What the contract of `listing` cites, and the statements of its theorems.
+pub mod Text
+pub mod Run
+pub mod Listing
+pub mod Demands
