@@ -160,7 +160,10 @@ fn count_ending(mut t: Tally, g: Ending) -> Tally {
 
 fn count_listed(mut t: Tally, l: Listed) -> Tally {
     match l {
-        Listed::Refused { number: _, length: _ } => {
+        Listed::Refused {
+            number: _,
+            length: _,
+        } => {
             t.refused = one_more(t.refused);
             t
         }

@@ -2,13 +2,12 @@
 use mathlib.Core.Path.{_≡_, refl, sym, ap, ap₂, _∙_}
 use mathlib.Core.Bool.{true}
 use mathlib.Core.List.{List, [], _∷_, _++_}
-use Prim.Native.Nat.{ℕ, zero, suc, _+_, _-_, _*_, _≤_, _<_}
+use Prim.Native.Nat.{ℕ, suc, _+_, _-_, _*_, _≤_, _<_}
 use native.Mathlib.Nat.{sub-zero}
 use native.Mathlib.Omega.{arith}
 use lib.ListN.{length, getD, drop, length-append, length-drop}
 use lib.Seq.{getD-drop, drop-drop}
 use Rattle.share.specs.Fills.{Fill, words}
-use Rattle.trade.specs.Trade.{total}
 use Rattle.share.proofs.FillsLaws.{length-words}
 use Rattle.trade.proofs.WholeLaws.{fills-few, counted, words-after}
 use Rattle.auction.specs.declared.Auction.{Auction}

@@ -1,5 +1,5 @@
 -- How long a listing is at most: its lines, the records of a tape, and the fills of a board of 64 places.
-use mathlib.Core.Path.{_≡_, refl, sym, ap, _∙_}
+use mathlib.Core.Path.{_≡_, refl, ap, _∙_}
 use mathlib.Core.Bool.{Bool, true, false, cond}
 use mathlib.Core.List.{List, [], _∷_, _++_}
 use Prim.Native.Nat.{ℕ, zero, suc, _+_, _*_, _≤_}
@@ -9,7 +9,6 @@ use lib.Dec.{eqb, leb, ltb}
 use lib.ListN.{length, drop, set, length-append, length-set}
 use Rattle.words.specs.Bits.{withBit}
 use Rattle.board.specs.declared.Board.{Board}
-use Rattle.board.specs.declared.Response.{Response}
 use Rattle.board.specs.Board.{emptyBoard, firstFree, placed, findGtx}
 use Rattle.share.specs.Fills.{Fill}
 use Rattle.tape.specs.declared.Event.{Event}
@@ -43,7 +42,7 @@ use Rattle.auction.specs.Accept.{orderRefusal, openedBy, noAuction, acceptOf}
 use Rattle.auction.specs.Step.{isOpen, eventRefusal, boardAfter, after, endedByTime, gives, carried, isFull, outcomeOf, inTime, stepOf, closeOf}
 use Rattle.auction.specs.Fills.{rangeOf, dealOf, auctionFills}
 use Rattle.listing.specs.Text.{text, decimal, newline}
-use Rattle.listing.specs.Run.{Said, heard, answers, heardAll, Run, refused, ended, closed, runEntry, runOrder, runTape, runOf}
+use Rattle.listing.specs.Run.{Said, heard, answers, heardAll, refused, closed, runEntry, runOrder, runTape, runOf}
 use Rattle.listing.specs.Listing.{field, refusedLine, rangeText, sideText, auctionLine, answerText, eventLine, endText, endLine, partyText, fillLine, totalLine, eventLines, fillLines, endLines, linesOf, listingOf, roomOf}
 use Rattle.listing.proofs.DecimalLaws.{decimal-short}
 use Rattle.listing.proofs.RunLaws.{tape-fits}
@@ -205,8 +204,15 @@ entry-short n s a (NoEntry number) h p = omega (arith, refused-short number)
 entry-short n s a Accepted h p =
     let last : Auction = closed (heardAll n s a) in
     let e : List Said = answers n s a in
-    omega (arith, length-append (auctionLine a) (eventLines e ++ endLines last), length-append (eventLines e) (endLines last), auction-short a, events-short e, answers-length n s a,
-    end-lines-short last (closed-kept (heardAll n s a) ∙ all-kept n s a ∙ p))
+    omega (
+      arith,
+      length-append (auctionLine a) (eventLines e ++ endLines last),
+      length-append (eventLines e) (endLines last),
+      auction-short a,
+      events-short e,
+      answers-length n s a,
+      end-lines-short last (closed-kept (heardAll n s a) ∙ all-kept n s a ∙ p),
+    )
 
 order-short : (n : ℕ) (s : List ℕ) (r : ReadOrder) → n ≤ 2045 → length (linesOf (runOrder n s r)) ≤ roomOf
 order-short n s (NoOrder number) h = omega (arith, refused-short number)

@@ -33,6 +33,7 @@ tape-fits s t e = go (t .events) refl
   where
     h : Holds s t
     h = holds s t e
+
     go : (n : ℕ) → t .events ≡ n → (t .order + 80 + t .events * 32 ≤ length s) × (length s ≤ 65536)
     go zero z = (omega (arith, h .order), h .short)
     go (suc n) z = (omega (arith, h .event n (omega arith)), h .short)

@@ -15,9 +15,20 @@ use Rattle.listing.specs.Listing.{listingOf, roomOf, lengthIn, listedOf,
 abbrev pub orderC : Order
 orderC =
     record {
-      side = 1; mode = 2; marks = 0; size = 10; limit = 110; stop = 0;
-      nbb = 100; nbo = 110; bb = 100; bo = 110;
-      time = 34200000; opens = 34200000; closes = 57600000; interval = 100;
+      side = 1;
+      mode = 2;
+      marks = 0;
+      size = 10;
+      limit = 110;
+      stop = 0;
+      nbb = 100;
+      nbo = 110;
+      bb = 100;
+      bo = 110;
+      time = 34200000;
+      opens = 34200000;
+      closes = 57600000;
+      interval = 100;
     }
 
 abbrev pub responseC : Event
@@ -42,9 +53,20 @@ listingC =
 abbrev pub orderE : Order
 orderE =
     record {
-      side = 2; mode = 2; marks = 0; size = 10; limit = 102; stop = 0;
-      nbb = 100; nbo = 110; bb = 100; bo = 110;
-      time = 34200000; opens = 34200000; closes = 57600000; interval = 100;
+      side = 2;
+      mode = 2;
+      marks = 0;
+      size = 10;
+      limit = 102;
+      stop = 0;
+      nbb = 100;
+      nbo = 110;
+      bb = 100;
+      bo = 110;
+      time = 34200000;
+      opens = 34200000;
+      closes = 57600000;
+      interval = 100;
     }
 
 -- of no kind

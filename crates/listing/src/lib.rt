@@ -121,10 +121,7 @@ fn list_refused(out: &mut [u8], number: u32) -> Listed
     ensures { λ r. ⌜ Lists (refused number) (now (out .entry)) r (now (out .exit)) ⌝ }
 {
     let n = put_refused(out, 0, number);
-    Listed::Refused {
-        number,
-        length: n,
-    }
+    Listed::Refused { number, length: n }
 }
 
 // An open auction, with its records after the order at `at`.

@@ -5,14 +5,14 @@ ghost use Rattle.auction.specs.Fills.{rangeOf};
 ghost use Rattle.listing.specs.Text.{Wrote};
 ghost use Rattle.listing.specs.Run.{said};
 ghost use Rattle.listing.specs.Listing.{refusedLine, rangeText, sideText, auctionLine, answerText, eventLine, endText, endLine, partyText, fill, fillLine, totalLine};
+use crate::text::put_field;
+use crate::text::put_text;
+use crate::text::put_word;
 use auction::Answer;
 use auction::Auction;
 use auction::Ending;
 use auction::Range;
 use auction::price_range;
-use crate::text::put_field;
-use crate::text::put_text;
-use crate::text::put_word;
 
 pub(crate) fn put_refused(out: &mut [u8], at: usize, number: u32) -> usize
     requires { ⌜ at + 29 ≤ length (now out) ⌝ }

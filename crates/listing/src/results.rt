@@ -8,11 +8,11 @@ ghost use Rattle.trade.specs.Trade.{total};
 ghost use Rattle.auction.specs.Fills.{hasEnded, auctionFills};
 ghost use Rattle.listing.specs.Text.{Wrote};
 ghost use Rattle.listing.specs.Listing.{countIn, fillsIn, fillLines, endLines};
-use auction::Auction;
-use auction::write_fills;
 use crate::lines::put_end;
 use crate::lines::put_fill;
 use crate::lines::put_total;
+use auction::Auction;
+use auction::write_fills;
 use trade::Filled;
 
 // A word in 64 bits.

@@ -4,26 +4,19 @@ use Rattle.io.proofs.Counting.{counts}
 use borrow.Author.Needs.{needs}
 use Rattle.evening.proofs.keep.Statement.{statement}
 use Rattle.evening.proofs.keep.Tie as tie
-use Rattle.evening.proofs.keep.Reads as reads
-use Rattle.evening.proofs.keep.Lts as lts
 
--- src/main.rt:75:9
 slice-write-name : tie.Need-slice-write-name
 slice-write-name c = search needs
 
--- src/main.rt:76:16
 add-result : tie.Need-add-result
 add-result c = search needs
 
--- src/main.rt:76:9
 same-length : tie.Need-same-length
 same-length c = search needs
 
--- src/main.rt:76:9
 returns : tie.Need-returns
 returns c = counts _ _ (simp length-set (omega (arith, c .if1 .taken)))
 
--- src/main.rt:71:1
 returns-2 : tie.Need-returns-2
 returns-2 c = counts _ _ (omega arith)
 

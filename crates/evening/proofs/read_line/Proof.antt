@@ -7,10 +7,6 @@ use Rattle.io.specs.Counts.{Counts}
 use Rattle.io.proofs.Counting.{counts}
 use Rattle.evening.proofs.read_line.Statement.{statement}
 use Rattle.evening.proofs.read_line.Tie as tie
-use Rattle.evening.proofs.read_line.Reads as reads
-use Rattle.evening.proofs.read_line.Lts as lts
-use Rattle.evening.proofs.keep.Reads as keep-reads
-use Rattle.evening.proofs.next_byte.Reads as next-byte-reads
 
 abbrev Inv-loop : tie.InvT-loop
 Inv-loop input₀ name₀ s₀ k₀ turns₀ input name s k turns = Counts k name × (length name ≡ length name₀) × (length input ≡ length input₀)
@@ -18,63 +14,48 @@ Inv-loop input₀ name₀ s₀ k₀ turns₀ input name s k turns = Counts k nam
 abbrev μ-loop : tie.MeasureT-loop
 μ-loop input₀ name₀ s₀ k₀ turns₀ input name s k turns = turns
 
--- src/main.rt:95:5
 loop-holds : tie.Need-loop-holds Inv-loop μ-loop
 loop-holds c = (counts 0 (now (c .before .before .args .name)) (omega arith), omega arith, omega arith)
 
--- src/main.rt:96:13
 next-byte-requires : tie.Need-next-byte-requires Inv-loop μ-loop
 next-byte-requires c κs = search needs
 
--- src/main.rt:99:13
 same-length : tie.Need-same-length Inv-loop μ-loop
 same-length c = search needs
 
--- src/main.rt:99:13
 same-length-2 : tie.Need-same-length-2 Inv-loop μ-loop
 same-length-2 c = search needs
 
--- src/main.rt:99:13
 returns : tie.Need-returns Inv-loop μ-loop
 returns c = search needs
 
--- src/main.rt:106:13
 same-length-3 : tie.Need-same-length-3 Inv-loop μ-loop
 same-length-3 c = search needs
 
--- src/main.rt:106:13
 same-length-4 : tie.Need-same-length-4 Inv-loop μ-loop
 same-length-4 c = search needs
 
--- src/main.rt:106:13
 returns-2 : tie.Need-returns-2 Inv-loop μ-loop
 returns-2 c = search needs
 
--- src/main.rt:112:9
 keep-requires : tie.Need-keep-requires Inv-loop μ-loop
 keep-requires c κs = search needs
 
--- src/main.rt:113:9
 sub-turns : tie.Need-sub-turns Inv-loop μ-loop
 sub-turns c = search needs
 
--- src/main.rt:95:5
 loop-less : tie.Need-loop-less Inv-loop μ-loop
 loop-less c = search needs
 
--- src/main.rt:95:5
 loop-again : tie.Need-loop-again Inv-loop μ-loop
 loop-again c = search needs
 
--- src/main.rt:89:1
 same-length-5 : tie.Need-same-length-5 Inv-loop μ-loop
 same-length-5 c = search needs
 
--- src/main.rt:89:1
 same-length-6 : tie.Need-same-length-6 Inv-loop μ-loop
 same-length-6 c = search needs
 
--- src/main.rt:89:1
 returns-3 : tie.Need-returns-3 Inv-loop μ-loop
 returns-3 c = search needs
 

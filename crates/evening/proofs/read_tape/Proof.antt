@@ -1,15 +1,10 @@
 use borrow.Author.Needs.{needs}
-use native.Mathlib.Omega.{arith}
 use Prim.Native.Nat.{_-_, _≤_}
 use mathlib.Core.Path.{_≡_}
 use lib.ListN.{length}
 use Rattle.io.proofs.Counting.{counts}
 use Rattle.evening.proofs.read_tape.Statement.{statement}
 use Rattle.evening.proofs.read_tape.Tie as tie
-use Rattle.evening.proofs.read_tape.Reads as reads
-use Rattle.evening.proofs.read_tape.Lts as lts
-use Rattle.io.proofs.count.Reads as count-reads
-use Rattle.libc.proofs.read.Reads as read-reads
 
 abbrev Inv-loop : tie.InvT-loop
 Inv-loop fd tape₀ n₀ tape n = (n ≤ length tape) × (length tape ≡ length tape₀)
@@ -17,67 +12,51 @@ Inv-loop fd tape₀ n₀ tape n = (n ≤ length tape) × (length tape ≡ length
 abbrev μ-loop : tie.MeasureT-loop
 μ-loop fd tape₀ n₀ tape n = length tape - n
 
--- src/main.rt:200:5
 loop-holds : tie.Need-loop-holds Inv-loop μ-loop
 loop-holds c = search needs
 
--- src/main.rt:201:34
 sub-read : tie.Need-sub-read Inv-loop μ-loop
 sub-read c = search needs
 
--- src/main.rt:201:34
 part-read-start : tie.Need-part-read-start Inv-loop μ-loop
 part-read-start c = search needs
 
--- src/main.rt:201:34
 part-read-end : tie.Need-part-read-end Inv-loop μ-loop
 part-read-end c = search needs
 
--- src/main.rt:201:13
 read-requires : tie.Need-read-requires Inv-loop μ-loop
 read-requires c κs = search needs
 
--- src/main.rt:202:35
 sub-count : tie.Need-sub-count Inv-loop μ-loop
 sub-count c = search needs
 
--- src/main.rt:202:35
 part-count-start : tie.Need-part-count-start Inv-loop μ-loop
 part-count-start c = search needs
 
--- src/main.rt:202:35
 part-count-end : tie.Need-part-count-end Inv-loop μ-loop
 part-count-end c = search needs
 
--- src/main.rt:202:13
 count-requires : tie.Need-count-requires Inv-loop μ-loop
 count-requires c κs = search needs
 
--- src/main.rt:204:13
 same-length : tie.Need-same-length Inv-loop μ-loop
 same-length c = search needs
 
--- src/main.rt:204:13
 returns : tie.Need-returns Inv-loop μ-loop
 returns c = counts (c .before .before .before .before .before .before .before .before .before .loop .n) _ (search needs)
 
--- src/main.rt:209:9
 add-n : tie.Need-add-n Inv-loop μ-loop
 add-n c = search needs
 
--- src/main.rt:200:5
 loop-less : tie.Need-loop-less Inv-loop μ-loop
 loop-less c = search needs
 
--- src/main.rt:200:5
 loop-again : tie.Need-loop-again Inv-loop μ-loop
 loop-again c = search needs
 
--- src/main.rt:196:1
 same-length-2 : tie.Need-same-length-2 Inv-loop μ-loop
 same-length-2 c = search needs
 
--- src/main.rt:196:1
 returns-2 : tie.Need-returns-2 Inv-loop μ-loop
 returns-2 c = counts (c .before .loop .n) (c .before .loop .tape) (c .before .loop .inv .0)
 

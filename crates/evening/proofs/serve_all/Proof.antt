@@ -3,11 +3,6 @@ use lib.ListN.{length}
 use borrow.Author.Needs.{needs}
 use Rattle.evening.proofs.serve_all.Statement.{statement}
 use Rattle.evening.proofs.serve_all.Tie as tie
-use Rattle.evening.proofs.serve_all.Reads as reads
-use Rattle.evening.proofs.serve_all.Lts as lts
-use Rattle.evening.proofs.one_more.Reads as one-more-reads
-use Rattle.evening.proofs.read_line.Reads as read-line-reads
-use Rattle.evening.proofs.serve.Reads as serve-reads
 
 abbrev Inv-loop : tie.InvT-loop
 Inv-loop input₀ name₀ tape₀ out₀ t₀ s₀ turns₀ input name tape out t s turns = (length input ≡ length input₀) × (length name ≡ length name₀) × (length tape ≡ length tape₀) × (length out ≡ length out₀)
@@ -15,79 +10,60 @@ Inv-loop input₀ name₀ tape₀ out₀ t₀ s₀ turns₀ input name tape out 
 abbrev μ-loop : tie.MeasureT-loop
 μ-loop input₀ name₀ tape₀ out₀ t₀ s₀ turns₀ input name tape out t s turns = turns
 
--- src/main.rt:254:5
 loop-holds : tie.Need-loop-holds Inv-loop μ-loop
 loop-holds c = search needs
 
--- src/main.rt:255:13
 read-line-requires : tie.Need-read-line-requires Inv-loop μ-loop
 read-line-requires c κs = search needs
 
--- src/main.rt:258:13
 same-length : tie.Need-same-length Inv-loop μ-loop
 same-length c = search needs
 
--- src/main.rt:258:13
 same-length-2 : tie.Need-same-length-2 Inv-loop μ-loop
 same-length-2 c = search needs
 
--- src/main.rt:258:13
 same-length-3 : tie.Need-same-length-3 Inv-loop μ-loop
 same-length-3 c = search needs
 
--- src/main.rt:258:13
 same-length-4 : tie.Need-same-length-4 Inv-loop μ-loop
 same-length-4 c = search needs
 
--- src/main.rt:258:13
 returns : tie.Need-returns Inv-loop μ-loop
 returns c = search needs
 
--- src/main.rt:261:22
 slice-reshare-prefix-serve : tie.Need-slice-reshare-prefix-serve Inv-loop μ-loop
 slice-reshare-prefix-serve c = search needs
 
--- src/main.rt:261:22
 slice-aggregate-serve : tie.Need-slice-aggregate-serve Inv-loop μ-loop
 slice-aggregate-serve c = search needs
 
--- src/main.rt:261:9
 serve-requires : tie.Need-serve-requires Inv-loop μ-loop
 serve-requires c κs = search needs
 
--- src/main.rt:262:9
 one-more-requires : tie.Need-one-more-requires Inv-loop μ-loop
 one-more-requires c κs = search needs
 
--- src/main.rt:263:9
 sub-turns : tie.Need-sub-turns Inv-loop μ-loop
 sub-turns c = search needs
 
--- src/main.rt:254:5
 loop-less : tie.Need-loop-less Inv-loop μ-loop
 loop-less c = search needs
 
--- src/main.rt:254:5
 loop-again : tie.Need-loop-again Inv-loop μ-loop
 loop-again c = search needs
 
--- src/main.rt:242:1
 same-length-5 : tie.Need-same-length-5 Inv-loop μ-loop
 same-length-5 c = search needs
 
--- src/main.rt:242:1
 same-length-6 : tie.Need-same-length-6 Inv-loop μ-loop
 same-length-6 c = search needs
 
--- src/main.rt:242:1
 same-length-7 : tie.Need-same-length-7 Inv-loop μ-loop
 same-length-7 c = search needs
 
--- src/main.rt:242:1
 same-length-8 : tie.Need-same-length-8 Inv-loop μ-loop
 same-length-8 c = search needs
 
--- src/main.rt:242:1
 returns-2 : tie.Need-returns-2 Inv-loop μ-loop
 returns-2 c = search needs
 

@@ -6,32 +6,22 @@ use Rattle.listing.specs.Run.{heard}
 use borrow.Author.Needs.{needs}
 use Rattle.listing.proofs.hear.Statement.{statement}
 use Rattle.listing.proofs.hear.Tie as tie
-use Rattle.listing.proofs.hear.Reads as reads
-use Rattle.listing.proofs.hear.Lts as lts
-use Rattle.auction.proofs.step.Reads as step-reads
-use Rattle.listing.proofs.out_of_form.Reads as out-of-form-reads
 
--- src/lib.rt:62:26
 enum-known-r : tie.Need-enum-known-r
 enum-known-r c = search needs
 
--- src/lib.rt:62:32
 step-requires : tie.Need-step-requires
 step-requires c κs = search needs
 
--- src/lib.rt:64:37
 enum-told : tie.Need-enum-told
 enum-told c = search needs
 
--- src/lib.rt:64:37
 out-of-form-requires : tie.Need-out-of-form-requires
 out-of-form-requires c κs = search needs
 
--- src/lib.rt:58:1
 returns : tie.Need-returns
 returns c = let a = c .before .before .before .before .args in c .step .ensures ∙ ap (heard (a .a)) (sym (c .before .before .r .given .1))
 
--- src/lib.rt:58:1
 returns-2 : tie.Need-returns-2
 returns-2 c = let a = c .before .before .before .args in ap (λ (n : ℕ). gives (Refused n) (a .a)) (c .out-of-form .ensures) ∙ ap (heard (a .a)) (sym (c .before .enum-told .given .1))
 

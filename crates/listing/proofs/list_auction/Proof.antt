@@ -1,10 +1,8 @@
 use mathlib.Core.Path.{_≡_, ap, _∙_}
-use mathlib.Core.Bool.{true}
 use native.Mathlib.Omega.{arith}
 use denote.Ref.{now}
 use lib.ListN.{drop}
 use Rattle.tape.specs.Tape.{eventPlace}
-use Rattle.auction.specs.declared.Auction.{Auction}
 use Rattle.auction.specs.declared.Stepped.{Stepped}
 use Rattle.auction.specs.Fills.{hasEnded}
 use Rattle.listing.specs.Run.{heardAll, closed}
@@ -13,43 +11,29 @@ use Rattle.listing.proofs.ListsLaws.{auction-lists}
 use borrow.Author.Needs.{needs}
 use Rattle.listing.proofs.list_auction.Statement.{statement}
 use Rattle.listing.proofs.list_auction.Tie as tie
-use Rattle.listing.proofs.list_auction.Reads as reads
-use Rattle.listing.proofs.list_auction.Lts as lts
-use Rattle.auction.proofs.close.Reads as close-reads
-use Rattle.auction.proofs.ending_of.Reads as ending-of-reads
-use Rattle.listing.proofs.lines.put_auction.Reads as put-auction-reads
-use Rattle.listing.proofs.put_events.Reads as put-events-reads
-use Rattle.listing.proofs.results.put_results.Reads as put-results-reads
 
--- src/lib.rt:124:9
 put-auction-requires : tie.Need-put-auction-requires
 put-auction-requires c κs = search needs
 
--- src/lib.rt:125:9
 put-events-requires : tie.Need-put-events-requires
 put-events-requires c κs = search needs
 
--- src/lib.rt:126:9
 close-requires : tie.Need-close-requires
 close-requires c κs = search needs
 
--- src/lib.rt:128:9
 put-results-requires : tie.Need-put-results-requires
-put-results-requires c κs = 
+put-results-requires c κs =
     let e : c .before .before .close .result .auction ≡ closed (c .before .before .before .before .before .put-events .result .auction) = ap (λ (s : Stepped). s .auction) (c .before .before .close .ensures) in
     (ap hasEnded e ∙ closed-ended (c .before .before .before .before .before .put-events .result .auction), omega (arith, c .before .before .before .before .before .before .before .before .before .before .before .before .before .pre .0, c .before .before .before .before .before .before .before .before .before .before .before .before .before .pre .1, c .before .before .before .before .before .before .before .before .before .before .before .before .before .pre .2, c .before .before .before .before .before .before .before .before .before .put-auction .ensures .1, c .before .before .before .before .before .put-events .ensures .1 .1))
 
--- src/lib.rt:130:17
 ending-of-requires : tie.Need-ending-of-requires
 ending-of-requires c κs = search needs
 
--- src/lib.rt:120:1
 same-length : tie.Need-same-length
 same-length c = search needs
 
--- src/lib.rt:120:1
 returns : tie.Need-returns
-returns c = 
+returns c =
     let a = c .before .before .before .before .before .before .before .before .before .before .before .before .before .before .before .before .before .args in
     let h = c .before .before .before .before .before .before .before .before .before .put-events in
     let last = ap (λ (s : Stepped). s .auction) (c .before .before .before .before .before .before .close .ensures) ∙ ap closed (h .ensures .1 .0) in

@@ -8,51 +8,37 @@ use Rattle.listing.proofs.ListsLaws.{lists-same}
 use borrow.Author.Needs.{needs}
 use Rattle.listing.proofs.list_order.Statement.{statement}
 use Rattle.listing.proofs.list_order.Tie as tie
-use Rattle.listing.proofs.list_order.Reads as reads
-use Rattle.listing.proofs.list_order.Lts as lts
-use Rattle.auction.proofs.accept.Reads as accept-reads
-use Rattle.listing.proofs.list_auction.Reads as list-auction-reads
-use Rattle.listing.proofs.list_refused.Reads as list-refused-reads
 
--- src/lib.rt:139:9
 accept-requires : tie.Need-accept-requires
 accept-requires c κs = search needs
 
--- src/lib.rt:143:62
 enum-told : tie.Need-enum-told
 enum-told c = search needs
 
--- src/lib.rt:143:28
 list-auction-requires : tie.Need-list-auction-requires
 list-auction-requires c κs = search needs
 
--- src/lib.rt:144:24
 enum-known-answer : tie.Need-enum-known-answer
 enum-known-answer c = search needs
 
--- src/lib.rt:144:35
 list-refused-requires : tie.Need-list-refused-requires
 list-refused-requires c κs = search needs
 
--- src/lib.rt:135:1
 same-length : tie.Need-same-length
 same-length c = search needs
 
--- src/lib.rt:135:1
 returns : tie.Need-returns
-returns c = 
+returns c =
     let a = c .before .before .before .before .before .before .before .before .before .before .args in
     let s = drop (eventPlace (a .at) 0) (now (a .tape)) in
     let o = c .before .before .before .before .before .before .before .accept in
     lists-same (c .before .before .list-auction .ensures) (ap (runEntry (a .events) s (o .result .auction)) (sym (c .before .before .before .before .enum-told .given .1)) ∙ ap (λ (x : Opening). runEntry (a .events) s (x .auction) (x .answer)) (o .ensures))
 
--- src/lib.rt:135:1
 same-length-2 : tie.Need-same-length-2
 same-length-2 c = search needs
 
--- src/lib.rt:135:1
 returns-2 : tie.Need-returns-2
-returns-2 c = 
+returns-2 c =
     let a = c .before .before .before .before .before .before .before .before .before .before .before .args in
     let s = drop (eventPlace (a .at) 0) (now (a .tape)) in
     let o = c .before .before .before .before .before .before .before .before .accept in

@@ -1,22 +1,15 @@
-use mathlib.Core.Path.{sym, ap, _∙_}
 use Rattle.listing.specs.Run.{refused}
 use Rattle.listing.proofs.ListsLaws.{wrote-lists}
 use borrow.Author.Needs.{needs}
 use Rattle.listing.proofs.list_refused.Statement.{statement}
 use Rattle.listing.proofs.list_refused.Tie as tie
-use Rattle.listing.proofs.list_refused.Reads as reads
-use Rattle.listing.proofs.list_refused.Lts as lts
-use Rattle.listing.proofs.lines.put_refused.Reads as put-refused-reads
 
--- src/lib.rt:111:9
 put-refused-requires : tie.Need-put-refused-requires
 put-refused-requires c κs = search needs
 
--- src/lib.rt:107:1
 same-length : tie.Need-same-length
 same-length c = search needs
 
--- src/lib.rt:107:1
 returns : tie.Need-returns
 returns c = wrote-lists (refused (c .before .before .before .before .before .args .number)) (c .before .before .put-refused .ensures)
 

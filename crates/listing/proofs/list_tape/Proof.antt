@@ -7,49 +7,35 @@ use Rattle.listing.proofs.ListsLaws.{lists-same}
 use borrow.Author.Needs.{needs}
 use Rattle.listing.proofs.list_tape.Statement.{statement}
 use Rattle.listing.proofs.list_tape.Tie as tie
-use Rattle.listing.proofs.list_tape.Reads as reads
-use Rattle.listing.proofs.list_tape.Lts as lts
-use Rattle.listing.proofs.list_order.Reads as list-order-reads
-use Rattle.listing.proofs.list_refused.Reads as list-refused-reads
-use Rattle.tape.proofs.order_at.Reads as order-at-reads
 
--- src/lib.rt:152:11
 order-at-requires : tie.Need-order-at-requires
 order-at-requires c κs = search needs
 
--- src/lib.rt:153:26
 enum-known-o : tie.Need-enum-known-o
 enum-known-o c = search needs
 
--- src/lib.rt:153:32
 list-order-requires : tie.Need-list-order-requires
 list-order-requires c κs = search needs
 
--- src/lib.rt:154:28
 enum-known-number : tie.Need-enum-known-number
 enum-known-number c = search needs
 
--- src/lib.rt:154:39
 list-refused-requires : tie.Need-list-refused-requires
 list-refused-requires c κs = search needs
 
--- src/lib.rt:148:1
 same-length : tie.Need-same-length
 same-length c = search needs
 
--- src/lib.rt:148:1
 returns : tie.Need-returns
-returns c = 
+returns c =
     let a = c .before .before .before .before .before .before .before .before .before .before .args in
     lists-same (c .before .before .list-order .ensures) (ap (runOrder (a .events) (drop (eventPlace (a .at) 0) (now (a .tape)))) (sym (c .before .before .before .before .before .o .given .1) ∙ c .before .before .before .before .before .before .before .order-at .ensures))
 
--- src/lib.rt:148:1
 same-length-2 : tie.Need-same-length-2
 same-length-2 c = search needs
 
--- src/lib.rt:148:1
 returns-2 : tie.Need-returns-2
-returns-2 c = 
+returns-2 c =
     let a = c .before .before .before .before .before .before .before .before .before .before .args in
     lists-same (c .before .before .list-refused .ensures) (ap (runOrder (a .events) (drop (eventPlace (a .at) 0) (now (a .tape)))) (sym (c .before .before .before .before .before .number .given .1) ∙ c .before .before .before .before .before .before .before .order-at .ensures))
 

@@ -2,24 +2,16 @@ use mathlib.Core.Path.{_≡_, refl, sym, ap, _∙_}
 use Prim.Native.Nat.{_+_, _-_, _*_, _≤_}
 use native.Mathlib.Omega.{arith}
 use denote.Ref.{now}
-use lib.ListN.{length, drop}
+use lib.ListN.{length}
 use borrow.Author.Needs.{needs}
-use Rattle.tape.specs.Tape.{eventPlace}
-use Rattle.listing.specs.Run.{answers, heardAll}
 use Rattle.listing.specs.Listing.{eventLines}
 use Rattle.listing.proofs.WroteLaws.{wrote-same, Left, left-start, left-wrote, left-same, left-done}
 use Rattle.listing.proofs.RunLaws.{answersFrom, heardFrom, answers-all, heard-all, events-turn, heard-turn, answers-none, heard-none}
 use Rattle.listing.proofs.put_events.Statement.{statement}
 use Rattle.listing.proofs.put_events.Tie as tie
-use Rattle.listing.proofs.put_events.Reads as reads
-use Rattle.listing.proofs.put_events.Lts as lts
-use Rattle.listing.proofs.hear.Reads as hear-reads
-use Rattle.listing.proofs.lines.put_event.Reads as put-event-reads
-use Rattle.tape.proofs.event_at.Reads as event-at-reads
-use Rattle.words.proofs.bytes.read_word.Reads as read-word-reads
 
 abbrev Inv-loop : tie.InvT-loop
-Inv-loop tape at events out₀ start cur₀ w₀ k₀ out cur w k = 
+Inv-loop tape at events out₀ start cur₀ w₀ k₀ out cur w k =
     (k ≤ events) × (length out ≡ length out₀) × (w ≤ start + 56 * k)
     × Left out₀ start (eventLines (answersFrom tape at events 0 cur₀)) out w (eventLines (answersFrom tape at events k cur))
     × (heardFrom tape at events k cur ≡ heardFrom tape at events 0 cur₀)
@@ -27,49 +19,38 @@ Inv-loop tape at events out₀ start cur₀ w₀ k₀ out cur w k =
 abbrev μ-loop : tie.MeasureT-loop
 μ-loop tape at events out₀ start cur₀ w₀ k₀ out cur w k = events - k
 
--- src/lib.rt:92:5
 loop-holds : tie.Need-loop-holds Inv-loop μ-loop
-loop-holds c = 
+loop-holds c =
     let a = c .before .before .args in
     (omega arith, refl, omega arith, left-start (now (a .out)) (a .start) (eventLines (answersFrom (now (a .tape)) (a .at) (a .events) 0 (a .a))), refl)
 
--- src/lib.rt:93:40
 add-read-word : tie.Need-add-read-word Inv-loop μ-loop
 add-read-word c = search needs
 
--- src/lib.rt:93:50
 mul-read-word : tie.Need-mul-read-word Inv-loop μ-loop
 mul-read-word c = search needs
 
--- src/lib.rt:93:40
 add-read-word-2 : tie.Need-add-read-word-2 Inv-loop μ-loop
 add-read-word-2 c = search needs
 
--- src/lib.rt:93:13
 read-word-requires : tie.Need-read-word-requires Inv-loop μ-loop
 read-word-requires c κs = search needs
 
--- src/lib.rt:94:27
 event-at-requires : tie.Need-event-at-requires Inv-loop μ-loop
 event-at-requires c κs = search needs
 
--- src/lib.rt:94:13
 hear-requires : tie.Need-hear-requires Inv-loop μ-loop
 hear-requires c κs = search needs
 
--- src/lib.rt:96:9
 put-event-requires : tie.Need-put-event-requires Inv-loop μ-loop
 put-event-requires c κs = search needs
 
--- src/lib.rt:98:9
 add-k : tie.Need-add-k Inv-loop μ-loop
 add-k c = search needs
 
--- src/lib.rt:92:5
 loop-less : tie.Need-loop-less Inv-loop μ-loop
 loop-less c = search needs
 
--- src/lib.rt:92:5
 loop-again : tie.Need-loop-again Inv-loop μ-loop
 loop-again c =
     let a = c .before .before .before .before .before .before .before .before .before .before .before .before .args in
@@ -85,13 +66,11 @@ loop-again c =
       heard-turn s (a .at) (a .events) (l .k) (w .result) (l .cur) (r .result) (h .result) (w .ensures) (r .ensures) (h .ensures) (omega arith) ∙ l .inv .4,
     )
 
--- src/lib.rt:77:1
 same-length : tie.Need-same-length Inv-loop μ-loop
 same-length c = search needs
 
--- src/lib.rt:77:1
 returns : tie.Need-returns Inv-loop μ-loop
-returns c = 
+returns c =
     let a = c .before .before .before .before .args in
     let l = c .before .loop in
     let s = now (a .tape) in (

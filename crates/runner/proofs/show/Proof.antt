@@ -9,11 +9,6 @@ use Rattle.listing.proofs.Theorems.{within}
 use borrow.Author.Needs.{needs}
 use Rattle.runner.proofs.show.Statement.{statement}
 use Rattle.runner.proofs.show.Tie as tie
-use Rattle.runner.proofs.show.Reads as reads
-use Rattle.runner.proofs.show.Lts as lts
-use Rattle.io.proofs.write_all.Reads as write-all-reads
-use Rattle.listing.proofs.length_of.Reads as length-of-reads
-use Rattle.listing.proofs.listing.Reads as listing-reads
 
 -- what is shown is within the lent bytes
 shown : (c : tie.After-length-of) → c .length-of .result ≤ length (c .before .before .before .listing .last .1 .0)
@@ -22,31 +17,24 @@ shown c =
     let l = c .before .before .before .listing in
     omega (arith, c .length-of .ensures, ap lengthIn (l .ensures .0), within (now (a .tape)) (now (a .out)))
 
--- src/main.rt:25:32
 listing-requires : tie.Need-listing-requires
 listing-requires c κs = search needs
 
--- src/main.rt:25:9
 length-of-requires : tie.Need-length-of-requires
 length-of-requires c κs = search needs
 
--- src/main.rt:26:34
 slice-reshare-prefix-write-all : tie.Need-slice-reshare-prefix-write-all
 slice-reshare-prefix-write-all c = shown c
 
--- src/main.rt:26:34
 slice-aggregate-write-all : tie.Need-slice-aggregate-write-all
 slice-aggregate-write-all c = sym (length-take-le (c .before .length-of .result) (c .before .before .before .before .listing .last .1 .0) (shown (c .before)))
 
--- src/main.rt:26:5
 write-all-requires : tie.Need-write-all-requires
 write-all-requires c κs = search needs
 
--- src/main.rt:24:1
 same-length : tie.Need-same-length
 same-length c = search needs
 
--- src/main.rt:24:1
 returns : tie.Need-returns
 returns c = search needs
 

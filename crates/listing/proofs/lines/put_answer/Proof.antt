@@ -5,99 +5,73 @@ use Rattle.listing.specs.Listing.{answerText}
 use borrow.Author.Needs.{needs}
 use Rattle.listing.proofs.lines.put_answer.Statement.{statement}
 use Rattle.listing.proofs.lines.put_answer.Tie as tie
-use Rattle.listing.proofs.lines.put_answer.Reads as reads
-use Rattle.listing.proofs.lines.put_answer.Lts as lts
-use Rattle.listing.proofs.text.put_text.Reads as put-text-reads
-use Rattle.listing.proofs.text.put_word.Reads as put-word-reads
 
--- src/lines.rt:63:35
 enum-told : tie.Need-enum-told
 enum-told c = search needs
 
--- src/lines.rt:63:44
 slice-aggregate-put-text : tie.Need-slice-aggregate-put-text
 slice-aggregate-put-text c = search needs
 
--- src/lines.rt:63:26
 put-text-requires : tie.Need-put-text-requires
 put-text-requires c κs = search needs
 
--- src/lines.rt:64:35
 enum-told-2 : tie.Need-enum-told-2
 enum-told-2 c = search needs
 
--- src/lines.rt:64:44
 slice-aggregate-put-text-2 : tie.Need-slice-aggregate-put-text-2
 slice-aggregate-put-text-2 c = search needs
 
--- src/lines.rt:64:26
 put-text-requires-2 : tie.Need-put-text-requires-2
 put-text-requires-2 c κs = search needs
 
--- src/lines.rt:65:34
 enum-told-3 : tie.Need-enum-told-3
 enum-told-3 c = search needs
 
--- src/lines.rt:65:43
 slice-aggregate-put-text-3 : tie.Need-slice-aggregate-put-text-3
 slice-aggregate-put-text-3 c = search needs
 
--- src/lines.rt:65:25
 put-text-requires-3 : tie.Need-put-text-requires-3
 put-text-requires-3 c κs = search needs
 
--- src/lines.rt:66:25
 enum-known-answer : tie.Need-enum-known-answer
 enum-known-answer c = search needs
 
--- src/lines.rt:67:39
 slice-aggregate-put-word : tie.Need-slice-aggregate-put-word
 slice-aggregate-put-word c = search needs
 
--- src/lines.rt:67:17
 put-word-requires : tie.Need-put-word-requires
 put-word-requires c κs = search needs
 
--- src/lines.rt:68:30
 slice-aggregate-put-text-4 : tie.Need-slice-aggregate-put-text-4
 slice-aggregate-put-text-4 c = search needs
 
--- src/lines.rt:68:13
 put-text-requires-4 : tie.Need-put-text-requires-4
 put-text-requires-4 c κs = search needs
 
--- src/lines.rt:57:1
 same-length : tie.Need-same-length
 same-length c = search needs
 
--- src/lines.rt:57:1
 returns : tie.Need-returns
 unfolding answerText
 returns c = (wrote-same (c .before .before .put-text .ensures) (ap answerText (sym (c .before .before .before .before .before .enum-told .given .1))), omega arith)
 
--- src/lines.rt:57:1
 same-length-2 : tie.Need-same-length-2
 same-length-2 c = search needs
 
--- src/lines.rt:57:1
 returns-2 : tie.Need-returns-2
 unfolding answerText
 returns-2 c = (wrote-same (c .before .before .put-text2 .ensures) (ap answerText (sym (c .before .before .before .before .before .enum-told2 .given .1))), omega arith)
 
--- src/lines.rt:57:1
 same-length-3 : tie.Need-same-length-3
 same-length-3 c = search needs
 
--- src/lines.rt:57:1
 returns-3 : tie.Need-returns-3
 unfolding answerText
 returns-3 c = (wrote-same (c .before .before .put-text3 .ensures) (ap answerText (sym (c .before .before .before .before .before .enum-told3 .given .1))), omega arith)
 
--- src/lines.rt:57:1
 same-length-4 : tie.Need-same-length-4
 same-length-4 c = search needs
 
--- src/lines.rt:57:1
 returns-4 : tie.Need-returns-4
 unfolding answerText
 returns-4 c = (wrote-same (wrote-append (c .before .before .before .before .before .before .before .put-word .ensures .0) (c .before .before .put-text4 .ensures)) (ap answerText (sym (c .before .before .before .before .before .before .before .before .before .before .before .answer .given .1))), omega arith)

@@ -1,115 +1,87 @@
 use mathlib.Core.Path.{sym, ap}
 use native.Mathlib.Omega.{arith}
-use Rattle.listing.proofs.WroteLaws.{wrote-append, wrote-same}
+use Rattle.listing.proofs.WroteLaws.{wrote-same}
 use Rattle.listing.specs.Listing.{endText}
 use borrow.Author.Needs.{needs}
 use Rattle.listing.proofs.lines.put_ending.Statement.{statement}
 use Rattle.listing.proofs.lines.put_ending.Tie as tie
-use Rattle.listing.proofs.lines.put_ending.Reads as reads
-use Rattle.listing.proofs.lines.put_ending.Lts as lts
-use Rattle.listing.proofs.text.put_text.Reads as put-text-reads
 
--- src/lines.rt:88:34
 enum-told : tie.Need-enum-told
 enum-told c = search needs
 
--- src/lines.rt:88:43
 slice-aggregate-put-text : tie.Need-slice-aggregate-put-text
 slice-aggregate-put-text c = search needs
 
--- src/lines.rt:88:25
 put-text-requires : tie.Need-put-text-requires
 put-text-requires c κs = search needs
 
--- src/lines.rt:89:34
 enum-told-2 : tie.Need-enum-told-2
 enum-told-2 c = search needs
 
--- src/lines.rt:89:43
 slice-aggregate-put-text-2 : tie.Need-slice-aggregate-put-text-2
 slice-aggregate-put-text-2 c = search needs
 
--- src/lines.rt:89:25
 put-text-requires-2 : tie.Need-put-text-requires-2
 put-text-requires-2 c κs = search needs
 
--- src/lines.rt:90:38
 enum-told-3 : tie.Need-enum-told-3
 enum-told-3 c = search needs
 
--- src/lines.rt:90:47
 slice-aggregate-put-text-3 : tie.Need-slice-aggregate-put-text-3
 slice-aggregate-put-text-3 c = search needs
 
--- src/lines.rt:90:29
 put-text-requires-3 : tie.Need-put-text-requires-3
 put-text-requires-3 c κs = search needs
 
--- src/lines.rt:91:37
 enum-told-4 : tie.Need-enum-told-4
 enum-told-4 c = search needs
 
--- src/lines.rt:91:46
 slice-aggregate-put-text-4 : tie.Need-slice-aggregate-put-text-4
 slice-aggregate-put-text-4 c = search needs
 
--- src/lines.rt:91:28
 put-text-requires-4 : tie.Need-put-text-requires-4
 put-text-requires-4 c κs = search needs
 
--- src/lines.rt:92:34
 enum-told-5 : tie.Need-enum-told-5
 enum-told-5 c = search needs
 
--- src/lines.rt:92:43
 slice-aggregate-put-text-5 : tie.Need-slice-aggregate-put-text-5
 slice-aggregate-put-text-5 c = search needs
 
--- src/lines.rt:92:25
 put-text-requires-5 : tie.Need-put-text-requires-5
 put-text-requires-5 c κs = search needs
 
--- src/lines.rt:82:1
 same-length : tie.Need-same-length
 same-length c = search needs
 
--- src/lines.rt:82:1
 returns : tie.Need-returns
 unfolding endText
 returns c = (wrote-same (c .before .before .put-text .ensures) (ap endText (sym (c .before .before .before .before .before .enum-told .given .1))), omega arith)
 
--- src/lines.rt:82:1
 same-length-2 : tie.Need-same-length-2
 same-length-2 c = search needs
 
--- src/lines.rt:82:1
 returns-2 : tie.Need-returns-2
 unfolding endText
 returns-2 c = (wrote-same (c .before .before .put-text2 .ensures) (ap endText (sym (c .before .before .before .before .before .enum-told2 .given .1))), omega arith)
 
--- src/lines.rt:82:1
 same-length-3 : tie.Need-same-length-3
 same-length-3 c = search needs
 
--- src/lines.rt:82:1
 returns-3 : tie.Need-returns-3
 unfolding endText
 returns-3 c = (wrote-same (c .before .before .put-text3 .ensures) (ap endText (sym (c .before .before .before .before .before .enum-told3 .given .1))), omega arith)
 
--- src/lines.rt:82:1
 same-length-4 : tie.Need-same-length-4
 same-length-4 c = search needs
 
--- src/lines.rt:82:1
 returns-4 : tie.Need-returns-4
 unfolding endText
 returns-4 c = (wrote-same (c .before .before .put-text4 .ensures) (ap endText (sym (c .before .before .before .before .before .enum-told4 .given .1))), omega arith)
 
--- src/lines.rt:82:1
 same-length-5 : tie.Need-same-length-5
 same-length-5 c = search needs
 
--- src/lines.rt:82:1
 returns-5 : tie.Need-returns-5
 unfolding endText
 returns-5 c = (wrote-same (c .before .before .put-text5 .ensures) (ap endText (sym (c .before .before .before .before .before .enum-told5 .given .1))), omega arith)

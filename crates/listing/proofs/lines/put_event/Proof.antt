@@ -1,31 +1,22 @@
 use native.Mathlib.Omega.{arith}
-use Rattle.listing.proofs.WroteLaws.{wrote-append, wrote-same}
+use Rattle.listing.proofs.WroteLaws.{wrote-append}
 use Rattle.listing.specs.Listing.{eventLine}
 use borrow.Author.Needs.{needs}
 use Rattle.listing.proofs.lines.put_event.Statement.{statement}
 use Rattle.listing.proofs.lines.put_event.Tie as tie
-use Rattle.listing.proofs.lines.put_event.Reads as reads
-use Rattle.listing.proofs.lines.put_event.Lts as lts
-use Rattle.listing.proofs.lines.put_answer.Reads as put-answer-reads
-use Rattle.listing.proofs.text.put_word.Reads as put-word-reads
 
--- src/lines.rt:78:31
 slice-aggregate-put-word : tie.Need-slice-aggregate-put-word
 slice-aggregate-put-word c = search needs
 
--- src/lines.rt:78:9
 put-word-requires : tie.Need-put-word-requires
 put-word-requires c κs = search needs
 
--- src/lines.rt:79:5
 put-answer-requires : tie.Need-put-answer-requires
 put-answer-requires c κs = search needs
 
--- src/lines.rt:73:1
 same-length : tie.Need-same-length
 same-length c = search needs
 
--- src/lines.rt:73:1
 returns : tie.Need-returns
 unfolding eventLine
 returns c = (wrote-append (c .before .before .before .before .before .before .put-word .ensures .0) (c .before .before .put-answer .ensures .0), omega arith)

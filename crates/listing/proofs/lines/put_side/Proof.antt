@@ -1,43 +1,32 @@
 use mathlib.Core.Path.{sym, ap}
 use native.Mathlib.Omega.{arith}
-use Rattle.listing.proofs.WroteLaws.{wrote-append, wrote-same}
+use Rattle.listing.proofs.WroteLaws.{wrote-same}
 use Rattle.listing.specs.Listing.{sideText}
 use borrow.Author.Needs.{needs}
 use Rattle.listing.proofs.lines.put_side.Statement.{statement}
 use Rattle.listing.proofs.lines.put_side.Tie as tie
-use Rattle.listing.proofs.lines.put_side.Reads as reads
-use Rattle.listing.proofs.lines.put_side.Lts as lts
-use Rattle.listing.proofs.text.put_text.Reads as put-text-reads
 
--- src/lines.rt:41:34
 slice-aggregate-put-text : tie.Need-slice-aggregate-put-text
 slice-aggregate-put-text c = search needs
 
--- src/lines.rt:41:9
 put-text-requires : tie.Need-put-text-requires
 put-text-requires c κs = search needs
 
--- src/lines.rt:41:9
 same-length : tie.Need-same-length
 same-length c = search needs
 
--- src/lines.rt:41:9
 returns : tie.Need-returns
 returns c = (wrote-same (c .before .before .put-text .ensures) (ap sideText (sym (c .before .before .before .before .before .if1 .taken))), omega arith)
 
--- src/lines.rt:43:23
 slice-aggregate-put-text-2 : tie.Need-slice-aggregate-put-text-2
 slice-aggregate-put-text-2 c = search needs
 
--- src/lines.rt:43:5
 put-text-requires-2 : tie.Need-put-text-requires-2
 put-text-requires-2 c κs = search needs
 
--- src/lines.rt:35:1
 same-length-2 : tie.Need-same-length-2
 same-length-2 c = search needs
 
--- src/lines.rt:35:1
 returns-2 : tie.Need-returns-2
 returns-2 c = (wrote-same (c .before .before .put-text2 .ensures) (ap sideText (sym (c .before .before .before .before .before .if1 .left))), omega arith)
 

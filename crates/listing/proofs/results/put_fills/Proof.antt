@@ -1,4 +1,4 @@
-use mathlib.Core.Path.{_≡_, ap, _∙_}
+use mathlib.Core.Path.{_≡_, ap}
 use Prim.Native.Nat.{_+_, _-_, _*_, _≤_}
 use native.Mathlib.Omega.{arith}
 use denote.Ref.{now}
@@ -9,9 +9,6 @@ use Rattle.listing.proofs.WroteLaws.{Left, left-start, left-wrote, left
 use Rattle.listing.proofs.FillLaws.{fillsFrom, fills-all, fills-more, fills-none}
 use Rattle.listing.proofs.results.put_fills.Statement.{statement}
 use Rattle.listing.proofs.results.put_fills.Tie as tie
-use Rattle.listing.proofs.results.put_fills.Reads as reads
-use Rattle.listing.proofs.results.put_fills.Lts as lts
-use Rattle.listing.proofs.lines.put_fill.Reads as put-fill-reads
 
 abbrev Inv-loop : tie.InvT-loop
 Inv-loop out₀ at words n w₀ i₀ out w i = (i ≤ n) × (length out ≡ length out₀) × (w ≤ at + 68 * i) × Left out₀ at (fillLines (fillsIn n words)) out w (fillLines (fillsFrom n words i))
@@ -19,75 +16,59 @@ Inv-loop out₀ at words n w₀ i₀ out w i = (i ≤ n) × (length out ≡ leng
 abbrev μ-loop : tie.MeasureT-loop
 μ-loop out₀ at words n w₀ i₀ out w i = n - i
 
--- src/results.rt:43:5
 loop-holds : tie.Need-loop-holds Inv-loop μ-loop
 loop-holds c =
     let a = c .before .before .args in
     (omega arith, omega arith, omega arith, left-same (left-start (now (a .out)) (a .at) (fillLines (fillsIn (a .n) (now (a .words))))) (ap fillLines (fills-all (a .n) (now (a .words)))))
 
--- src/results.rt:44:17
 mul-k : tie.Need-mul-k Inv-loop μ-loop
 mul-k c = search needs
 
--- src/results.rt:45:30
 mul-put-fill : tie.Need-mul-put-fill Inv-loop μ-loop
 mul-put-fill c = search needs
 
--- src/results.rt:45:30
 shared-slice-read-put-fill : tie.Need-shared-slice-read-put-fill Inv-loop μ-loop
 shared-slice-read-put-fill c = search needs
 
--- src/results.rt:45:46
 add-put-fill : tie.Need-add-put-fill Inv-loop μ-loop
 add-put-fill c = search needs
 
--- src/results.rt:45:40
 mul-put-fill-2 : tie.Need-mul-put-fill-2 Inv-loop μ-loop
 mul-put-fill-2 c = search needs
 
--- src/results.rt:45:40
 shared-slice-read-put-fill-2 : tie.Need-shared-slice-read-put-fill-2 Inv-loop μ-loop
 shared-slice-read-put-fill-2 c = search needs
 
--- src/results.rt:45:60
 add-put-fill-2 : tie.Need-add-put-fill-2 Inv-loop μ-loop
 add-put-fill-2 c = search needs
 
--- src/results.rt:45:54
 mul-put-fill-3 : tie.Need-mul-put-fill-3 Inv-loop μ-loop
 mul-put-fill-3 c = search needs
 
--- src/results.rt:45:54
 shared-slice-read-put-fill-3 : tie.Need-shared-slice-read-put-fill-3 Inv-loop μ-loop
 shared-slice-read-put-fill-3 c = search needs
 
--- src/results.rt:45:9
 put-fill-requires : tie.Need-put-fill-requires Inv-loop μ-loop
 put-fill-requires c κs = search needs
 
--- src/results.rt:46:9
 add-i : tie.Need-add-i Inv-loop μ-loop
 add-i c = search needs
 
--- src/results.rt:43:5
 loop-less : tie.Need-loop-less Inv-loop μ-loop
 loop-less c = search needs
 
--- src/results.rt:43:5
 loop-again : tie.Need-loop-again Inv-loop μ-loop
-loop-again c = 
+loop-again c =
     let a = c .before .before .before .before .before .before .before .before .before .before .before .args in
     let l = c .before .before .before .before .before .before .before .before .loop in
     let f = fills-more (a .n) (now (a .words)) (l .i) (omega arith) in
     (omega arith, search needs, omega arith, left-wrote (left-same (l .inv .3) (ap fillLines f)) (c .before .before .put-fill .ensures .0))
 
--- src/results.rt:36:1
 same-length : tie.Need-same-length Inv-loop μ-loop
 same-length c = search needs
 
--- src/results.rt:36:1
 returns : tie.Need-returns Inv-loop μ-loop
-returns c = 
+returns c =
     let a = c .before .before .before .before .args in
     let l = c .before .loop in
     (left-done (left-same (l .inv .3) (ap fillLines (fills-none (a .n) (now (a .words)) (l .i) (omega arith)))), omega arith)

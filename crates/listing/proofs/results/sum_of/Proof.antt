@@ -1,4 +1,4 @@
-use mathlib.Core.Path.{_≡_, refl, ap, _∙_}
+use mathlib.Core.Path.{_≡_, ap}
 use Prim.Native.Nat.{_+_, _-_, _*_, _≤_}
 use native.Mathlib.Omega.{arith}
 use denote.Ref.{now}
@@ -8,9 +8,6 @@ use Rattle.listing.specs.Listing.{fillsIn}
 use Rattle.listing.proofs.FillLaws.{fillsFrom, fills-all, fills-more, fills-none}
 use Rattle.listing.proofs.results.sum_of.Statement.{statement}
 use Rattle.listing.proofs.results.sum_of.Tie as tie
-use Rattle.listing.proofs.results.sum_of.Reads as reads
-use Rattle.listing.proofs.results.sum_of.Lts as lts
-use Rattle.listing.proofs.results.wide.Reads as wide-reads
 
 abbrev Inv-loop : tie.InvT-loop
 Inv-loop words n sum₀ i₀ sum i = (i ≤ n) × (sum ≤ 4294967295 * i) × (sum + total (fillsFrom n words i) ≡ total (fillsIn n words))
@@ -18,54 +15,43 @@ Inv-loop words n sum₀ i₀ sum i = (i ≤ n) × (sum ≤ 4294967295 * i) × (s
 abbrev μ-loop : tie.MeasureT-loop
 μ-loop words n sum₀ i₀ sum i = n - i
 
--- src/results.rt:58:5
 loop-holds : tie.Need-loop-holds Inv-loop μ-loop
 loop-holds c =
     let a = c .before .args in
     (omega arith, omega arith, omega (arith, ap total (fills-all (a .n) (now (a .words)))))
 
--- src/results.rt:59:27
 mul-wide : tie.Need-mul-wide Inv-loop μ-loop
 mul-wide c = search needs
 
--- src/results.rt:59:27
 add-wide : tie.Need-add-wide Inv-loop μ-loop
 add-wide c = search needs
 
--- src/results.rt:59:21
 mul-wide-2 : tie.Need-mul-wide-2 Inv-loop μ-loop
 mul-wide-2 c = search needs
 
--- src/results.rt:59:21
 shared-slice-read-wide : tie.Need-shared-slice-read-wide Inv-loop μ-loop
 shared-slice-read-wide c = search needs
 
--- src/results.rt:59:16
 wide-requires : tie.Need-wide-requires Inv-loop μ-loop
 wide-requires c κs = search needs
 
--- src/results.rt:59:9
 add-sum : tie.Need-add-sum Inv-loop μ-loop
 add-sum c = search needs
 
--- src/results.rt:60:9
 add-i : tie.Need-add-i Inv-loop μ-loop
 add-i c = search needs
 
--- src/results.rt:58:5
 loop-less : tie.Need-loop-less Inv-loop μ-loop
 loop-less c = search needs
 
--- src/results.rt:58:5
 loop-again : tie.Need-loop-again Inv-loop μ-loop
 loop-again c =
     let a = c .before .before .before .before .before .args in
     let l = c .before .before .before .loop in
     (omega arith, omega arith, omega (arith, l .inv .2, c .wide .ensures .0, ap total (fills-more (a .n) (now (a .words)) (l .i) (omega arith))))
 
--- src/results.rt:52:1
 returns : tie.Need-returns Inv-loop μ-loop
-returns c = 
+returns c =
     let a = c .before .before .before .args in
     let l = c .before .loop in
     omega (arith, l .inv .2, ap total (fills-none (a .n) (now (a .words)) (l .i) (omega arith)))

@@ -6,9 +6,6 @@ use borrow.Author.Needs.{needs}
 use Rattle.listing.proofs.DecimalLaws.{Left, left-start, left-turn, left-none, left-some}
 use Rattle.listing.proofs.text.decimal_of.Statement.{statement}
 use Rattle.listing.proofs.text.decimal_of.Tie as tie
-use Rattle.listing.proofs.text.decimal_of.Reads as reads
-use Rattle.listing.proofs.text.decimal_of.Lts as lts
-use Rattle.listing.proofs.text.last_digit.Reads as last-digit-reads
 
 abbrev Inv-loop : tie.InvT-loop
 Inv-loop n bytes₀ from₀ rest₀ bytes from rest = Left n bytes from rest
@@ -16,44 +13,35 @@ Inv-loop n bytes₀ from₀ rest₀ bytes from rest = Left n bytes from rest
 abbrev μ-loop : tie.MeasureT-loop
 μ-loop n bytes₀ from₀ rest₀ bytes from rest = rest
 
--- src/text.rt:37:17
 last-digit-requires : tie.Need-last-digit-requires Inv-loop μ-loop
 last-digit-requires c κs = search needs
 
--- src/text.rt:37:5
 array-write-bytes : tie.Need-array-write-bytes Inv-loop μ-loop
 array-write-bytes c = search needs
 
--- src/text.rt:40:5
 loop-holds : tie.Need-loop-holds Inv-loop μ-loop
 loop-holds c =
     let n = c .before .args .n in
     subst (λ (d : ℕ). Left n (set (replicate 20 0) 19 d) 19 (n / 10)) (sym (c .last-digit .ensures)) (left-start n (replicate 20 0) (search needs) refl)
 
--- src/text.rt:41:9
 sub-from : tie.Need-sub-from Inv-loop μ-loop
 sub-from c = let l = c .before .loop in omega (arith, left-some _ (l .bytes) (l .from) (l .rest) (c .loop-test .taken) (l .inv))
 
--- src/text.rt:42:23
 last-digit-requires-2 : tie.Need-last-digit-requires-2 Inv-loop μ-loop
 last-digit-requires-2 c κs = search needs
 
--- src/text.rt:42:9
 array-write-bytes-2 : tie.Need-array-write-bytes-2 Inv-loop μ-loop
 array-write-bytes-2 c = search needs
 
--- src/text.rt:40:5
 loop-less : tie.Need-loop-less Inv-loop μ-loop
 loop-less c = search needs
 
--- src/text.rt:40:5
 loop-again : tie.Need-loop-again Inv-loop μ-loop
 loop-again c =
     let n = c .before .before .before .before .args .n in
     let l = c .before .before .loop in
     rw (c .last-digit2 .ensures) (left-turn n (l .bytes) (l .from) (l .rest) (c .before .loop-test .taken) (l .inv))
 
--- src/text.rt:33:1
 returns : tie.Need-returns Inv-loop μ-loop
 returns c =
     let n = c .before .before .before .args .n in
