@@ -7,7 +7,7 @@ use Rattle.words.specs.Bytes.{wordAt}
 use Rattle.tape.specs.Form.{orderTests, orderFormed, shapeOf, shapeTests, eventFormed}
 use Rattle.tape.specs.Records.{orderWords, orderOf, orderSpare, readOrder, eventWords, eventOf, eventSpare, readEvent, trailerWords, trailerOf, readTrailer}
 use Rattle.tape.specs.Tape.{openTape, tapeOf}
-use Rattle.board.specs.Lists.{filter}
+use Rattle.board.specs.Lists.{filter, sum}
 use Rattle.board.specs.Board.{emptyBoard, liveIn, placed, findIn, inserted, inSequence}
 use Rattle.share.specs.Share.{shares}
 use Rattle.trade.specs.Trade.{levelFills, top, entry, next, guaranteeOf, offersAt, matches, isFinal, wants, levelAt, walk, marketPrice, levels, fills}
@@ -24,7 +24,7 @@ use Rattle.listing.specs.Demands.{tapeC, listingC, tapeE, listingE}
 
 -- a tape and its listing
 abbrev Shows : List ℕ → List ℕ → Type 0
-unfolding withBit withoutBit onesIn clearIn setIn wordAt orderTests orderFormed shapeOf shapeTests eventFormed orderWords orderOf orderSpare readOrder eventWords eventOf eventSpare readEvent trailerWords trailerOf readTrailer openTape tapeOf filter emptyBoard liveIn placed findIn inserted inSequence shares levelFills top entry next guaranteeOf offersAt matches isFinal wants levelAt walk marketPrice levels fills fillsOf mirrored mirroredMarks mirroredSide mirroredOrder mirroredPriced mirroredMarket mirroredQuotes mirroredEvent buyOrder buyEvent initiatingOf tickOf boundOf guaranteedOf rangeRefusal buyRefusal orderRefusal termsOf quotesOf openedBy noAuction acceptOf eventRefusal gtxOutcome cancelOutcome sellLimitOutcome bidQuotes buyLimitOutcome limitOutcome marketOutcome newQuotes quotesOutcome outcomeOf after endedByTime stepOf closeOf boundNow rangeOf dealOf digits decimal answers heardAll runOf refusedLine rangeText auctionLine answerText eventLine endText endLine partyText fillLine totalLine endLines listingOf
+unfolding withBit withoutBit onesIn clearIn setIn wordAt orderTests orderFormed shapeOf shapeTests eventFormed orderWords orderOf orderSpare readOrder eventWords eventOf eventSpare readEvent trailerWords trailerOf readTrailer openTape tapeOf filter sum emptyBoard liveIn placed findIn inserted inSequence shares levelFills top entry next guaranteeOf offersAt matches isFinal wants levelAt walk marketPrice levels fills fillsOf mirrored mirroredMarks mirroredSide mirroredOrder mirroredPriced mirroredMarket mirroredQuotes mirroredEvent buyOrder buyEvent initiatingOf tickOf boundOf guaranteedOf rangeRefusal buyRefusal orderRefusal termsOf quotesOf openedBy noAuction acceptOf eventRefusal gtxOutcome cancelOutcome sellLimitOutcome bidQuotes buyLimitOutcome limitOutcome marketOutcome newQuotes quotesOutcome outcomeOf after endedByTime stepOf closeOf boundNow rangeOf dealOf digits decimal answers heardAll runOf refusedLine rangeText auctionLine answerText eventLine endText endLine partyText fillLine totalLine endLines listingOf
 Shows tape t = listingOf tape ≡ t
 
 pub case-c : listingOf tapeC ≡ listingC
