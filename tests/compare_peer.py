@@ -1,7 +1,7 @@
 #!/usr/bin/env python3
 """The engine against the peer: random tapes from fixed seeds, through `evening` and through peer/, compared byte for byte.
 
-    tests/compare_peer.py [COUNT [SEED..]]     COUNT tapes for each seed (2,000; seeds 1, 2, 3)
+    tests/compare_peer.py [COUNT [SEED..]]     COUNT tapes for each seed (4,000; seeds 1 to 5)
 
 From the project's root, after `rt check evening`. Builds the peer with a C compiler into target/peer. Each tape is one test; so is each tape's way
 to text and back (tools/tape_text.py). A difference is kept under target/peer/differences and named. The last line is 'N passed, M failed'.
@@ -58,8 +58,8 @@ def back(tape):
 
 
 def main():
-    count = int(sys.argv[1]) if len(sys.argv) > 1 else 2000
-    seeds = sys.argv[2:] or ["1", "2", "3"]
+    count = int(sys.argv[1]) if len(sys.argv) > 1 else 4000
+    seeds = sys.argv[2:] or ["1", "2", "3", "4", "5"]
     shutil.rmtree(HERE, ignore_errors=True)
     os.makedirs(HERE)
     build()
