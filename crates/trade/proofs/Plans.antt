@@ -148,7 +148,7 @@ module _ (d : Deal) (rs : List Response) (s : Fit d rs) where
   three m l n = planned l n ∙ mode-three d rs (l .price) (l .left) (l .held) (sizeHere l) m
 
 pub plans : Plans
-plans d b s h k l n = go (eqb (d .mode) 1) (eqb (d .mode) 2) refl refl
+plans d b s l n = go (eqb (d .mode) 1) (eqb (d .mode) 2) refl refl
   where
     go : (x y : Bool) → eqb (d .mode) 1 ≡ x → eqb (d .mode) 2 ≡ y
         → planOf l
@@ -160,4 +160,4 @@ plans d b s h k l n = go (eqb (d .mode) 1) (eqb (d .mode) 2) refl refl
     go false false e f =
         let a : d .mode ≢ 1 = eqb-false (d .mode) 1 e in
         let c : d .mode ≢ 2 = eqb-false (d .mode) 2 f in
-        three d (offers b) (fit d b s) (omega arith) l n
+        three d (offers b) (fit d b s) (omega (arith, s .mode .0, s .mode .1)) l n

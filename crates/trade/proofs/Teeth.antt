@@ -27,6 +27,7 @@ sound =
     record {
       bound-below = lit≤ tt;
       stop-below = lit≤ tt;
+      mode = (lit≤ tt, lit≤ tt);
       parties = (lit< tt, (lit< tt, (lit< tt, tt)));
       distinct = ((omega arith, (omega arith, tt)), ((omega arith, tt), (tt, tt)));
       market-apart = λ h. absurd (omega arith);

@@ -86,6 +86,8 @@ pub record Sound (d : Deal) (b : Board) : Type 0 where
   -- the bound has not passed the initiating price, and neither does the stop or limit
   pub bound-below : d .bound ≤ d .initiating
   pub stop-below : d .stop ≤ d .initiating
+  -- the mode is one of the three
+  pub mode : (1 ≤ d .mode) × (d .mode ≤ 3)
   -- the live responses have sequences of their own, none of them the Contra Order's 0
   pub parties : Every (λ r. 0 < r .sequence) (liveOf b)
   pub distinct : Distinct (liveOf b)
