@@ -199,6 +199,7 @@ sound-deal a s =
     record {
       bound-below = omega (arith, bound-is a s, s .bound-below);
       stop-below = s .stop-below;
+      prices = all-map (Stands (a .sequence) (a .terms .initiating)) (λ r. r .price ≤ a .terms .initiating) (liveOf (a .board)) (λ r h. h .3) (s .live);
       mode = s .mode;
       parties = all-map (Stands (a .sequence) (a .terms .initiating)) (λ r. 0 < r .sequence) (liveOf (a .board)) (λ r h. h .0) (s .live);
       distinct = s .distinct;

@@ -13,6 +13,7 @@ pub mod Counts
 pub mod Fair
 pub mod Turns
 pub mod Limits
+pub mod Market
 pub mod Theorems
 pub mod Plans
 pub mod Teeth

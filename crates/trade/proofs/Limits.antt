@@ -1,16 +1,17 @@
 -- Within what prices a walk trades, and how much at each.
 use mathlib.Core.Path.{_≡_, refl, sym, ap, _∙_, subst}
 use mathlib.Core.Bool.{Bool, true, false, cond}
-use mathlib.Core.List.{List, [], _∷_, _++_}
-use mathlib.Core.Logic.{inl, inr, _≢_}
+use mathlib.Core.List.{List, [], _∷_}
+use mathlib.Core.Logic.{_⊎_, inl, inr, _≢_}
 use Prim.Native.Nat.{ℕ, _+_, _-_, _≤_, _<_}
 use native.Mathlib.Omega.{arith}
-use borrow.Author.Tests.{leb-true, leb-false, eq-eqb}
-use lib.Dec.{leb, eqb}
+use borrow.Author.Tests.{leb-true, leb-false, ltb-true, ltb-false, eq-eqb}
+use lib.Dec.{leb, ltb, eqb}
+use lib.ListN.{length}
 use Rattle.board.specs.declared.Response.{Response}
 use Rattle.board.specs.Lists.{Every, sum}
 use Rattle.trade.specs.declared.Deal.{Deal}
-use Rattle.trade.specs.Trade.{Level, shared, given, rest, contra, levelFills, total, flat, top, entry}
+use Rattle.trade.specs.Trade.{Level, shared, given, rest, contra, levelFills, total, flat, top, entry, offersAt}
 use Rattle.trade.specs.Demands.{In, soldAt}
 use Rattle.trade.proofs.Lists.{all-append, all-map, tally-all, got-zero, soldAt-none}
 use Rattle.trade.proofs.Levels.{all-level, got-contra}
@@ -41,6 +42,17 @@ module _ (d : Deal) (rs : List Response) (s : Fit d rs) where
   pub run-top : (from left held : ℕ) (ls : List Level) → Run d rs from left held ls → Every (λ f. f .price ≤ top d) (flat ls)
   run-top from left held [] r = tt
   run-top from left held (l ∷ ls) r = all-append (λ f. f .price ≤ top d) (levelFills l) (flat ls) (all-level l (λ f. f .price ≤ top d) (λ k q h. r .0 .in-top)) (run-top _ _ _ ls (r .1))
+
+  -- each level but that of the last price has responses
+  pub run-prices : (from left held : ℕ) (ls : List Level) → Run d rs from left held ls → Every (λ f. (0 < length (offersAt d rs (f .price))) ⊎ (f .price ≡ top d)) (flat ls)
+  run-prices from left held [] r = tt
+  run-prices from left held (l ∷ ls) r =
+      all-append (λ f. (0 < length (offersAt d rs (f .price))) ⊎ (f .price ≡ top d)) (levelFills l) (flat ls)
+      (all-level l (λ f. (0 < length (offersAt d rs (f .price))) ⊎ (f .price ≡ top d)) (λ k q h. go (ltb (l .price) (top d)) refl)) (run-prices _ _ _ ls (r .1))
+    where
+      go : (b : Bool) → ltb (l .price) (top d) ≡ b → (0 < length (offersAt d rs (l .price))) ⊎ (l .price ≡ top d)
+      go true e = inl (subst (λ (os : List Response). 0 < length os) (r .0 .here-are) (r .0 .peopled (ltb-true (l .price) (top d) e)))
+      go false e = inr (omega (arith, ltb-false (l .price) (top d) e, r .0 .in-top))
 
   -- what trades at a level's price trades at that level
   pub run-sold : (from left held : ℕ) (ls : List Level) → Run d rs from left held ls → (l : Level) → In l ls → soldAt (l .price) (flat ls) ≡ total (levelFills l)

@@ -31,6 +31,7 @@ sound =
     record {
       bound-below = lit≤ tt;
       stop-below = lit≤ tt;
+      prices = (lit≤ tt, (lit≤ tt, (lit≤ tt, tt)));
       mode = (lit≤ tt, lit≤ tt);
       parties = (lit< tt, (lit< tt, (lit< tt, tt)));
       distinct = ((omega arith, (omega arith, tt)), ((omega arith, tt), (tt, tt)));

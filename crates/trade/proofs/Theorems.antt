@@ -1,9 +1,9 @@
 -- Demand 3, as a theorem about the definition `fills`.
 use mathlib.Core.Path.{_≡_, refl, sym, ap, _∙_, subst}
-use mathlib.Core.Bool.{Bool, true, false, cond, not, _&&_}
+use mathlib.Core.Bool.{Bool, true, false, not, _&&_, true≢false}
 use mathlib.Core.List.{List, [], _∷_, _++_}
 use mathlib.Core.Logic.{inl, inr, _≢_}
-use Prim.Native.Nat.{ℕ, suc, _+_, _-_, _/_, _≤_, _<_, min, max}
+use Prim.Native.Nat.{ℕ, suc, _-_, _≤_, _<_, min, max}
 use native.Mathlib.Omega.{arith}
 use borrow.Author.Tests.{eqb-true, eqb-false, ltb-true, ltb-false, lt-ltb, eq-eqb, ne-eqb}
 use lib.Dec.{ltb, eqb}
@@ -11,67 +11,28 @@ use lib.ListN.{length}
 use Rattle.board.specs.declared.Response.{Response}
 use Rattle.board.specs.declared.Board.{Board}
 use Rattle.board.specs.Lists.{Every, keep, sum}
-use Rattle.board.specs.Board.{liveOf}
+use Rattle.board.specs.Board.{liveOf, inSequence}
 use Rattle.share.specs.Share.{Near}
 use Rattle.share.specs.Fills.{Fill, sizes}
 use Rattle.trade.specs.declared.Deal.{Deal}
-use Rattle.trade.specs.Trade.{offers, Level, others, shared, levelFills, total, flat, working, workingStop, top, entry, next, guarantee, marketPrice, marketTakes, marketFill, levels, fills}
-use Rattle.trade.specs.Demands.{In, Absent, Distinct, tally, got, gotAt, gotBelow, gots, soldAt, soldAbove, times, isMarket, walked, othersAt, InRange, Sound, Known, theContra, theMarket, aResponse, ByLevel, Demand3, Demands, Few}
+use Rattle.trade.specs.Trade.{offers, Level, others, shared, levelFills, total, flat, working, workingStop, top, entry, guarantee, marketPrice, marketTakes, marketFill, levels, fills}
+use Rattle.trade.specs.Demands.{In, Absent, Distinct, tally, got, gotAt, gotBelow, gots, soldAt, soldAbove, times, isMarket, walked, othersAt, InRange, Sound, Known, theContra, theMarket, aResponse, Lowest, MarketAt, ByLevel, Demand3, Demands, Few}
 use Rattle.board.proofs.ListLaws.{filter-fail, shuffles-length}
 use Rattle.board.proofs.SequenceLaws.{sequence-shuffles, sequence-rises}
 use Rattle.trade.proofs.CodeLaws.{live-short}
 use Rattle.trade.proofs.Lists.{gots-same, tally-append, tally-and, keep-all, all-any, all-append, all-map, all-in, got-none, soldAt-none, total-append, total-fill, got-fill, all-fill}
 use Rattle.trade.proofs.Order.{in-sequence, all-sequence, distinct-sequence}
 use Rattle.trade.proofs.Levels.{traded-is, level-covered, level-near, level-first}
-use Rattle.trade.proofs.Walk.{Fit, Run, top-below, top-above, next-bound, next-top, next-least, runs}
+use Rattle.trade.proofs.Walk.{Fit, Run, top-below, runs}
 use Rattle.trade.proofs.Runs.{run-left, run-held, run-who, got-append, sold-append, run-total, run-range, run-each, run-absent, run-guarantee, run-only, run-fits, run-level, run-priority, here-distinct, is-here}
 use Rattle.trade.proofs.Counts.{fills-short, times-append, times-party, times-fill, run-once}
 use Rattle.trade.proofs.Fair.{at-price, run-near, run-covered, run-guaranteed, run-customers}
 use Rattle.trade.proofs.Turns.{run-earlier, run-before}
-use Rattle.trade.proofs.Limits.{run-entry, run-top, run-sold}
+use Rattle.trade.proofs.Limits.{run-entry, run-top, run-prices, run-sold}
+use Rattle.trade.proofs.Market.{market-bound, market-top, market-least, price-matched, price-midpoint, price-lower, price-alone}
 
 module _ (d : Deal) (rs : List Response) (s : Fit d rs) where
   -- ---- the market order
-
-  market-in : (d .bound ≤ marketPrice d rs) × (marketPrice d rs ≤ d .initiating)
-  unfolding marketPrice
-  market-in = go (eqb (d .mode) 2) (eqb (length rs) 0)
-    where
-      go : (b c : Bool) → (d .bound ≤ cond b (cond c ((d .initiating + d .bound + 1) / 2) (next d 0 rs)) (min (next d 0 rs) (workingStop d)))
-          × (cond b (cond c ((d .initiating + d .bound + 1) / 2) (next d 0 rs)) (min (next d 0 rs) (workingStop d)) ≤ d .initiating)
-      go true true = (omega (arith, s .bound-below), omega (arith, s .bound-below))
-      go true false = (next-bound d 0 (top-above d rs s) rs, omega (arith, next-top d 0 rs, top-below d rs s))
-      go false c = (omega (arith, next-bound d 0 (top-above d rs s) rs), omega (arith, next-top d 0 rs, top-below d rs s))
-
-  market-top : marketPrice d rs ≤ top d
-  unfolding marketPrice top
-  market-top = go (eqb (d .mode) 2) refl (eqb (length rs) 0)
-    where
-      go : (b : Bool) → eqb (d .mode) 2 ≡ b → (c : Bool) → cond b (cond c ((d .initiating + d .bound + 1) / 2) (next d 0 rs)) (min (next d 0 rs) (workingStop d)) ≤ top d
-      go true e true =
-          let m : d .mode ≡ 2 = eqb-true (d .mode) 2 e in
-          let t : top d ≡ d .initiating = ap (λ (n : ℕ). cond (eqb n 1) (workingStop d) (d .initiating)) m in
-          omega (arith, s .bound-below)
-      go true e false = next-top d 0 rs
-      go false e c = omega (arith, next-top d 0 rs)
-
-  -- no response works below it
-  market-least : (o : Response) → In o rs → marketPrice d rs ≤ working d o
-  unfolding marketPrice
-  market-least o m = go (eqb (d .mode) 2) (eqb (length rs) 0) refl
-    where
-      low : next d 0 rs ≤ working d o
-      low = next-least d 0 rs o m (omega arith)
-
-      some : (os : List Response) → In o os → length os ≡ 0 → ⊥
-      some [] n e = n
-      some (x ∷ xs) n e = omega arith
-
-      go : (b c : Bool) → eqb (length rs) 0 ≡ c
-          → cond b (cond c ((d .initiating + d .bound + 1) / 2) (next d 0 rs)) (min (next d 0 rs) (workingStop d)) ≤ working d o
-      go true true e = absurd (some rs m (eqb-true (length rs) 0 e))
-      go true false e = low
-      go false c e = omega (arith, low)
 
   -- the market order's fill is no response's
   not-market : (o : Response) → In o rs → Every (λ f. f .party ≢ o .sequence) (marketFill d rs)
@@ -163,7 +124,7 @@ module _ (d : Deal) (rs : List Response) (s : Fit d rs) where
 
   priority-of : (o : Response) → In o rs → (p : ℕ) → 0 < soldAt p (fills d rs) → working d o < p → got (o .sequence) (fills d rs) ≡ o .size
   priority-of o m p t h =
-      let z : soldAt p (marketFill d rs) ≡ 0 = soldAt-none p (marketFill d rs) (all-fill (λ f. f .price ≢ p) (d .market) (marketPrice d rs) (marketTakes d rs) (λ q. omega (arith, market-least o m))) in
+      let z : soldAt p (marketFill d rs) ≡ 0 = soldAt-none p (marketFill d rs) (all-fill (λ f. f .price ≢ p) (d .market) (marketPrice d rs) (marketTakes d rs) (λ q. omega (arith, market-least d rs s o m))) in
       let u : 0 < soldAt p (flat (levels d rs)) = omega (arith, rw all-of at t, sold-append p (marketFill d rs) (flat (levels d rs))) in
       got-levels o m ∙ run-priority d rs s o m _ _ _ (levels d rs) the-run p (omega arith) h u
 
@@ -219,8 +180,14 @@ module _ (d : Deal) (rs : List Response) (s : Fit d rs) where
   in-range-of : Every (InRange d) (fills d rs)
   in-range-of =
       by-parts (InRange d)
-      (all-fill (InRange d) (d .market) (marketPrice d rs) (marketTakes d rs) (λ h. record { low = market-in .0; high = market-in .1; some = h }))
+      (all-fill (InRange d) (d .market) (marketPrice d rs) (marketTakes d rs) (λ h. record { low = market-bound d rs s; high = omega (arith, market-top d rs s, top-below d rs s); some = h }))
       (run-range d rs s _ _ _ (levels d rs) the-run)
+
+  market-price-of : (P : ℕ → Type 0) → P (marketPrice d rs) → Every (λ f. isMarket d f ≡ true → P (f .price)) (fills d rs)
+  market-price-of P p =
+      by-parts (λ f. isMarket d f ≡ true → P (f .price))
+      (all-fill (λ f. isMarket d f ≡ true → P (f .price)) (d .market) (marketPrice d rs) (marketTakes d rs) (λ h z. p))
+      (all-map (λ f. not (isMarket d f) ≡ true) (λ f. isMarket d f ≡ true → P (f .price)) (flat (levels d rs)) (λ f h z. absurd (true≢false (sym h ∙ ap not z))) not-markets)
 
   contra-limit-of : Every (λ f. f .party ≡ 0 → entry d ≤ f .price) (fills d rs)
   contra-limit-of =
@@ -232,7 +199,7 @@ module _ (d : Deal) (rs : List Response) (s : Fit d rs) where
   top-price-of : Every (λ f. f .price ≤ top d) (fills d rs)
   top-price-of =
       by-parts (λ f. f .price ≤ top d)
-      (all-fill (λ f. f .price ≤ top d) (d .market) (marketPrice d rs) (marketTakes d rs) (λ h. market-top))
+      (all-fill (λ f. f .price ≤ top d) (d .market) (marketPrice d rs) (marketTakes d rs) (λ h. market-top d rs s))
       (run-top d rs s _ _ _ (levels d rs) the-run)
 
   works-at-of : (o : Response) → In o rs → Every (λ f. f .party ≡ o .sequence → f .price ≡ working d o) (fills d rs)
@@ -313,6 +280,25 @@ module _ (d : Deal) (b : Board) (s : Sound d b) where
       each [] f = tt
       each (o ∷ os) f = (aResponse o (f o (inl refl)) refl, each os (λ x m. f x (inr m)))
 
+  at-market : MarketAt d b (marketPrice d (offers b))
+  unfolding inSequence
+  at-market =
+      record {
+        matched = λ m q k. price-matched d (offers b) fit m (k .response) (into (k .response) (k .live)) (below (k .response) (k .live)) (from-lowest q k) ∙ k .works;
+        midpoint = λ m e. price-midpoint d (offers b) fit m (ap length (none e));
+        lower = λ m q k. price-lower d (offers b) fit m (k .response) (into (k .response) (k .live)) (from-lowest q k) ∙ ap (λ (p : ℕ). min p (workingStop d)) (k .works);
+        alone = λ m e. price-alone d (offers b) fit m (none e);
+      }
+    where
+      below : (r : Response) → In r (liveOf b) → working d r ≤ d .initiating
+      below r m = omega (arith, s .bound-below, all-in (λ x. x .price ≤ d .initiating) (liveOf b) r (s .prices) m)
+
+      from-lowest : (q : ℕ) (k : Lowest d b q) → Every (λ x. working d (k .response) ≤ working d x) (offers b)
+      from-lowest q k = subst (λ (p : ℕ). Every (λ x. p ≤ working d x) (offers b)) (sym (k .works)) (all-sequence (λ x. q ≤ working d x) (liveOf b) (k .least))
+
+      none : liveOf b ≡ [] → offers b ≡ []
+      none e = ap inSequence e
+
   level : (l : Level) → In l (levels d (offers b)) → ByLevel d b (fills d (offers b)) l
   level l n =
       record {
@@ -334,6 +320,8 @@ module _ (d : Deal) (b : Board) (s : Sound d b) where
             (run-who d (offers b) fit (Known d b) (theContra refl) known _ _ _ (levels d (offers b)) (the-run d (offers b) fit));
         once = λ k p. rw (all-of d (offers b) fit) (once-all d (offers b) fit k p);
         market-trades = market-trades-of d (offers b) fit;
+        market-price = market-price-of d (offers b) fit (MarketAt d b) at-market;
+        walked-prices = rw (walked-levels d (offers b) fit) (run-prices d (offers b) fit _ _ _ (levels d (offers b)) (the-run d (offers b) fit));
         market-fits = market-of d (offers b) fit;
         response-fits = λ r m. rw (got-levels d (offers b) fit r (into r m)) (run-fits d (offers b) fit r (into r m) _ _ _ (levels d (offers b)) (the-run d (offers b) fit));
         own-limit = λ r m. own-limit-of d (offers b) fit r (into r m);

@@ -3,7 +3,7 @@ use mathlib.Core.Path.{_≡_}
 use mathlib.Core.Bool.{Bool, true, false, cond, not, _&&_}
 use mathlib.Core.List.{List, [], _∷_, _++_}
 use mathlib.Core.Logic.{_⊎_, _≢_}
-use Prim.Native.Nat.{ℕ, _+_, _≤_, _<_, min, max}
+use Prim.Native.Nat.{ℕ, _+_, _/_, _≤_, _<_, min, max}
 use lib.Dec.{ltb, eqb}
 use lib.ListN.{length}
 use Rattle.board.specs.declared.Response.{Response}
@@ -14,7 +14,7 @@ use Rattle.board.specs.Theorems.{Good}
 use Rattle.share.specs.Share.{Near}
 use Rattle.share.specs.Fills.{Fill, sizes}
 use Rattle.trade.specs.declared.Deal.{Deal}
-use Rattle.trade.specs.Trade.{offers, isOther, Level, others, shared, total, working, top, entry, guarantee, offersAt, marketTakes, marketFill, levels, fills}
+use Rattle.trade.specs.Trade.{offers, isOther, Level, others, shared, total, working, workingStop, top, entry, guarantee, offersAt, marketTakes, marketFill, levels, fills}
 
 -- ---- words
 
@@ -86,6 +86,8 @@ pub record Sound (d : Deal) (b : Board) : Type 0 where
   -- the bound has not passed the initiating price, and neither does the stop or limit
   pub bound-below : d .bound ≤ d .initiating
   pub stop-below : d .stop ≤ d .initiating
+  -- nor does any response
+  pub prices : Every (λ r. r .price ≤ d .initiating) (liveOf b)
   -- the mode is one of the three
   pub mode : (1 ≤ d .mode) × (d .mode ≤ 3)
   -- the live responses have sequences of their own, none of them the Contra Order's 0
@@ -106,6 +108,22 @@ pub data Known (d : Deal) (b : Board) (k : ℕ) : Type 0 where
   theContra : k ≡ 0 → Known d b k
   theMarket : k ≡ d .market → 0 < d .selling → Known d b k
   aResponse : (r : Response) → In r (liveOf b) → r .sequence ≡ k → Known d b k
+
+-- p is the lowest working price
+pub record Lowest (d : Deal) (b : Board) (p : ℕ) : Type 0 where
+  pub response : Response
+  pub live : In response (liveOf b)
+  pub works : working d response ≡ p
+  pub least : Every (λ r. p ≤ working d r) (liveOf b)
+
+-- the market order trades at p
+pub record MarketAt (d : Deal) (b : Board) (p : ℕ) : Type 0 where
+  -- in mode 2 at the lowest working price, and without responses at the midpoint of initiating price and bound, half cents up
+  pub matched : d .mode ≡ 2 → (q : ℕ) → Lowest d b q → p ≡ q
+  pub midpoint : d .mode ≡ 2 → liveOf b ≡ [] → p ≡ (d .initiating + d .bound + 1) / 2
+  -- in modes 1 and 3 at the lower of that, if there is a response, and the working stop or limit
+  pub lower : d .mode ≢ 2 → (q : ℕ) → Lowest d b q → p ≡ min q (workingStop d)
+  pub alone : d .mode ≢ 2 → liveOf b ≡ [] → p ≡ workingStop d
 
 -- a price of the walk. R, or `shared l`, is what Customers and the Contra Order's first part leave of the size left on arriving there
 pub record ByLevel (d : Deal) (b : Board) (fs : List Fill) (l : Level) : Type 0 where
@@ -133,6 +151,9 @@ pub record Demand3 (d : Deal) (b : Board) (fs : List Fill) : Type 0 where
   pub once : (k p : ℕ) → times k p fs ≤ 1
   -- the market order trades first, and once, as far as sizes go; then come the fills of the walk
   pub market-trades : fs ≡ marketFill d (offers b) ++ walked d fs
+  pub market-price : Every (λ f. isMarket d f ≡ true → MarketAt d b (f .price)) fs
+  -- each price of the walk is one where a response works, or the last price
+  pub walked-prices : Every (λ f. (0 < length (offersAt d (offers b) (f .price))) ⊎ (f .price ≡ top d)) (walked d fs)
   -- no market order and no response trades more than its size
   pub market-fits : 0 < d .selling → got (d .market) fs ≤ d .selling
   pub response-fits : (r : Response) → In r (liveOf b) → got (r .sequence) fs ≤ r .size
