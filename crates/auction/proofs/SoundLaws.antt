@@ -18,14 +18,15 @@ use Rattle.share.specs.Fills.{Fill}
 use Rattle.tape.specs.declared.Event.{Event}
 use Rattle.tape.specs.declared.Order.{Order}
 use Rattle.tape.specs.Form.{eventFormed, shapeOf, shapeTests, orderFormed}
-use Rattle.tape.proofs.FormLaws.{each, within-ge}
+use Rattle.tape.proofs.FormLaws.{each, within-ge, order-bounds}
 use Rattle.trade.specs.declared.Deal.{Deal}
 use Rattle.trade.specs.Trade.{offers, fills, total}
 use Rattle.trade.specs.Write.{shown, reported, fillsOf}
 use Rattle.trade.specs.Demands.{Absent, Distinct, InRange, Demand3, Sound as SoundDeal}
 use Rattle.trade.proofs.Lists.{all-map}
 use Rattle.trade.proofs.Theorems.{demand3}
-use Rattle.auction.specs.Mirror.{mirrored, buyOrder, buyEvent}
+use Rattle.trade.proofs.Plans.{plans}
+use Rattle.auction.specs.Mirror.{mirrored, mirroredOrder, buyOrder, buyEvent}
 use Rattle.auction.specs.Accept.{initiatingOf, boundOf, firstBound, termsOf, quotesOf, openedBy, acceptOf}
 use Rattle.auction.specs.Step.{isOpen, boundBy, responseOf, boardAfter, quotesAfter, marketAfter, after, endedByTime, gives, carried, isFull, stepOf, closeOf}
 use Rattle.auction.specs.Fills.{word, boundNow, rangeOf, dealOf, auctionFills}
@@ -47,14 +48,15 @@ use Rattle.auction.proofs.Resend.{keeps}
 
 -- ---- at the opening
 
-opened-sound : (s : Bool) (b : Order) → Passed b → initiatingOf b ≤ 999999 → Sound (openedBy s b)
+opened-sound : (s : Bool) (b : Order) → Passed b → initiatingOf b ≤ 999999 → (1 ≤ b .mode) × (b .mode ≤ 3) → Sound (openedBy s b)
 unfolding openedBy termsOf quotesOf
-opened-sound s b p q =
+opened-sound s b p q m =
     record {
       bound-below = bound-fits b p;
       stop-below = p .stop;
       price = q;
       size = p .size;
+      mode = m;
       board = empty-good;
       live = subst (Every _) (sym empty-live) tt;
       distinct = subst Distinct (sym empty-live) tt;
@@ -62,8 +64,15 @@ opened-sound s b p q =
       market-apart = λ z. absurd (omega arith);
     }
 
+-- the mode of an accepted order is one of the three
+mode-fits : (o : Order) → orderFormed o ≡ true → (1 ≤ buyOrder o .mode) × (buyOrder o .mode ≤ 3)
+unfolding buyOrder mirroredOrder
+mode-fits o f =
+    let m : (1 ≤ o .mode) × (o .mode ≤ 3) = (order-bounds o f .some-mode, order-bounds o f .mode) in
+    by (λ (b : Order). (1 ≤ b .mode) × (b .mode ≤ 3)) (eqb (o .side) 2) _ _ (λ _. m) (λ _. m)
+
 pub sound-opened : (o : Order) → acceptOf o .answer ≡ Accepted → Sound (acceptOf o .auction)
-sound-opened o h = let k = opened o h in subst Sound (sym (k .auction)) (opened-sound (eqb (o .side) 2) (buyOrder o) (k .passes) (price-fits o (k .formed)))
+sound-opened o h = let k = opened o h in subst Sound (sym (k .auction)) (opened-sound (eqb (o .side) 2) (buyOrder o) (k .passes) (price-fits o (k .formed)) (mode-fits o (k .formed)))
 
 -- ---- a step
 
@@ -94,6 +103,7 @@ after-sound a e c g s bound good live distinct none apart =
       stop-below = s .stop-below;
       price = s .price;
       size = s .size;
+      mode = s .mode;
       board = good;
       live = live;
       distinct = distinct;
@@ -157,6 +167,7 @@ time-sound a s =
       stop-below = s .stop-below;
       price = s .price;
       size = s .size;
+      mode = s .mode;
       board = s .board;
       live = s .live;
       distinct = s .distinct;
@@ -188,6 +199,8 @@ sound-deal a s =
     record {
       bound-below = omega (arith, bound-is a s, s .bound-below);
       stop-below = s .stop-below;
+      prices = all-map (Stands (a .sequence) (a .terms .initiating)) (λ r. r .price ≤ a .terms .initiating) (liveOf (a .board)) (λ r h. h .3) (s .live);
+      mode = s .mode;
       parties = all-map (Stands (a .sequence) (a .terms .initiating)) (λ r. 0 < r .sequence) (liveOf (a .board)) (λ r h. h .0) (s .live);
       distinct = s .distinct;
       market-apart = s .market-apart;
@@ -217,6 +230,7 @@ trades a s z =
     record {
       ended = z;
       clauses = d;
+      plans = plans (dealOf a) (a .board) (sound-deal a s);
       adds-up = reported-total (a .terms .sell) (fills (dealOf a) (offers (a .board))) ∙ d .adds-up;
       in-range = reported-in a (fills (dealOf a) (offers (a .board))) (d .in-range);
     }

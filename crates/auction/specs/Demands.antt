@@ -15,6 +15,7 @@ use Rattle.tape.specs.declared.Event.{Event}
 use Rattle.tape.specs.Form.{orderFormed, eventFormed}
 use Rattle.trade.specs.Trade.{offers, fills, total}
 use Rattle.trade.specs.Demands.{In, Absent, Distinct, Demand3}
+use Rattle.trade.specs.Plan.{Planned}
 use Rattle.words.specs.Bits.{bitAt}
 use Rattle.auction.specs.Mirror.{mirrored, mirroredMarks, mirroredOrder, mirroredEvent, buyEvent}
 use Rattle.auction.specs.Accept.{acceptOf}
@@ -85,6 +86,7 @@ pub record Sound (a : Auction) : Type 0 where
   pub stop-below : a .terms .stop ≤ a .terms .initiating
   pub price : a .terms .initiating ≤ 999999
   pub size : 1 ≤ a .terms .size
+  pub mode : (1 ≤ a .terms .mode) × (a .terms .mode ≤ 3)
   pub board : Good (a .board)
   -- each live response stands rightly, with a sequence of its own
   pub live : Every (Stands (a .sequence) (a .terms .initiating)) (liveOf (a .board))
@@ -102,6 +104,8 @@ pub record Within (r : Range) (f : Fill) : Type 0 where
 pub record Trades (a : Auction) : Type 0 where
   pub ended : isOpen (a .ending) ≡ false
   pub clauses : Demand3 (dealOf a) (a .board) (fills (dealOf a) (offers (a .board)))
+  -- each price of the walk has document 01's plan
+  pub plans : Planned (dealOf a) (a .board)
   pub adds-up : total (auctionFills a) ≡ a .terms .size
   pub in-range : Every (Within (rangeOf a)) (auctionFills a)
 

@@ -10,7 +10,7 @@ use borrow.Author.Tests.{leb-true, leb-false, lt-leb, le-leb}
 use lib.Dec.{leb, lit<}
 use lib.ListN.{length}
 use Rattle.board.specs.Lists.{sum}
-use Rattle.share.specs.Share.{floors, plus, leftover, firsts, sharesBy, shares, inTurn, Each, Mark, Marks, Near}
+use Rattle.share.specs.Share.{floors, plus, leftover, firsts, sharesBy, shares, inTurn, Each, Mark, Marks, Near, Fair, ProRata}
 
 -- ---- the whole parts
 
@@ -91,8 +91,8 @@ plus-near R T (s ∷ ss) (m ∷ ms) e = (near-one (R * s / T) m (e .0 .0), plus-
 
 -- the rule need be right only where R is short
 module _ (R : ℕ) (ss ms : List ℕ) (right : R < sum ss → Marks R ss ms) where
-  -- (a) all of R is given out, or all is filled
-  pub by-sum : sum (sharesBy ms R ss) ≡ min R (sum ss)
+  -- all of R is given out, or all is filled
+  by-sum : sum (sharesBy ms R ss) ≡ min R (sum ss)
   by-sum = go (leb (sum ss) R) refl
     where
       go : (b : Bool) → leb (sum ss) R ≡ b → sum (cond b ss (plus (floors R (sum ss) ss) ms)) ≡ min R (sum ss)
@@ -102,8 +102,8 @@ module _ (R : ℕ) (ss ms : List ℕ) (right : R < sum ss → Marks R ss ms) whe
           let f : sum (floors R (sum ss) ss) ≤ R = floors-at-most R ss (omega arith) in
           omega (arith, sum-plus R (sum ss) ss ms (right h .each), right h .total)
 
-  -- (b) no share is above its size
-  pub by-fits : Each _≤_ (sharesBy ms R ss) ss
+  -- no share is above its size
+  by-fits : Each _≤_ (sharesBy ms R ss) ss
   by-fits = go (leb (sum ss) R) refl
     where
       go : (b : Bool) → leb (sum ss) R ≡ b → Each _≤_ (cond b ss (plus (floors R (sum ss) ss) ms)) ss
@@ -112,9 +112,12 @@ module _ (R : ℕ) (ss ms : List ℕ) (right : R < sum ss → Marks R ss ms) whe
           let h : R < sum ss = leb-false (sum ss) R e in
           plus-fits R (sum ss) ss ms h (right h .each)
 
-  -- (c) where R is short, each share is the whole part of R * s / T, or one more
-  pub by-near : R < sum ss → Each (Near R (sum ss)) ss (sharesBy ms R ss)
+  -- where R is short, each share is the whole part of R * s / T, or one more
+  by-near : R < sum ss → Each (Near R (sum ss)) ss (sharesBy ms R ss)
   by-near h = rw (lt-leb (sum ss) R h) (plus-near R (sum ss) ss ms (right h .each))
+
+  by-fair : Fair R ss (sharesBy ms R ss)
+  by-fair = record { adds-up = by-sum; fits = by-fits; all = λ h. rw (le-leb (sum ss) R h); near = by-near }
 
 -- ---- the rule: first come first
 
@@ -135,19 +138,23 @@ firsts-right R ss h =
       total = firsts-sum (leftover R ss) ss (left-at-most R ss (omega arith));
     }
 
--- ---- the three laws of `shares`
+-- ---- the laws of `shares`
+
+fair-shares : (R : ℕ) (ss : List ℕ) → Fair R ss (shares R ss)
+unfolding shares
+fair-shares R ss = by-fair R ss (firsts (leftover R ss) ss) (firsts-right R ss)
+
+pub pro-rata : ProRata
+pro-rata = record { by-rule = by-fair; in-order = firsts-right; fair = fair-shares }
 
 pub shares-sum : (R : ℕ) (ss : List ℕ) → sum (shares R ss) ≡ min R (sum ss)
-unfolding shares
-shares-sum R ss = by-sum R ss (firsts (leftover R ss) ss) (firsts-right R ss)
+shares-sum R ss = fair-shares R ss .adds-up
 
 pub shares-fit : (R : ℕ) (ss : List ℕ) → Each _≤_ (shares R ss) ss
-unfolding shares
-shares-fit R ss = by-fits R ss (firsts (leftover R ss) ss) (firsts-right R ss)
+shares-fit R ss = fair-shares R ss .fits
 
 pub shares-near : (R : ℕ) (ss : List ℕ) → R < sum ss → Each (Near R (sum ss)) ss (shares R ss)
-unfolding shares
-shares-near R ss = by-near R ss (firsts (leftover R ss) ss) (firsts-right R ss)
+shares-near R ss = fair-shares R ss .near
 
 -- ---- ranges
 
@@ -197,8 +204,7 @@ turn-length left ss = sym (each-length (λ s q. q ≤ s) ss (inTurn left ss) (tu
 
 -- ---- pro rata, where it covers all
 pub shares-full : (R : ℕ) (ss : List ℕ) → sum ss ≤ R → Each (λ s q. q ≡ s) ss (shares R ss)
-unfolding shares
-shares-full R ss h = rw (le-leb (sum ss) R h) (each-same ss)
+shares-full R ss h = rw (fair-shares R ss .all h) (each-same ss)
 
 pub shares-length : (R : ℕ) (ss : List ℕ) → length (shares R ss) ≡ length ss
 shares-length R ss = each-length _≤_ (shares R ss) ss (shares-fit R ss)

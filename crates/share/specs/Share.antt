@@ -3,7 +3,7 @@ use mathlib.Core.Path.{_≡_}
 use mathlib.Core.Bool.{cond}
 use mathlib.Core.List.{List, [], _∷_}
 use mathlib.Core.Logic.{_⊎_}
-use Prim.Native.Nat.{ℕ, _+_, _-_, _*_, _/_, _≤_, min}
+use Prim.Native.Nat.{ℕ, _+_, _-_, _*_, _/_, _≤_, _<_, min}
 use lib.Dec.{leb}
 use Rattle.board.specs.Lists.{sum}
 
@@ -60,3 +60,24 @@ pub record Marks (R : ℕ) (ss ms : List ℕ) : Type 0 where
 -- share x of a size s is the whole part, or one more
 abbrev pub Near : ℕ → ℕ → ℕ → ℕ → Type 0
 Near R T s x = (x ≡ R * s / T) ⊎ (x ≡ R * s / T + 1)
+
+-- ---- the laws
+
+-- what the shares qs of R contracts over the sizes ss are
+pub record Fair (R : ℕ) (ss qs : List ℕ) : Type 0 where
+  -- they add up to R, or to all the sizes
+  pub adds-up : sum qs ≡ min R (sum ss)
+  -- none is above its size
+  pub fits : Each _≤_ qs ss
+  -- all are filled where R covers them
+  pub all : sum ss ≤ R → qs ≡ ss
+  -- else each is the whole part of R * s / T, or one more
+  pub near : R < sum ss → Each (Near R (sum ss)) ss qs
+
+pub record ProRata : Type 0 where
+  -- for any rule that gives the leftovers one each to distinct members
+  pub by-rule : (R : ℕ) (ss ms : List ℕ) → (R < sum ss → Marks R ss ms) → Fair R ss (sharesBy ms R ss)
+  -- one each in the order of the list is such a rule
+  pub in-order : (R : ℕ) (ss : List ℕ) → R < sum ss → Marks R ss (firsts (leftover R ss) ss)
+  -- so the shares are fair
+  pub fair : (R : ℕ) (ss : List ℕ) → Fair R ss (shares R ss)

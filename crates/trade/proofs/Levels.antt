@@ -15,7 +15,7 @@ use Rattle.share.proofs.ShareLaws.{shares-sum, shares-fit, shares-near, each-fl
 use Rattle.share.specs.Fills.{Fill, fillOf, fillsBy, sizes}
 use Rattle.trade.specs.Trade.{isCustomer, isOther, Level, customers, others, first, shared, given, rest, contra, levelFills, total, wants}
 use Rattle.trade.specs.Demands.{In, Absent, Distinct, got, gots, sizeHere}
-use Rattle.trade.proofs.Lists.{all-append, all-in, all-keep, in-keep, keep-in, keep-test, distinct-keep, absent-keep, sizes-split, total-append, tally-append, got-none, total-fill, got-fill, all-fill, all-by, absent-by, total-by, got-by, gots-same, gots-by, pairs-of}
+use Rattle.trade.proofs.Lists.{all-append, all-any, all-in, all-keep, in-keep, keep-in, keep-test, distinct-keep, absent-keep, sizes-split, total-append, tally-append, got-none, total-fill, got-fill, all-fill, all-by, absent-by, total-by, got-by, gots-same, gots-by, pairs-of}
 
 module _ (l : Level) where
   unfoldable pub byCustomers : List Fill
@@ -86,13 +86,9 @@ module _ (l : Level) where
   unfolding byCustomers byContra byOthers
   all-level P f =
       all-three P
-      (all-by P (λ o. Unit {0}) (l .price) (λ o q u h. f (o .sequence) q h) (customers l) (inTurn (l .left) (sizes (customers l))) (units (customers l)))
+      (all-by P (λ o. Unit {0}) (l .price) (λ o q u h. f (o .sequence) q h) (customers l) (inTurn (l .left) (sizes (customers l))) (all-any (λ o. Unit {0}) (customers l) (λ o. tt)))
       (all-fill P 0 (l .price) (contra l) (λ h. f 0 (contra l) h))
-      (all-by P (λ o. Unit {0}) (l .price) (λ o q u h. f (o .sequence) q h) (others l) (given l) (units (others l)))
-    where
-      units : (os : List Response) → Every (λ o. Unit {0}) os
-      units [] = tt
-      units (o ∷ os) = (tt, units os)
+      (all-by P (λ o. Unit {0}) (l .price) (λ o q u h. f (o .sequence) q h) (others l) (given l) (all-any (λ o. Unit {0}) (others l) (λ o. tt)))
 
   -- ---- who trades here
 

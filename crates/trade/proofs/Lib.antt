@@ -12,6 +12,8 @@ pub mod Runs
 pub mod Counts
 pub mod Fair
 pub mod Turns
+pub mod Limits
+pub mod Market
 pub mod Theorems
 pub mod Plans
 pub mod Teeth

@@ -1,11 +1,11 @@
 -- Laws of the lists behind `Trade`: what holds of all, what is kept, what a party gets.
 use mathlib.Core.Path.{_≡_, refl, sym, ap, ap₂, _∙_, subst}
-use mathlib.Core.Bool.{Bool, true, false, cond, not}
+use mathlib.Core.Bool.{Bool, true, false, cond, not, _&&_}
 use mathlib.Core.List.{List, [], _∷_, _++_}
 use mathlib.Core.Logic.{inl, inr, _≢_}
 use Prim.Native.Nat.{ℕ, _+_, _≤_, _<_}
 use native.Mathlib.Omega.{arith}
-use borrow.Author.Tests.{ltb-true, ltb-false, eq-eqb, ne-eqb}
+use borrow.Author.Tests.{ltb-true, ltb-false, eqb-false, eq-eqb, ne-eqb}
 use lib.Dec.{ltb, eqb}
 use lib.ListN.{length}
 use Rattle.board.specs.declared.Response.{Response}
@@ -33,6 +33,10 @@ module _ {A : Type 0} where
   all-map P Q [] f a = tt
   all-map P Q (x ∷ xs) f a = (f x (a .0), all-map P Q xs f (a .1))
 
+  pub all-any : (P : A → Type 0) (xs : List A) → ((x : A) → P x) → Every P xs
+  all-any P [] f = tt
+  all-any P (x ∷ xs) f = (f x, all-any P xs f)
+
   pub all-in : (P : A → Type 0) (xs : List A) (a : A) → Every P xs → In a xs → P a
   all-in P [] a h m = absurd m
   all-in P (x ∷ xs) a h (inl e) = subst P (sym e) (h .0)
@@ -56,6 +60,11 @@ module _ {A : Type 0} where
       go : (b : Bool) → In a (filter t xs) → In a (keep b x (filter t xs))
       go true r = inr r
       go false r = r
+
+  pub keep-all : (t : A → Bool) (xs : List A) → Every (λ x. t x ≡ true) xs → filter t xs ≡ xs
+  unfolding filter
+  keep-all t [] a = refl
+  keep-all t (x ∷ xs) a = rw (a .0) (ap {B = List A} (λ ys. x ∷ ys) (keep-all t xs (a .1)))
 
 pub keep-in : {A : Type 0} (t : A → Bool) (xs : List A) (a : A) → In a (filter t xs) → In a xs
 unfolding filter
@@ -138,11 +147,29 @@ tally-le t (f ∷ fs) = go (t f) (tally-le t fs)
     go true h = omega arith
     go false h = omega arith
 
+pub tally-and : (s t : Fill → Bool) (fs : List Fill) → tally (λ f. s f && t f) fs ≤ tally s fs
+tally-and s t [] = omega arith
+tally-and s t (f ∷ fs) = go (s f) (t f) (tally-and s t fs)
+  where
+    go : (a b : Bool) → tally (λ f. s f && t f) fs ≤ tally s fs → cond (a && b) (f .quantity) 0 + tally (λ f. s f && t f) fs ≤ cond a (f .quantity) 0 + tally s fs
+    go true true h = omega arith
+    go true false h = omega arith
+    go false b h = omega arith
+
 pub got-none : (k : ℕ) (fs : List Fill) → Every (λ f. f .party ≢ k) fs → got k fs ≡ 0
 got-none k fs a = tally-none _ fs (all-map (λ f. f .party ≢ k) (λ f. eqb (f .party) k ≡ false) fs (λ f h. ne-eqb (f .party) k h) a)
 
 pub soldAt-none : (p : ℕ) (fs : List Fill) → Every (λ f. f .price ≢ p) fs → soldAt p fs ≡ 0
 soldAt-none p fs a = tally-none _ fs (all-map (λ f. f .price ≢ p) (λ f. eqb (f .price) p ≡ false) fs (λ f h. ne-eqb (f .price) p h) a)
+
+-- a party that gets nothing has no fill, where none is of zero
+pub got-zero : (k : ℕ) (fs : List Fill) → Every (λ f. 0 < f .quantity) fs → got k fs ≡ 0 → Every (λ f. f .party ≢ k) fs
+got-zero k [] a e = tt
+got-zero k (f ∷ fs) a e = go (eqb (f .party) k) refl e (got-zero k fs (a .1))
+  where
+    go : (b : Bool) → eqb (f .party) k ≡ b → cond b (f .quantity) 0 + got k fs ≡ 0 → (got k fs ≡ 0 → Every (λ f. f .party ≢ k) fs) → Every (λ f. f .party ≢ k) (f ∷ fs)
+    go true q z ih = absurd (omega (arith, a .0))
+    go false q z ih = (eqb-false (f .party) k q, ih (omega arith))
 
 -- ---- one fill
 

@@ -8,13 +8,13 @@ use native.Mathlib.Omega.{arith}
 use borrow.Author.Tests.{leb-true, ltb-true, ltb-false, eqb-true, eqb-false, eq-eqb, ne-eqb, le-leb, lt-leb}
 use lib.Dec.{leb, ltb, eqb}
 use Rattle.board.specs.declared.Response.{Response}
-use Rattle.board.specs.Lists.{sum}
 use Rattle.trade.specs.declared.Deal.{Deal}
-use Rattle.trade.specs.Trade.{offers, Level, shared, rest, given, contra, top, entry, workingStop, guarantee, matches, isFinal, wants, levels}
+use Rattle.trade.specs.Trade.{offers, Level, top, entry, workingStop, guarantee, matches, isFinal, wants, levels}
 use Rattle.trade.specs.Demands.{In, sizeHere}
 use Rattle.trade.specs.Plan.{Plan, goOn, cleanUp, mode1, mode2, mode3, planOf, Plans}
-use Rattle.trade.proofs.Walk.{Fit, Good, Run}
+use Rattle.trade.proofs.Walk.{Fit, Run}
 use Rattle.trade.proofs.Runs.{run-above, run-each}
+use Rattle.trade.proofs.Limits.{none-early}
 use Rattle.trade.proofs.Theorems.{fit, the-run}
 
 abbrev plan : Deal → List Response → ℕ → ℕ → ℕ → ℕ → Plan
@@ -120,18 +120,12 @@ module _ (d : Deal) (rs : List Response) (p left held A : ℕ) where
 -- ---- in mode 1 the Contra Order holds nothing on arriving at any price
 
 module _ (d : Deal) (rs : List Response) (s : Fit d rs) where
-  none-early : (from left held : ℕ) (l : Level) → Good d rs from left held l → l .price < entry d → contra l ≡ 0
-  none-early from left held l g h =
-      let w = g .below-entry h in
-      let r : rest l ≡ 0 = ap (λ b. cond b (shared l - sum (given l)) 0) (w .1) in
-      omega (arith, w .0)
-
   run-early : (from left held : ℕ) (ls : List Level) → Run d rs from left held ls → (l : Level) → In l ls → l .price ≤ entry d → l .held ≡ held
   run-early from left held [] r l m h = absurd m
   run-early from left held (x ∷ xs) r l (inl e) h = ap (λ (y : Level). y .held) e ∙ r .0 .held-is
   run-early from left held (x ∷ xs) r l (inr m) h =
       let k : x .price + 1 ≤ l .price = run-above d rs s _ _ _ xs (r .1) l m in
-      omega (arith, run-early _ _ _ xs (r .1) l m h, none-early from left held x (r .0) (omega arith))
+      omega (arith, run-early _ _ _ xs (r .1) l m h, none-early d rs s from left held x (r .0) (omega arith))
 
   low : (l : Level) → In l (levels d rs) → l .price ≤ top d
   low = run-each d rs s (λ l. l .price ≤ top d) (λ from left held l g. g .in-top) _ _ _ (levels d rs) (the-run d rs s)
@@ -154,7 +148,7 @@ module _ (d : Deal) (rs : List Response) (s : Fit d rs) where
   three m l n = planned l n ∙ mode-three d rs (l .price) (l .left) (l .held) (sizeHere l) m
 
 pub plans : Plans
-plans d b s h k l n = go (eqb (d .mode) 1) (eqb (d .mode) 2) refl refl
+plans d b s l n = go (eqb (d .mode) 1) (eqb (d .mode) 2) refl refl
   where
     go : (x y : Bool) → eqb (d .mode) 1 ≡ x → eqb (d .mode) 2 ≡ y
         → planOf l
@@ -166,4 +160,4 @@ plans d b s h k l n = go (eqb (d .mode) 1) (eqb (d .mode) 2) refl refl
     go false false e f =
         let a : d .mode ≢ 1 = eqb-false (d .mode) 1 e in
         let c : d .mode ≢ 2 = eqb-false (d .mode) 2 f in
-        three d (offers b) (fit d b s) (omega arith) l n
+        three d (offers b) (fit d b s) (omega (arith, s .mode .0, s .mode .1)) l n

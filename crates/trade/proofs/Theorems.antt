@@ -1,64 +1,38 @@
 -- Demand 3, as a theorem about the definition `fills`.
-use mathlib.Core.Path.{_≡_, refl, sym, _∙_, subst}
-use mathlib.Core.Bool.{Bool, true, false, cond, _&&_}
+use mathlib.Core.Path.{_≡_, refl, sym, ap, _∙_, subst}
+use mathlib.Core.Bool.{Bool, true, false, not, _&&_, true≢false}
 use mathlib.Core.List.{List, [], _∷_, _++_}
 use mathlib.Core.Logic.{inl, inr, _≢_}
-use Prim.Native.Nat.{ℕ, suc, _+_, _-_, _/_, _≤_, _<_, min, max}
+use Prim.Native.Nat.{ℕ, suc, _-_, _≤_, _<_, min, max}
 use native.Mathlib.Omega.{arith}
-use borrow.Author.Tests.{eqb-true, eqb-false, ltb-true, ltb-false, ne-eqb}
+use borrow.Author.Tests.{eqb-true, eqb-false, ltb-true, ltb-false, lt-ltb, eq-eqb, ne-eqb}
 use lib.Dec.{ltb, eqb}
 use lib.ListN.{length}
 use Rattle.board.specs.declared.Response.{Response}
 use Rattle.board.specs.declared.Board.{Board}
-use Rattle.board.specs.Lists.{Every, sum}
-use Rattle.board.specs.Board.{liveOf}
+use Rattle.board.specs.Lists.{Every, keep, sum}
+use Rattle.board.specs.Board.{liveOf, inSequence}
 use Rattle.share.specs.Share.{Near}
 use Rattle.share.specs.Fills.{Fill, sizes}
 use Rattle.trade.specs.declared.Deal.{Deal}
-use Rattle.trade.specs.Trade.{offers, Level, others, shared, levelFills, total, flat, working, workingStop, top, entry, next, guarantee, marketPrice, marketTakes, marketFill, levels, fills}
-use Rattle.trade.specs.Demands.{In, Absent, Distinct, got, gotAt, gotBelow, gots, soldAt, soldAbove, times, othersAt, InRange, Sound, Known, theContra, theMarket, aResponse, ByLevel, Demand3, Demands, Few}
-use Rattle.board.proofs.ListLaws.{shuffles-length}
+use Rattle.trade.specs.Trade.{offers, Level, others, shared, levelFills, total, flat, working, workingStop, top, entry, guarantee, marketPrice, marketTakes, marketFill, levels, fills}
+use Rattle.trade.specs.Demands.{In, Absent, Distinct, tally, got, gotAt, gotBelow, gots, soldAt, soldAbove, times, isMarket, walked, othersAt, InRange, Sound, Known, theContra, theMarket, aResponse, Lowest, MarketAt, ByLevel, Demand3, Demands, Few}
+use Rattle.board.proofs.ListLaws.{filter-fail, shuffles-length}
 use Rattle.board.proofs.SequenceLaws.{sequence-shuffles, sequence-rises}
 use Rattle.trade.proofs.CodeLaws.{live-short}
-use Rattle.trade.proofs.Lists.{gots-same, tally-append, all-append, all-map, all-in, got-none, soldAt-none, total-append, total-fill, got-fill, all-fill}
+use Rattle.trade.proofs.Lists.{gots-same, tally-append, tally-and, keep-all, all-any, all-append, all-map, all-in, got-none, soldAt-none, total-append, total-fill, got-fill, all-fill}
 use Rattle.trade.proofs.Order.{in-sequence, all-sequence, distinct-sequence}
 use Rattle.trade.proofs.Levels.{traded-is, level-covered, level-near, level-first}
-use Rattle.trade.proofs.Walk.{Fit, Run, top-below, top-above, next-bound, next-top, next-least, runs}
+use Rattle.trade.proofs.Walk.{Fit, Run, top-below, runs}
 use Rattle.trade.proofs.Runs.{run-left, run-held, run-who, got-append, sold-append, run-total, run-range, run-each, run-absent, run-guarantee, run-only, run-fits, run-level, run-priority, here-distinct, is-here}
 use Rattle.trade.proofs.Counts.{fills-short, times-append, times-party, times-fill, run-once}
 use Rattle.trade.proofs.Fair.{at-price, run-near, run-covered, run-guaranteed, run-customers}
-use Rattle.trade.proofs.Turns.{gotAt-none, run-earlier, run-before}
+use Rattle.trade.proofs.Turns.{run-earlier, run-before}
+use Rattle.trade.proofs.Limits.{run-entry, run-top, run-prices, run-sold}
+use Rattle.trade.proofs.Market.{market-bound, market-top, market-least, price-matched, price-midpoint, price-lower, price-alone}
 
 module _ (d : Deal) (rs : List Response) (s : Fit d rs) where
   -- ---- the market order
-
-  market-in : (d .bound ≤ marketPrice d rs) × (marketPrice d rs ≤ d .initiating)
-  unfolding marketPrice
-  market-in = go (eqb (d .mode) 2) (eqb (length rs) 0)
-    where
-      go : (b c : Bool) → (d .bound ≤ cond b (cond c ((d .initiating + d .bound + 1) / 2) (next d 0 rs)) (min (next d 0 rs) (workingStop d)))
-          × (cond b (cond c ((d .initiating + d .bound + 1) / 2) (next d 0 rs)) (min (next d 0 rs) (workingStop d)) ≤ d .initiating)
-      go true true = (omega (arith, s .bound-below), omega (arith, s .bound-below))
-      go true false = (next-bound d 0 (top-above d rs s) rs, omega (arith, next-top d 0 rs, top-below d rs s))
-      go false c = (omega (arith, next-bound d 0 (top-above d rs s) rs), omega (arith, next-top d 0 rs, top-below d rs s))
-
-  -- no response works below it
-  market-least : (o : Response) → In o rs → marketPrice d rs ≤ working d o
-  unfolding marketPrice
-  market-least o m = go (eqb (d .mode) 2) (eqb (length rs) 0) refl
-    where
-      low : next d 0 rs ≤ working d o
-      low = next-least d 0 rs o m (omega arith)
-
-      some : (os : List Response) → In o os → length os ≡ 0 → ⊥
-      some [] n e = n
-      some (x ∷ xs) n e = omega arith
-
-      go : (b c : Bool) → eqb (length rs) 0 ≡ c
-          → cond b (cond c ((d .initiating + d .bound + 1) / 2) (next d 0 rs)) (min (next d 0 rs) (workingStop d)) ≤ working d o
-      go true true e = absurd (some rs m (eqb-true (length rs) 0 e))
-      go true false e = low
-      go false c e = omega (arith, low)
 
   -- the market order's fill is no response's
   not-market : (o : Response) → In o rs → Every (λ f. f .party ≢ o .sequence) (marketFill d rs)
@@ -129,23 +103,28 @@ module _ (d : Deal) (rs : List Response) (s : Fit d rs) where
   gots-levels : (os : List Response) → ((x : Response) → In x os → In x rs) → gots (fills d rs) os ≡ gots (flat (levels d rs)) os
   gots-levels os f = gots-same (fills d rs) (flat (levels d rs)) os (λ x m. got-levels x (f x m))
 
-  below-all : (p : ℕ) → gotBelow 0 p (flat (levels d rs)) ≤ gotBelow 0 p (fills d rs)
-  below-all p = rw all-of (omega (arith, tally-append (λ f. eqb (f .party) 0 && ltb (f .price) p) (marketFill d rs) (flat (levels d rs))))
+  -- all that the Contra Order gets, at whatever prices, it gets in the walk
+  contra-levels : (t : Fill → Bool) → tally (λ f. eqb (f .party) 0 && t f) (fills d rs) ≡ tally (λ f. eqb (f .party) 0 && t f) (flat (levels d rs))
+  contra-levels t =
+      rw all-of (omega (
+        arith,
+        tally-append (λ f. eqb (f .party) 0 && t f) (marketFill d rs) (flat (levels d rs)),
+        tally-and (λ f. eqb (f .party) 0) t (marketFill d rs),
+        contra-market,
+      ))
+
+  below-levels : (p : ℕ) → gotBelow 0 p (fills d rs) ≡ gotBelow 0 p (flat (levels d rs))
+  below-levels p = contra-levels (λ f. ltb (f .price) p)
 
   above-all : (p : ℕ) → soldAbove p (fills d rs) ≡ 0 → soldAbove p (flat (levels d rs)) ≡ 0
   above-all p h = omega (arith, rw all-of at h, tally-append (λ f. ltb p (f .price)) (marketFill d rs) (flat (levels d rs)))
 
   at-of : (p : ℕ) → 0 < gotAt 0 p (fills d rs) → 0 < gotAt 0 p (flat (levels d rs))
-  at-of p t =
-      let z : gotAt 0 p (marketFill d rs) ≡ 0 =
-      gotAt-none p (marketFill d rs)
-      (all-fill (λ f. (eqb (f .party) 0 && eqb (f .price) p) ≡ false) (d .market) (marketPrice d rs) (marketTakes d rs)
-      (λ h. let a : 0 < d .market = s .market-apart (omega arith) .0 in rw (ne-eqb (d .market) 0 (omega arith)))) in
-      omega (arith, rw all-of at t, tally-append (λ f. eqb (f .party) 0 && eqb (f .price) p) (marketFill d rs) (flat (levels d rs)))
+  at-of p t = omega (arith, contra-levels (λ f. eqb (f .price) p))
 
   priority-of : (o : Response) → In o rs → (p : ℕ) → 0 < soldAt p (fills d rs) → working d o < p → got (o .sequence) (fills d rs) ≡ o .size
   priority-of o m p t h =
-      let z : soldAt p (marketFill d rs) ≡ 0 = soldAt-none p (marketFill d rs) (all-fill (λ f. f .price ≢ p) (d .market) (marketPrice d rs) (marketTakes d rs) (λ q. omega (arith, market-least o m))) in
+      let z : soldAt p (marketFill d rs) ≡ 0 = soldAt-none p (marketFill d rs) (all-fill (λ f. f .price ≢ p) (d .market) (marketPrice d rs) (marketTakes d rs) (λ q. omega (arith, market-least d rs s o m))) in
       let u : 0 < soldAt p (flat (levels d rs)) = omega (arith, rw all-of at t, sold-append p (marketFill d rs) (flat (levels d rs))) in
       got-levels o m ∙ run-priority d rs s o m _ _ _ (levels d rs) the-run p (omega arith) h u
 
@@ -159,6 +138,36 @@ module _ (d : Deal) (rs : List Response) (s : Fit d rs) where
         got-none (d .market) (flat (levels d rs)) (run-absent d rs s (d .market) (a .0) (a .1) _ _ _ (levels d rs) the-run),
       ))
 
+  -- ---- the market order's fill, then the walk's
+
+  not-markets : Every (λ f. not (isMarket d f) ≡ true) (flat (levels d rs))
+  not-markets = go (ltb 0 (d .selling)) refl
+    where
+      go : (b : Bool) → ltb 0 (d .selling) ≡ b → Every (λ f. not (b && eqb (f .party) (d .market)) ≡ true) (flat (levels d rs))
+      go true e =
+          let a = s .market-apart (ltb-true 0 (d .selling) e) in
+          all-map (λ f. f .party ≢ d .market) (λ f. not (eqb (f .party) (d .market)) ≡ true) (flat (levels d rs)) (λ f h. ap not (ne-eqb (f .party) (d .market) h))
+          (run-absent d rs s (d .market) (a .0) (a .1) _ _ _ (levels d rs) the-run)
+      go false e = all-any (λ f. true ≡ true) (flat (levels d rs)) (λ f. refl)
+
+  pub walked-levels : walked d (fills d rs) ≡ flat (levels d rs)
+  walked-levels = rw all-of (go (ltb 0 (marketTakes d rs)) refl)
+    where
+      rest : walked d (flat (levels d rs)) ≡ flat (levels d rs)
+      rest = keep-all (λ f. not (isMarket d f)) (flat (levels d rs)) not-markets
+
+      go : (b : Bool) → ltb 0 (marketTakes d rs) ≡ b
+          → walked d (keep b (record { party = d .market; price = marketPrice d rs; quantity = marketTakes d rs }) [] ++ flat (levels d rs)) ≡ flat (levels d rs)
+      go true e =
+          let h : 0 < marketTakes d rs = ltb-true 0 (marketTakes d rs) e in
+          let q : isMarket d (record { party = d .market; price = marketPrice d rs; quantity = marketTakes d rs }) ≡ true =
+          rw (lt-ltb 0 (d .selling) (omega arith), eq-eqb (d .market) (d .market) refl) in
+          filter-fail (λ f. not (isMarket d f)) _ (flat (levels d rs)) (ap not q) ∙ rest
+      go false e = rest
+
+  pub market-trades-of : fills d rs ≡ marketFill d rs ++ walked d (fills d rs)
+  market-trades-of = all-of ∙ ap (λ (fs : List Fill). marketFill d rs ++ fs) (sym walked-levels)
+
   -- ---- the clauses
 
   adds-up-of : total (fills d rs) ≡ d .size
@@ -171,8 +180,27 @@ module _ (d : Deal) (rs : List Response) (s : Fit d rs) where
   in-range-of : Every (InRange d) (fills d rs)
   in-range-of =
       by-parts (InRange d)
-      (all-fill (InRange d) (d .market) (marketPrice d rs) (marketTakes d rs) (λ h. record { low = market-in .0; high = market-in .1; some = h }))
+      (all-fill (InRange d) (d .market) (marketPrice d rs) (marketTakes d rs) (λ h. record { low = market-bound d rs s; high = omega (arith, market-top d rs s, top-below d rs s); some = h }))
       (run-range d rs s _ _ _ (levels d rs) the-run)
+
+  market-price-of : (P : ℕ → Type 0) → P (marketPrice d rs) → Every (λ f. isMarket d f ≡ true → P (f .price)) (fills d rs)
+  market-price-of P p =
+      by-parts (λ f. isMarket d f ≡ true → P (f .price))
+      (all-fill (λ f. isMarket d f ≡ true → P (f .price)) (d .market) (marketPrice d rs) (marketTakes d rs) (λ h z. p))
+      (all-map (λ f. not (isMarket d f) ≡ true) (λ f. isMarket d f ≡ true → P (f .price)) (flat (levels d rs)) (λ f h z. absurd (true≢false (sym h ∙ ap not z))) not-markets)
+
+  contra-limit-of : Every (λ f. f .party ≡ 0 → entry d ≤ f .price) (fills d rs)
+  contra-limit-of =
+      by-parts (λ f. f .party ≡ 0 → entry d ≤ f .price)
+      (all-fill (λ f. f .party ≡ 0 → entry d ≤ f .price) (d .market) (marketPrice d rs) (marketTakes d rs)
+      (λ h z. let a : 0 < d .market = s .market-apart (omega arith) .0 in absurd (omega arith)))
+      (run-entry d rs s _ _ _ (levels d rs) the-run)
+
+  top-price-of : Every (λ f. f .price ≤ top d) (fills d rs)
+  top-price-of =
+      by-parts (λ f. f .price ≤ top d)
+      (all-fill (λ f. f .price ≤ top d) (d .market) (marketPrice d rs) (marketTakes d rs) (λ h. market-top d rs s))
+      (run-top d rs s _ _ _ (levels d rs) the-run)
 
   works-at-of : (o : Response) → In o rs → Every (λ f. f .party ≡ o .sequence → f .price ≡ working d o) (fills d rs)
   works-at-of o m =
@@ -185,6 +213,14 @@ module _ (d : Deal) (rs : List Response) (s : Fit d rs) where
       all-map (λ f. f .party ≡ o .sequence → f .price ≡ working d o) (λ f. f .party ≡ o .sequence → o .price ≤ f .price) (fills d rs)
       (λ f h e. let w : f .price ≡ working d o = h e in omega arith) (works-at-of o m)
 
+  -- a fill of a higher response would lie above the last price
+  higher-none-of : (o : Response) → In o rs → top d < working d o → got (o .sequence) (fills d rs) ≡ 0
+  higher-none-of o m h = got-none (o .sequence) (fills d rs) (both (fills d rs) (works-at-of o m) top-price-of)
+    where
+      both : (fs : List Fill) → Every (λ f. f .party ≡ o .sequence → f .price ≡ working d o) fs → Every (λ f. f .price ≤ top d) fs → Every (λ f. f .party ≢ o .sequence) fs
+      both [] a b = tt
+      both (f ∷ fs) a b = (λ e. let w : f .price ≡ working d o = a .0 e in omega (arith, b .0), both fs (a .1) (b .1))
+
   share-of : (o : Response) → In o rs → o .customer ≡ false
       → Near (sum (gots (fills d rs) (othersAt d rs (working d o)))) (sum (sizes (othersAt d rs (working d o)))) (o .size) (got (o .sequence) (fills d rs))
   share-of o m c =
@@ -194,7 +230,7 @@ module _ (d : Deal) (rs : List Response) (s : Fit d rs) where
   covered-of o m c h =
       let b : got 0 (flat (levels d rs)) ≤ max (guarantee d rs) (gotBelow 0 (working d o) (flat (levels d rs))) =
       omega (arith, run-covered d rs s o m c _ _ _ (levels d rs) the-run (omega arith) (rw (got-levels o m) at h)) in
-      omega (arith, got-contra-levels, below-all (working d o))
+      omega (arith, got-contra-levels, below-levels (working d o))
 
   guaranteed-of : (o : Response) → In o rs → o .customer ≡ false → entry d ≤ working d o → soldAbove (working d o) (fills d rs) ≡ 0 → 0 < got (o .sequence) (fills d rs)
       → guarantee d rs ≤ got 0 (fills d rs)
@@ -244,12 +280,31 @@ module _ (d : Deal) (b : Board) (s : Sound d b) where
       each [] f = tt
       each (o ∷ os) f = (aResponse o (f o (inl refl)) refl, each os (λ x m. f x (inr m)))
 
+  at-market : MarketAt d b (marketPrice d (offers b))
+  unfolding inSequence
+  at-market =
+      record {
+        matched = λ m q k. price-matched d (offers b) fit m (k .response) (into (k .response) (k .live)) (below (k .response) (k .live)) (from-lowest q k) ∙ k .works;
+        midpoint = λ m e. price-midpoint d (offers b) fit m (ap length (none e));
+        lower = λ m q k. price-lower d (offers b) fit m (k .response) (into (k .response) (k .live)) (from-lowest q k) ∙ ap (λ (p : ℕ). min p (workingStop d)) (k .works);
+        alone = λ m e. price-alone d (offers b) fit m (none e);
+      }
+    where
+      below : (r : Response) → In r (liveOf b) → working d r ≤ d .initiating
+      below r m = omega (arith, s .bound-below, all-in (λ x. x .price ≤ d .initiating) (liveOf b) r (s .prices) m)
+
+      from-lowest : (q : ℕ) (k : Lowest d b q) → Every (λ x. working d (k .response) ≤ working d x) (offers b)
+      from-lowest q k = subst (λ (p : ℕ). Every (λ x. p ≤ working d x) (offers b)) (sym (k .works)) (all-sequence (λ x. q ≤ working d x) (liveOf b) (k .least))
+
+      none : liveOf b ≡ [] → offers b ≡ []
+      none e = ap inSequence e
+
   level : (l : Level) → In l (levels d (offers b)) → ByLevel d b (fills d (offers b)) l
   level l n =
       record {
-        arrives = omega (arith, run-left d (offers b) fit _ _ _ (levels d (offers b)) (the-run d (offers b) fit) l n);
-        holds = omega (arith, run-held d (offers b) fit _ _ _ (levels d (offers b)) (the-run d (offers b) fit) l n);
-        trades = traded-is l;
+        arrives = rw (walked-levels d (offers b) fit) (omega (arith, run-left d (offers b) fit _ _ _ (levels d (offers b)) (the-run d (offers b) fit) l n));
+        holds = omega (arith, run-held d (offers b) fit _ _ _ (levels d (offers b)) (the-run d (offers b) fit) l n, below-levels d (offers b) fit (l .price));
+        trades = rw (walked-levels d (offers b) fit) (run-sold d (offers b) fit _ _ _ (levels d (offers b)) (the-run d (offers b) fit) l n ∙ traded-is l);
         filled = λ r m. filled-of d (offers b) fit l n r (into r m);
         short = λ r m. short-of d (offers b) fit l n r (into r m);
         has-guarantee = λ r m. has-guarantee-of d (offers b) fit l n r (into r m);
@@ -264,10 +319,16 @@ module _ (d : Deal) (b : Board) (s : Sound d b) where
             (all-fill (λ f. Known d b (f .party)) (d .market) (marketPrice d (offers b)) (marketTakes d (offers b)) (λ h. theMarket refl (omega arith)))
             (run-who d (offers b) fit (Known d b) (theContra refl) known _ _ _ (levels d (offers b)) (the-run d (offers b) fit));
         once = λ k p. rw (all-of d (offers b) fit) (once-all d (offers b) fit k p);
+        market-trades = market-trades-of d (offers b) fit;
+        market-price = market-price-of d (offers b) fit (MarketAt d b) at-market;
+        walked-prices = rw (walked-levels d (offers b) fit) (run-prices d (offers b) fit _ _ _ (levels d (offers b)) (the-run d (offers b) fit));
         market-fits = market-of d (offers b) fit;
         response-fits = λ r m. rw (got-levels d (offers b) fit r (into r m)) (run-fits d (offers b) fit r (into r m) _ _ _ (levels d (offers b)) (the-run d (offers b) fit));
         own-limit = λ r m. own-limit-of d (offers b) fit r (into r m);
         works-at = λ r m. works-at-of d (offers b) fit r (into r m);
+        contra-limit = contra-limit-of d (offers b) fit;
+        top-price = top-price-of d (offers b) fit;
+        higher-none = λ r m. higher-none-of d (offers b) fit r (into r m);
         priority = λ r m. priority-of d (offers b) fit r (into r m);
         customers-first = λ r k m n c j q t.
             got-levels d (offers b) fit k (into k n)

@@ -15,7 +15,7 @@ use Rattle.share.proofs.ShareLaws.{turn-sum, turn-length}
 use Rattle.trade.specs.declared.Deal.{Deal}
 use Rattle.trade.specs.Trade.{isCustomer, Level, customers, shared, given, first, contra, levelFills, flat, working, offersAt}
 use Rattle.trade.specs.Demands.{In, Distinct, got, gotAt}
-use Rattle.trade.proofs.Lists.{all-map, all-in, all-fill, in-keep, distinct-keep, got-none, got-fill, tally-append, tally-none, tally-le, absent-by, total-by}
+use Rattle.trade.proofs.Lists.{all-map, all-in, all-fill, in-keep, distinct-keep, got-none, got-fill, tally-append, tally-none, tally-le, tally-and, absent-by, total-by}
 use Rattle.board.specs.Theorems.{RisingFrom}
 use Rattle.board.proofs.SequenceLaws.{rising-from, rising-filter}
 use Rattle.trade.proofs.Levels.{byCustomers, customer-is, all-level, got-contra, level-served}
@@ -110,18 +110,8 @@ gotAt-append : (p : ℕ) (fs gs : List Fill) → gotAt 0 p (fs ++ gs) ≡ gotAt 
 gotAt-append p fs gs = tally-append (λ f. eqb (f .party) 0 && eqb (f .price) p) fs gs
 
 -- at another price it gets nothing
-pub gotAt-none : (p : ℕ) (fs : List Fill) → Every (λ f. (eqb (f .party) 0 && eqb (f .price) p) ≡ false) fs → gotAt 0 p fs ≡ 0
+gotAt-none : (p : ℕ) (fs : List Fill) → Every (λ f. (eqb (f .party) 0 && eqb (f .price) p) ≡ false) fs → gotAt 0 p fs ≡ 0
 gotAt-none p fs a = tally-none (λ f. eqb (f .party) 0 && eqb (f .price) p) fs a
-
--- no more than it gets in all
-gotAt-le : (p : ℕ) (fs : List Fill) → gotAt 0 p fs ≤ got 0 fs
-gotAt-le p [] = omega arith
-gotAt-le p (f ∷ fs) = go (eqb (f .party) 0) (eqb (f .price) p) (gotAt-le p fs)
-  where
-    go : (a b : Bool) → gotAt 0 p fs ≤ got 0 fs → cond (a && b) (f .quantity) 0 + gotAt 0 p fs ≤ cond a (f .quantity) 0 + got 0 fs
-    go true true h = omega arith
-    go true false h = omega arith
-    go false b h = omega arith
 
 -- where it gets anything, something was left after Customers
 contra-after : (l : Level) → 0 < contra l → sum (sizes (customers l)) ≤ l .left
@@ -151,7 +141,7 @@ module _ (d : Deal) (rs : List Response) (s : Fit d rs) (k : Response) (n : In k
       go true w ih =
           let v : working d k ≡ l .price = eqb-true (working d k) (l .price) w in
           let c : 0 < contra l =
-          omega (arith, gotAt-append (working d k) (levelFills l) (flat ls), later v, gotAt-le (working d k) (levelFills l), got-contra l (no-contra d rs s from left held l (run .0))) in
+          omega (arith, gotAt-append (working d k) (levelFills l) (flat ls), later v, tally-and (λ f. eqb (f .party) 0) (λ f. eqb (f .price) (working d k)) (levelFills l), got-contra l (no-contra d rs s from left held l (run .0))) in
           omega (
             arith,
             got-append (k .sequence) (levelFills l) (flat ls),

@@ -46,14 +46,21 @@ top-above d rs s = go (eqb (d .mode) 1)
     go true = omega arith
     go false = omega arith
 
-pub entry-below : (d : Deal) (rs : List Response) → Fit d rs → entry d ≤ top d
-unfolding entry top
-entry-below d rs s = go (eqb (d .mode) 2) (eqb (d .mode) 1)
+pub stop-top : (d : Deal) (rs : List Response) → Fit d rs → workingStop d ≤ top d
+unfolding top
+stop-top d rs s = go (eqb (d .mode) 1)
   where
-    go : (b c : Bool) → cond b 0 (workingStop d) ≤ cond c (workingStop d) (d .initiating)
-    go true c = omega arith
-    go false true = omega arith
-    go false false = omega arith
+    go : (b : Bool) → workingStop d ≤ cond b (workingStop d) (d .initiating)
+    go true = omega arith
+    go false = omega arith
+
+pub entry-below : (d : Deal) (rs : List Response) → Fit d rs → entry d ≤ top d
+unfolding entry
+entry-below d rs s = go (eqb (d .mode) 2)
+  where
+    go : (b : Bool) → cond b 0 (workingStop d) ≤ top d
+    go true = omega arith
+    go false = stop-top d rs s
 
 -- ---- the next price
 
@@ -94,6 +101,15 @@ module _ (d : Deal) (from : ℕ) where
       let c : next d from (x ∷ xs) ≤ working d x = rw (le-leb from (working d x) f) (omega arith) in
       subst (λ y. next d from (x ∷ xs) ≤ working d y) (sym e) c
   next-least (x ∷ xs) o (inr m) h = omega (arith, next-least xs o m h)
+
+  pub next-high : (q : ℕ) → q ≤ top d → (os : List Response) → Every (λ o. q ≤ working d o) os → q ≤ next d from os
+  unfolding next
+  next-high q t [] a = t
+  next-high q t (o ∷ os) a = omega (arith, go (leb from (working d o)), next-high q t os (a .1))
+    where
+      go : (b : Bool) → q ≤ cond b (working d o) (top d)
+      go true = a .0
+      go false = t
 
   -- a price below the last is a response's
   pub next-some : (os : List Response) → next d from os < top d → 0 < length (filter (λ o. eqb (working d o) (next d from os)) os)

@@ -1,9 +1,9 @@
 -- Demand 3: what the fills of an ended auction are, clause by clause. `Sound` is what the auction proves of itself.
 use mathlib.Core.Path.{_≡_}
-use mathlib.Core.Bool.{Bool, true, false, cond, _&&_}
-use mathlib.Core.List.{List, [], _∷_}
+use mathlib.Core.Bool.{Bool, true, false, cond, not, _&&_}
+use mathlib.Core.List.{List, [], _∷_, _++_}
 use mathlib.Core.Logic.{_⊎_, _≢_}
-use Prim.Native.Nat.{ℕ, _+_, _≤_, _<_, min, max}
+use Prim.Native.Nat.{ℕ, _+_, _/_, _≤_, _<_, min, max}
 use lib.Dec.{ltb, eqb}
 use lib.ListN.{length}
 use Rattle.board.specs.declared.Response.{Response}
@@ -14,7 +14,7 @@ use Rattle.board.specs.Theorems.{Good}
 use Rattle.share.specs.Share.{Near}
 use Rattle.share.specs.Fills.{Fill, sizes}
 use Rattle.trade.specs.declared.Deal.{Deal}
-use Rattle.trade.specs.Trade.{offers, isOther, Level, others, shared, levelFills, total, flat, working, entry, guarantee, offersAt, marketTakes, levels, fills}
+use Rattle.trade.specs.Trade.{offers, isOther, Level, others, shared, total, working, workingStop, top, entry, guarantee, offersAt, marketTakes, marketFill, levels, fills}
 
 -- ---- words
 
@@ -65,6 +65,13 @@ soldAbove p fs = tally (λ f. ltb p (f .price)) fs
 abbrev pub times : ℕ → ℕ → List Fill → ℕ
 times k p fs = length (filter (λ f. eqb (f .party) k && eqb (f .price) p) fs)
 
+-- the market order's fills, and those of the walk: all but the market order's
+abbrev pub isMarket : Deal → Fill → Bool
+isMarket d f = ltb 0 (d .selling) && eqb (f .party) (d .market)
+
+abbrev pub walked : Deal → List Fill → List Fill
+walked d fs = filter (λ f. not (isMarket d f)) fs
+
 -- the responses at a price that are no Customer's
 abbrev pub othersAt : Deal → List Response → ℕ → List Response
 othersAt d rs p = filter isOther (offersAt d rs p)
@@ -79,6 +86,10 @@ pub record Sound (d : Deal) (b : Board) : Type 0 where
   -- the bound has not passed the initiating price, and neither does the stop or limit
   pub bound-below : d .bound ≤ d .initiating
   pub stop-below : d .stop ≤ d .initiating
+  -- nor does any response
+  pub prices : Every (λ r. r .price ≤ d .initiating) (liveOf b)
+  -- the mode is one of the three
+  pub mode : (1 ≤ d .mode) × (d .mode ≤ 3)
   -- the live responses have sequences of their own, none of them the Contra Order's 0
   pub parties : Every (λ r. 0 < r .sequence) (liveOf b)
   pub distinct : Distinct (liveOf b)
@@ -98,13 +109,29 @@ pub data Known (d : Deal) (b : Board) (k : ℕ) : Type 0 where
   theMarket : k ≡ d .market → 0 < d .selling → Known d b k
   aResponse : (r : Response) → In r (liveOf b) → r .sequence ≡ k → Known d b k
 
+-- p is the lowest working price
+pub record Lowest (d : Deal) (b : Board) (p : ℕ) : Type 0 where
+  pub response : Response
+  pub live : In response (liveOf b)
+  pub works : working d response ≡ p
+  pub least : Every (λ r. p ≤ working d r) (liveOf b)
+
+-- the market order trades at p
+pub record MarketAt (d : Deal) (b : Board) (p : ℕ) : Type 0 where
+  -- in mode 2 at the lowest working price, and without responses at the midpoint of initiating price and bound, half cents up
+  pub matched : d .mode ≡ 2 → (q : ℕ) → Lowest d b q → p ≡ q
+  pub midpoint : d .mode ≡ 2 → liveOf b ≡ [] → p ≡ (d .initiating + d .bound + 1) / 2
+  -- in modes 1 and 3 at the lower of that, if there is a response, and the working stop or limit
+  pub lower : d .mode ≢ 2 → (q : ℕ) → Lowest d b q → p ≡ min q (workingStop d)
+  pub alone : d .mode ≢ 2 → liveOf b ≡ [] → p ≡ workingStop d
+
 -- a price of the walk. R, or `shared l`, is what Customers and the Contra Order's first part leave of the size left on arriving there
 pub record ByLevel (d : Deal) (b : Board) (fs : List Fill) (l : Level) : Type 0 where
-  -- what is left on arriving is what the market order and lower prices leave of the size; what the Contra Order holds is what it got there
-  pub arrives : l .left + (marketTakes d (offers b) + soldBelow (l .price) (flat (levels d (offers b)))) ≡ d .size
-  pub holds : l .held ≡ gotBelow 0 (l .price) (flat (levels d (offers b)))
-  -- what trades: all that is left where the price is final, else the responses there and what the Contra Order wants, as far as the size goes
-  pub trades : total (levelFills l) ≡ cond (l .final) (l .left) (min (l .left) (sizeHere l + l .want))
+  -- what is left on arriving is what the market order and lower prices leave of the size; what the Contra Order holds is what it got at those
+  pub arrives : l .left + (marketTakes d (offers b) + soldBelow (l .price) (walked d fs)) ≡ d .size
+  pub holds : l .held ≡ gotBelow 0 (l .price) fs
+  -- what trades there: all that is left where the price is final, else the responses there and what the Contra Order wants, as far as the size goes
+  pub trades : soldAt (l .price) (walked d fs) ≡ cond (l .final) (l .left) (min (l .left) (sizeHere l + l .want))
   -- the others are all filled where R covers them, and otherwise each gets the whole part of R * s / T, or one more
   pub filled : (r : Response) → In r (liveOf b) → r .customer ≡ false → working d r ≡ l .price → sum (sizes (others l)) ≤ shared l → got (r .sequence) fs ≡ r .size
   pub short : (r : Response) → In r (liveOf b) → r .customer ≡ false → working d r ≡ l .price → shared l < sum (sizes (others l))
@@ -122,12 +149,22 @@ pub record Demand3 (d : Deal) (b : Board) (fs : List Fill) : Type 0 where
   -- nobody else trades, and each party at most once at a price
   pub nobody-else : Every (λ f. Known d b (f .party)) fs
   pub once : (k p : ℕ) → times k p fs ≤ 1
+  -- the market order trades first, and once, as far as sizes go; then come the fills of the walk
+  pub market-trades : fs ≡ marketFill d (offers b) ++ walked d fs
+  pub market-price : Every (λ f. isMarket d f ≡ true → MarketAt d b (f .price)) fs
+  -- each price of the walk is one where a response works, or the last price
+  pub walked-prices : Every (λ f. (0 < length (offersAt d (offers b) (f .price))) ⊎ (f .price ≡ top d)) (walked d fs)
   -- no market order and no response trades more than its size
   pub market-fits : 0 < d .selling → got (d .market) fs ≤ d .selling
   pub response-fits : (r : Response) → In r (liveOf b) → got (r .sequence) fs ≤ r .size
   -- or beyond its own limit: it trades at its working price alone, which is never below its own
   pub own-limit : (r : Response) → In r (liveOf b) → Every (λ f. f .party ≡ r .sequence → r .price ≤ f .price) fs
   pub works-at : (r : Response) → In r (liveOf b) → Every (λ f. f .party ≡ r .sequence → f .price ≡ working d r) fs
+  -- nor does the Contra Order: it trades from its stop or limit on, and in mode 2 at any price
+  pub contra-limit : Every (λ f. f .party ≡ 0 → entry d ≤ f .price) fs
+  -- nothing trades above the last price, which in mode 1 is the stop, and higher responses get nothing
+  pub top-price : Every (λ f. f .price ≤ top d) fs
+  pub higher-none : (r : Response) → In r (liveOf b) → top d < working d r → got (r .sequence) fs ≡ 0
   -- where anything trades at p, every response with a better working price is filled
   pub priority : (r : Response) → In r (liveOf b) → (p : ℕ) → 0 < soldAt p fs → working d r < p → got (r .sequence) fs ≡ r .size
   -- Customers first: where one of the others or the Contra Order trades at a price, every Customer there is filled

@@ -2,7 +2,7 @@
 use mathlib.Core.Path.{_≡_}
 use mathlib.Core.Bool.{Bool, true, false, cond, not, _&&_}
 use mathlib.Core.List.{List}
-use Prim.Native.Nat.{ℕ, _-_, _*_, _≤_}
+use Prim.Native.Nat.{ℕ, _-_, _*_}
 use lib.Dec.{leb, ltb, eqb}
 use Rattle.board.specs.declared.Response.{Response}
 use Rattle.board.specs.declared.Board.{Board}
@@ -48,7 +48,10 @@ paperPlan d rs p left held A =
 abbrev pub planOf : Level → Plan
 planOf l = record { want = l .want; final = l .final }
 
+-- each price of the walk has document 01's plan
+abbrev pub Planned : Deal → Board → Type 0
+Planned d b = (l : Level) → In l (levels d (offers b)) → planOf l ≡ paperPlan d (offers b) (l .price) (l .left) (l .held) (sizeHere l)
+
 -- the theorem
 abbrev pub Plans : Type 0
-Plans = (d : Deal) (b : Board) → Sound d b → 1 ≤ d .mode → d .mode ≤ 3 → (l : Level) → In l (levels d (offers b))
-    → planOf l ≡ paperPlan d (offers b) (l .price) (l .left) (l .held) (sizeHere l)
+Plans = (d : Deal) (b : Board) → Sound d b → Planned d b
