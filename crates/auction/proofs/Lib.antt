@@ -9,3 +9,4 @@ pub mod ComesFrom
 pub mod MirrorForm
 pub mod Mirrors
 pub mod Figures
+pub mod Settled

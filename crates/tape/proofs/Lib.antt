@@ -4,3 +4,4 @@ pub mod RecordLaws
 pub mod FormLaws
 pub mod RoundTrip
 pub mod TapeBack
+pub mod Settled

@@ -17,3 +17,4 @@ pub mod Plans
 pub mod Teeth
 pub mod Examples
 pub mod Random
+pub mod Settled
