@@ -10,3 +10,4 @@ pub mod MirrorForm
 pub mod Mirrors
 pub mod LentLaws
 pub mod Figures
+pub mod Settled

@@ -8,3 +8,4 @@ pub mod BoardLaws
 pub mod Theorems
 pub mod Facts
 pub mod Examples
+pub mod Settled

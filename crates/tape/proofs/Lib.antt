@@ -5,3 +5,4 @@ pub mod FormLaws
 pub mod RoundTrip
 pub mod TapeBack
 pub mod ReaderLaws
+pub mod Settled

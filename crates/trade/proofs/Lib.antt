@@ -19,3 +19,4 @@ pub mod Plans
 pub mod Teeth
 pub mod Examples
 pub mod Random
+pub mod Settled

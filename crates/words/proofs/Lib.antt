@@ -4,3 +4,4 @@ pub mod BitLaws
 pub mod BitTheorems
 pub mod BitExamples
 mod BitMachine
+pub mod Settled

@@ -1,0 +1,53 @@
+#!/usr/bin/env python3
+"""Every public function of every library crate has its theorem in the crate's proofs/Settled.antt, in the order of src/.
+
+    tests/settled.py
+
+From the project's root. It reads the statements alone, which must cite the function's own contract: `rt check` proves them.
+The last line is 'N passed, M failed'; exit status 1 where one failed.
+"""
+import glob
+import os
+import re
+import sys
+
+
+def public(crate):
+    """What each public function of a crate is called in the contracts: its file's name before it, but for lib.rt."""
+    for path in sorted(glob.glob(crate + "/src/*.rt")):
+        file = os.path.basename(path)[:-3]
+        with open(path) as f:
+            for name in re.findall(r"^\s*pub fn (\w+)", f.read(), re.M):
+                yield name if file == "lib" else file + "." + name
+
+
+def stated(crate):
+    path = crate + "/proofs/Settled.antt"
+    if not os.path.exists(path):
+        return []
+    with open(path) as f:
+        return re.findall(r"^pub \S+ : (Settled .*)$", f.read(), re.M)
+
+
+def main():
+    passed = failed = 0
+    for crate in sorted(glob.glob("crates/*")):
+        if not os.path.exists(crate + "/src/lib.rt"):
+            continue
+        wanted = ["Settled contracts.{0}.ended contracts.{0}.Reads.Asked contracts.{0}.Reads.Learnt".format(f) for f in public(crate)]
+        found = stated(crate)
+        for line in wanted:
+            if line in found:
+                passed += 1
+            else:
+                failed += 1
+                print("{}: no theorem '{}'".format(crate, line))
+        if sorted(found) == sorted(wanted) and found != wanted:
+            failed += 1
+            print(crate + ": not in the order of src/")
+    print("{} passed, {} failed".format(passed, failed))
+    return 1 if failed else 0
+
+
+if __name__ == "__main__":
+    sys.exit(main())
