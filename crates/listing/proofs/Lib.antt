@@ -7,3 +7,4 @@ pub mod LengthLaws
 pub mod ListsLaws
 pub mod Examples
 pub mod Theorems
+pub mod Settled

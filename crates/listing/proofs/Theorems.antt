@@ -11,7 +11,7 @@ use Rattle.listing.specs.declared.Listed.{Listed}
 use Rattle.listing.specs.declared.Listed.the-variants.{Short}
 use Rattle.listing.specs.Run.{Run, refused, ended, runOf}
 use Rattle.listing.specs.Listing.{listingOf, roomOf, answerOf, lengthIn, listedOf, bytesOf}
-use Rattle.listing.specs.Demands.{Allowed, Demands}
+use Rattle.listing.specs.Demands.{Demands}
 use Rattle.listing.proofs.DecimalLaws.{decimal-value}
 use Rattle.listing.proofs.LengthLaws.{listing-fits}
 use Rattle.listing.proofs.Examples.{case-c, case-e, no-bytes}
@@ -36,9 +36,6 @@ stands : (s out : List ℕ) → roomOf ≤ length out → bytesOf s out ≡ list
 unfolding bytesOf
 stands s out h = rw (le-ltb (length out) roomOf h)
 
-settled : (s out : List ℕ) (r q : Listed) (after other : List ℕ) → Allowed s out r after → Allowed s out q other → (r ≡ q) × (after ≡ other)
-settled s out r q after other a b = (a .answer ∙ sym (b .answer), a .bytes ∙ sym (b .bytes))
-
 pub demands : Demands
 demands =
-    record { case-c = case-c; case-e = case-e; no-bytes = no-bytes; fits = listing-fits; within = within; kept = kept; stands = stands; settled = settled; spoken = decimal-value }
+    record { case-c = case-c; case-e = case-e; no-bytes = no-bytes; fits = listing-fits; within = within; kept = kept; stands = stands; spoken = decimal-value }

@@ -6,7 +6,6 @@ use lib.ListN.{length, drop}
 use Rattle.tape.specs.declared.Order.{Order}
 use Rattle.tape.specs.declared.Event.{Event}
 use Rattle.tape.specs.Tape.{tapeOf}
-use Rattle.listing.specs.declared.Listed.{Listed}
 use Rattle.listing.specs.Text.{text, decimal, valueFrom}
 use Rattle.listing.specs.Listing.{listingOf, roomOf, lengthIn, listedOf, bytesOf}
 
@@ -92,11 +91,6 @@ listingE =
 
 -- ---- the theorems
 
--- what the contract of `listing` allows
-pub record Allowed (s out : List ℕ) (r : Listed) (after : List ℕ) : Type 0 where
-  pub answer : r ≡ listedOf s out
-  pub bytes : after ≡ bytesOf s out
-
 pub record Demands : Type 0 where
   -- the listing of document 01, byte for byte; another; and that of no bytes
   pub case-c : listingOf tapeC ≡ listingC
@@ -109,7 +103,5 @@ pub record Demands : Type 0 where
   -- too small a room keeps its bytes; else the listing stands at the start, and every byte past it stays
   pub kept : (s out : List ℕ) → length out < roomOf → bytesOf s out ≡ out
   pub stands : (s out : List ℕ) → roomOf ≤ length out → bytesOf s out ≡ listingOf s ++ drop (length (listingOf s)) out
-  -- two outcomes that the contract allows are equal
-  pub settled : (s out : List ℕ) (r q : Listed) (after other : List ℕ) → Allowed s out r after → Allowed s out q other → (r ≡ q) × (after ≡ other)
   -- a number reads back as it was written
   pub spoken : (n : ℕ) → n < 10 ^ 20 → valueFrom 0 (decimal n) ≡ n

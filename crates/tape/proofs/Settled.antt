@@ -35,3 +35,9 @@ order-at κs a = (tt, λ y z v w p q. (p ∙ sym q, refl))
 
 pub event-at : Settled contracts.event_at.ended contracts.event_at.Reads.Asked contracts.event_at.Reads.Learnt
 event-at κs a = (tt, λ y z v w p q. (p ∙ sym q, refl))
+
+pub tape-order : Settled contracts.reader.tape_order.ended contracts.reader.tape_order.Reads.Asked contracts.reader.tape_order.Reads.Learnt
+tape-order κs a = (tt, λ y z v w p q. (p ∙ sym q, refl))
+
+pub tape-event : Settled contracts.reader.tape_event.ended contracts.reader.tape_event.Reads.Asked contracts.reader.tape_event.Reads.Learnt
+tape-event κs a = (tt, λ y z v w p q. (p ∙ sym q, refl))

@@ -1,0 +1,10 @@
+-- Each public function's contract settles it. What is cited is made from the code's own clauses, so a clause that says less is refused here.
+use mathlib.Core.Path.{refl, sym, _∙_, ap}
+use Rattle.words.specs.Settled.{Settled}
+use Rattle.listing.proofs as contracts
+
+pub length-of : Settled contracts.length_of.ended contracts.length_of.Reads.Asked contracts.length_of.Reads.Learnt
+length-of κs a = (tt, λ y z v w p q. (p ∙ sym q, refl))
+
+pub listing : Settled contracts.listing.ended contracts.listing.Reads.Asked contracts.listing.Reads.Learnt
+listing κs a = (tt, λ y z v w p q. (p .0 ∙ sym (q .0), ap (λ x. (tt, (x, tt))) (p .1 ∙ sym (q .1))))
