@@ -10,11 +10,11 @@ use Rattle.auction.specs.declared.Auction.{Auction}
 use Rattle.auction.specs.declared.Ending.{Ending}
 use Rattle.listing.specs.declared.Listed.{Listed}
 use Rattle.listing.specs.declared.Listed.the-variants.{Short, Ended as Auctioned}
-use Rattle.listing.specs.Text.{Wrote}
 use Rattle.listing.specs.Run.{Said, Run, ended, runOf}
-use Rattle.listing.specs.Listing.{auctionLine, eventLines, endLines, linesOf, listingOf, roomOf, answerOf, listedOf, bytesOf, Lists}
+use Rattle.listing.specs.Listing.{auctionLine, eventLines, endLines, linesOf, listingOf, roomOf, answerOf, listedOf, bytesOf}
 use Rattle.listing.proofs.WroteLaws.{wrote-append}
 use Rattle.listing.proofs.LengthLaws.{listing-fits}
+use Rattle.listing.specs.Code.{Lists, Wrote}
 
 pub wrote-lists : {xs ys : List ℕ} {n : ℕ} (run : Run) → Wrote xs 0 (linesOf run) n ys → Lists run xs (answerOf n run) ys
 wrote-lists {xs} {ys} {n} run a =
