@@ -10,7 +10,8 @@ use borrow.Author.Tests.{ne-eqb, eqb-true}
 use lib.Dec.{eqb}
 use lib.ListN.{length, set, take, drop, length-append, length-drop, length-set, drop-of-length-le}
 use lib.Seq.{drop-cons, getD-set-same, drop-set-lt, append-snoc, take-all}
-use Rattle.listing.specs.Text.{digit, digits, decimal, valueFrom}
+use Rattle.listing.specs.Text.{digit, digits, decimal}
+use Rattle.listing.specs.Demands.{valueFrom}
 
 pub digits-none : (k : ℕ) → digits k 0 ≡ []
 unfolding digits

@@ -8,29 +8,32 @@ use lib.ListN.{length}
 use Rattle.words.proofs.ByteLaws.{sets-front}
 use Rattle.auction.specs.declared.Auction.{Auction}
 use Rattle.auction.specs.declared.Ending.{Ending}
+use Rattle.auction.specs.declared.Stepped.{Stepped}
+use Rattle.auction.specs.Step.{closeOf}
 use Rattle.listing.specs.declared.Listed.{Listed}
 use Rattle.listing.specs.declared.Listed.the-variants.{Short, Ended as Auctioned}
-use Rattle.listing.specs.Text.{Wrote}
-use Rattle.listing.specs.Run.{Said, Run, ended, runOf}
-use Rattle.listing.specs.Listing.{auctionLine, eventLines, endLines, linesOf, listingOf, roomOf, answerOf, listedOf, bytesOf, Lists}
+use Rattle.listing.specs.Run.{Said, Run, ended, closed, runOf}
+use Rattle.listing.specs.Listing.{auctionLine, eventLines, endLines, linesOf, listingOf, roomOf, answerOf, listedOf, bytesOf}
 use Rattle.listing.proofs.WroteLaws.{wrote-append}
 use Rattle.listing.proofs.LengthLaws.{listing-fits}
+use Rattle.listing.specs.Code.{Lists, Wrote}
 
 pub wrote-lists : {xs ys : List ℕ} {n : ℕ} (run : Run) → Wrote xs 0 (linesOf run) n ys → Lists run xs (answerOf n run) ys
 wrote-lists {xs} {ys} {n} run a =
     let e : n ≡ length (linesOf run) = omega (arith, a .place) in
     record { answer = ap (λ (k : ℕ). answerOf k run) e; bytes = a .bytes }
 
-pub lists-same : {xs ys : List ℕ} {r : Listed} {run other : Run} → Lists run xs r ys → run ≡ other → Lists other xs r ys
-lists-same {xs} {ys} {r} l e = subst (λ u. Lists u xs r ys) e l
+pub lists-same : {xs ys : List ℕ} {r : Listed} {other : Run} (run : Run) → Lists run xs r ys → run ≡ other → Lists other xs r ys
+lists-same {xs} {ys} {r} run l e = subst (λ u. Lists u xs r ys) e l
 
--- an auction: its opening, its records, and its end
-pub auction-lists : {ws xs ys zs : List ℕ} {u v n : ℕ} {a : Auction} {es : List Said} {last : Auction} → Wrote ws 0 (auctionLine a) u xs → Wrote xs u (eventLines es) v ys → Wrote ys v (endLines last) n zs
-    → (g : Ending) (b : Auction) → g ≡ last .ending → last ≡ b → Lists (ended a es b) ws (Auctioned g n) zs
-auction-lists {ws} {xs} {ys} {zs} {u} {v} {n} {a} {es} {last} p q r g b eg el =
-    subst (λ h. Lists (ended a es b) ws (Auctioned h n) zs) (sym eg)
-    (subst (λ c. Lists (ended a es c) ws (Auctioned (last .ending) n) zs) el
-    (wrote-lists (ended a es last) (wrote-append p (wrote-append q r))))
+-- an auction: its opening, its records, and the end of what closing by hand gave
+pub auction-lists : {ws xs ys zs : List ℕ} {u v n : ℕ} {a : Auction} {es : List Said} (g : Ending) (t : Stepped) (b m : Auction) → Wrote ws 0 (auctionLine a) u xs → Wrote xs u (eventLines es) v ys
+    → Wrote ys v (endLines (t .auction)) n zs → g ≡ t .auction .ending → t ≡ closeOf b → b ≡ m → Lists (ended a es (closed m)) ws (Auctioned g n) zs
+auction-lists {ws} {xs} {ys} {zs} {u} {v} {n} {a} {es} g t b m p q r eg et em =
+    let last : t .auction ≡ closed m = ap (λ s. s .auction) et ∙ ap closed em in
+    subst (λ h. Lists (ended a es (closed m)) ws (Auctioned h n) zs) (sym eg)
+    (subst (λ c. Lists (ended a es c) ws (Auctioned (t .auction .ending) n) zs) last
+    (wrote-lists (ended a es (t .auction)) (wrote-append p (wrote-append q r))))
 
 -- ---- the whole listing
 

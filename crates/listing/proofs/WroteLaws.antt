@@ -7,7 +7,7 @@ use native.Mathlib.Numerals.{add-one}
 use native.Mathlib.Omega.{arith}
 use lib.ListN.{length, set, getD, take, length-append}
 use lib.Seq.{sets, take-suc, length-take-le}
-use Rattle.listing.specs.Text.{Wrote}
+use Rattle.listing.specs.Code.{Wrote}
 
 -- a chain of writers: holds with room or without
 pub sets-append : (xs : List ℕ) (at : ℕ) (s t : List ℕ) → sets xs at (s ++ t) ≡ sets (sets xs at s) (at + length s) t

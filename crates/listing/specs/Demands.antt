@@ -1,12 +1,12 @@
 -- What is promised of the listing, beyond the contract of `listing`.
 use mathlib.Core.Path.{_≡_}
 use mathlib.Core.List.{List, [], _∷_, _++_}
-use Prim.Native.Nat.{ℕ, _≤_, _<_, _^_}
+use Prim.Native.Nat.{ℕ, _+_, _-_, _*_, _^_, _≤_, _<_}
 use lib.ListN.{length, drop}
 use Rattle.tape.specs.declared.Order.{Order}
 use Rattle.tape.specs.declared.Event.{Event}
 use Rattle.tape.specs.Tape.{tapeOf}
-use Rattle.listing.specs.Text.{text, decimal, valueFrom}
+use Rattle.listing.specs.Text.{text, decimal}
 use Rattle.listing.specs.Listing.{listingOf, roomOf, lengthIn, listedOf, bytesOf}
 
 -- ---- the example of document 01 (case c): an order, a response, and the same record again
@@ -90,6 +90,11 @@ listingE =
     ++ text "TOTAL 10\n"))))))
 
 -- ---- the theorems
+
+-- the number that decimal digits say, after those that say m
+abbrev pub valueFrom : ℕ → List ℕ → ℕ
+valueFrom m [] = m
+valueFrom m (d ∷ ds) = valueFrom (m * 10 + (d - 48)) ds
 
 pub record Demands : Type 0 where
   -- the listing of document 01, byte for byte; another; and that of no bytes

@@ -2,4 +2,5 @@
 pub mod Text
 pub mod Run
 pub mod Listing
+pub mod Code
 pub mod Demands

@@ -1,16 +1,12 @@
 -- The runner's listing (document 01): from a tape's bytes to the listing's bytes.
-use mathlib.Core.Path.{_≡_}
 use mathlib.Core.Bool.{Bool, cond}
 use mathlib.Core.List.{List, [], _∷_, _++_}
-use Prim.Native.Nat.{ℕ, zero, suc}
+use Prim.Native.Nat.{ℕ}
 use Prim.Native.String.{String}
 use lib.Dec.{eqb, ltb}
-use lib.ListN.{length, getD, drop}
-use lib.Seq.{sets}
+use lib.ListN.{length, drop}
 use Rattle.share.specs.Fills.{Fill}
 use Rattle.trade.specs.Trade.{total}
-use Rattle.trade.specs.declared.Filled.{Filled}
-use Rattle.trade.specs.declared.Filled.the-variants.{Count, Refused as NoFills}
 use Rattle.auction.specs.declared.Auction.{Auction}
 use Rattle.auction.specs.declared.Range.{Range}
 use Rattle.auction.specs.declared.Ending.{Ending}
@@ -70,9 +66,6 @@ endLine a = endText (a .ending) ++ rangeText (rangeOf a)
 unfoldable pub partyText : ℕ → List ℕ
 partyText party = cond (eqb party 0) (text "FILL contra") (field "FILL " party)
 
-abbrev pub fill : ℕ → ℕ → ℕ → Fill
-fill party price quantity = record { party = party; price = price; quantity = quantity }
-
 -- party, price, quantity
 unfoldable pub fillLine : Fill → List ℕ
 fillLine f = partyText (f .party) ++ (field " " (f .price) ++ (field " " (f .quantity) ++ newline))
@@ -101,17 +94,6 @@ linesOf (ended first said last) = auctionLine first ++ (eventLines said ++ endLi
 unfoldable pub listingOf : List ℕ → List ℕ
 listingOf s = linesOf (runOf s)
 
--- ---- fills as the writer of fills leaves them
-
--- n fills, by their words
-unfoldable pub fillsIn : ℕ → List ℕ → List Fill
-fillsIn zero ws = []
-fillsIn (suc n) ws = fill (getD ws 0 0) (getD ws 1 0) (getD ws 2 0) ∷ fillsIn n (drop 3 ws)
-
-abbrev pub countIn : Filled → ℕ
-countIn (Count n) = n
-countIn (NoFills n) = 0
-
 -- ---- what `listing` answers, and the lent bytes after it
 
 -- the room that every listing fits
@@ -135,8 +117,3 @@ listedOf s out = cond (ltb (length out) roomOf) Short (answerOf (length (listing
 -- the listing at the start, every byte past it as it was; nothing changes where the room is too small
 unfoldable pub bytesOf : List ℕ → List ℕ → List ℕ
 bytesOf s out = cond (ltb (length out) roomOf) out (listingOf s ++ drop (length (listingOf s)) out)
-
--- what the writer of a run's lines says: from xs it wrote them at the start, and answered r; ys is what is there then
-pub record Lists (run : Run) (xs : List ℕ) (r : Listed) (ys : List ℕ) : Type 0 where
-  pub answer : r ≡ answerOf (length (linesOf run)) run
-  pub bytes : ys ≡ sets xs 0 (linesOf run)

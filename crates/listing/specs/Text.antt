@@ -1,13 +1,10 @@
 -- Text in bytes: words, and numbers in plain decimal.
-use mathlib.Core.Path.{_≡_}
 use mathlib.Core.Bool.{cond}
 use mathlib.Core.List.{List, [], _∷_, _++_}
-use Prim.Native.Nat.{ℕ, zero, suc, _+_, _-_, _*_, _/_, _%_}
+use Prim.Native.Nat.{ℕ, zero, suc, _+_, _/_, _%_}
 use Prim.Native.Char.{code}
 use Prim.Native.String.{String, len, charAt}
 use lib.Dec.{eqb}
-use lib.ListN.{length}
-use lib.Seq.{sets}
 
 -- n bytes of a text, from i on
 abbrev pub bytesFrom : String → ℕ → ℕ → List ℕ
@@ -32,14 +29,3 @@ digits (suc k) n = cond (eqb n 0) [] (digits k (n / 10) ++ (digit n ∷ []))
 -- plain decimal: 0 has a digit too; a number of 64 bits has at most 20
 unfoldable pub decimal : ℕ → List ℕ
 decimal n = digits 19 (n / 10) ++ (digit n ∷ [])
-
--- the number that decimal digits say, after those that say m
-abbrev pub valueFrom : ℕ → List ℕ → ℕ
-valueFrom m [] = m
-valueFrom m (d ∷ ds) = valueFrom (m * 10 + (d - 48)) ds
-
--- ---- what a writer says: from xs, at place `at`, it wrote the bytes t; ys is what is there then, and `next` the place after
-
-pub record Wrote (xs : List ℕ) (at : ℕ) (t : List ℕ) (next : ℕ) (ys : List ℕ) : Type 0 where
-  pub bytes : ys ≡ sets xs at t
-  pub place : next ≡ at + length t

@@ -2,9 +2,9 @@
 ghost use Prim.Native.Nat.{_+_, _≤_};
 ghost use lib.ListN.{length};
 ghost use Rattle.auction.specs.Fills.{rangeOf};
-ghost use Rattle.listing.specs.Text.{Wrote};
 ghost use Rattle.listing.specs.Run.{said};
-ghost use Rattle.listing.specs.Listing.{refusedLine, rangeText, sideText, auctionLine, answerText, eventLine, endText, endLine, partyText, fill, fillLine, totalLine};
+ghost use Rattle.listing.specs.Listing.{refusedLine, rangeText, sideText, auctionLine, answerText, eventLine, endText, endLine, partyText, fillLine, totalLine};
+ghost use Rattle.listing.specs.Code.{Wrote, fill};
 use crate::text::put_field;
 use crate::text::put_text;
 use crate::text::put_word;

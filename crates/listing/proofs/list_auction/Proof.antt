@@ -3,6 +3,7 @@ use native.Mathlib.Omega.{arith}
 use denote.Ref.{now}
 use lib.ListN.{drop}
 use Rattle.tape.specs.Tape.{eventPlace}
+use Rattle.auction.specs.declared.Auction.{Auction}
 use Rattle.auction.specs.declared.Stepped.{Stepped}
 use Rattle.auction.specs.Fills.{hasEnded}
 use Rattle.listing.specs.Run.{heardAll, closed}
@@ -36,8 +37,9 @@ returns : tie.Need-returns
 returns c =
     let a = c .before .before .before .before .before .before .before .before .before .before .before .before .before .before .before .before .before .args in
     let h = c .before .before .before .before .before .before .before .before .before .put-events in
-    let last = ap (λ (s : Stepped). s .auction) (c .before .before .before .before .before .before .close .ensures) ∙ ap closed (h .ensures .1 .0) in
-    auction-lists (c .before .before .before .before .before .before .before .before .before .before .before .before .before .put-auction .ensures .0) (h .ensures .0) (c .before .before .before .put-results .ensures) (c .ending-of .result) (closed (heardAll (a .events) (drop (eventPlace (a .at) 0) (now (a .tape))) (a .a))) (c .ending-of .ensures) last
+    let k = c .before .before .before .before .before .before .close in
+    let m : Auction = heardAll (a .events) (drop (eventPlace (a .at) 0) (now (a .tape))) (a .a) in
+    auction-lists (c .ending-of .result) (k .result) (h .result .auction) m (c .before .before .before .before .before .before .before .before .before .before .before .before .before .put-auction .ensures .0) (h .ensures .0) (c .before .before .before .put-results .ensures) (c .ending-of .ensures) (k .ensures) (h .ensures .1 .0)
 
 pub list-auction-spec : {M : Type 1} → statement M
 list-auction-spec =

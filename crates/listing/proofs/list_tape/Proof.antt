@@ -1,8 +1,9 @@
+use Rattle.tape.specs.declared.ReadOrder.the-variants.{Order}
 use mathlib.Core.Path.{sym, ap, _∙_}
 use denote.Ref.{now}
 use lib.ListN.{drop}
 use Rattle.tape.specs.Tape.{eventPlace}
-use Rattle.listing.specs.Run.{runOrder}
+use Rattle.listing.specs.Run.{refused, runOrder}
 use Rattle.listing.proofs.ListsLaws.{lists-same}
 use borrow.Author.Needs.{needs}
 use Rattle.listing.proofs.list_tape.Statement.{statement}
@@ -29,7 +30,7 @@ same-length c = search needs
 returns : tie.Need-returns
 returns c =
     let a = c .before .before .before .before .before .before .before .before .before .before .args in
-    lists-same (c .before .before .list-order .ensures) (ap (runOrder (a .events) (drop (eventPlace (a .at) 0) (now (a .tape)))) (sym (c .before .before .before .before .before .o .given .1) ∙ c .before .before .before .before .before .before .before .order-at .ensures))
+    lists-same (runOrder (a .events) (drop (eventPlace (a .at) 0) (now (a .tape))) (Order (c .before .before .before .before .before .o .given .0 .0))) (c .before .before .list-order .ensures) (ap (runOrder (a .events) (drop (eventPlace (a .at) 0) (now (a .tape)))) (sym (c .before .before .before .before .before .o .given .1) ∙ c .before .before .before .before .before .before .before .order-at .ensures))
 
 same-length-2 : tie.Need-same-length-2
 same-length-2 c = search needs
@@ -37,7 +38,7 @@ same-length-2 c = search needs
 returns-2 : tie.Need-returns-2
 returns-2 c =
     let a = c .before .before .before .before .before .before .before .before .before .before .args in
-    lists-same (c .before .before .list-refused .ensures) (ap (runOrder (a .events) (drop (eventPlace (a .at) 0) (now (a .tape)))) (sym (c .before .before .before .before .before .number .given .1) ∙ c .before .before .before .before .before .before .before .order-at .ensures))
+    lists-same (refused (c .before .before .before .before .before .number .given .0 .0)) (c .before .before .list-refused .ensures) (ap (runOrder (a .events) (drop (eventPlace (a .at) 0) (now (a .tape)))) (sym (c .before .before .before .before .before .number .given .1) ∙ c .before .before .before .before .before .before .before .order-at .ensures))
 
 pub list-tape-spec : {M : Type 1} → statement M
 list-tape-spec =

@@ -1,6 +1,7 @@
+use Rattle.tape.specs.declared.Opened.the-variants.{Tape}
 use mathlib.Core.Path.{sym, ap, _∙_}
 use denote.Ref.{now}
-use Rattle.listing.specs.Run.{runTape, runOf}
+use Rattle.listing.specs.Run.{refused, runTape, runOf}
 use Rattle.listing.proofs.RunLaws.{tape-fits}
 use Rattle.listing.proofs.ListsLaws.{lists-same, too-small, lists-whole}
 use borrow.Author.Needs.{needs}
@@ -41,7 +42,7 @@ returns-2 : tie.Need-returns-2
 unfolding runOf
 returns-2 c =
     let a = c .before .before .before .before .before .before .before .before .before .before .before .before .before .args in
-    lists-whole (now (a .tape)) (now (a .out)) (c .before .before .before .before .before .before .before .before .before .before .if1 .left) (lists-same (c .before .before .list-tape .ensures) (ap (runTape (now (a .tape))) (sym (c .before .before .before .before .before .before .before .t .given .1) ∙ c .before .before .before .before .before .before .before .before .before .open-tape .ensures)))
+    lists-whole (now (a .tape)) (now (a .out)) (c .before .before .before .before .before .before .before .before .before .before .if1 .left) (lists-same (runTape (now (a .tape)) (Tape (c .before .before .before .before .before .before .before .t .given .0 .0))) (c .before .before .list-tape .ensures) (ap (runTape (now (a .tape))) (sym (c .before .before .before .before .before .before .before .t .given .1) ∙ c .before .before .before .before .before .before .before .before .before .open-tape .ensures)))
 
 same-length-2 : tie.Need-same-length-2
 same-length-2 c = search needs
@@ -50,7 +51,7 @@ returns-3 : tie.Need-returns-3
 unfolding runOf
 returns-3 c =
     let a = c .before .before .before .before .before .before .before .before .before .before .before .args in
-    lists-whole (now (a .tape)) (now (a .out)) (c .before .before .before .before .before .before .before .before .if1 .left) (lists-same (c .before .before .list-refused .ensures) (ap (runTape (now (a .tape))) (sym (c .before .before .before .before .before .number .given .1) ∙ c .before .before .before .before .before .before .before .open-tape .ensures)))
+    lists-whole (now (a .tape)) (now (a .out)) (c .before .before .before .before .before .before .before .before .if1 .left) (lists-same (refused (c .before .before .before .before .before .number .given .0 .0)) (c .before .before .list-refused .ensures) (ap (runTape (now (a .tape))) (sym (c .before .before .before .before .before .number .given .1) ∙ c .before .before .before .before .before .before .before .open-tape .ensures)))
 
 pub listing-spec : {M : Type 1} → statement M
 listing-spec =
