@@ -21,7 +21,7 @@ def public(crate):
     for path in sorted(glob.glob(crate + "/src/*.rt")):
         file = os.path.basename(path)[:-3]
         with open(path) as f:
-            for name in re.findall(r"^\s*pub fn (\w+)", f.read(), re.M):
+            for name in re.findall(r"^\s*pub (?:extern \"C\" )?fn (\w+)", f.read(), re.M):
                 yield name if file == "lib" else file + "." + name
 
 

@@ -1,0 +1,2 @@
+-- The theorem of `engine`.
+pub mod Settled
