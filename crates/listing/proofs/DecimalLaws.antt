@@ -14,12 +14,12 @@ use Rattle.listing.specs.Text.{digit, digits, decimal}
 use Rattle.listing.specs.Demands.{valueFrom}
 use Rattle.listing.proofs.WroteLaws.{sets-append, sets-set}
 
-pub digits-none : (k : ℕ) → digits k 0 ≡ []
+digits-none : (k : ℕ) → digits k 0 ≡ []
 unfolding digits
 digits-none zero = refl
 digits-none (suc k) = refl
 
-pub digits-more : (k n : ℕ) → n ≢ 0 → digits (suc k) n ≡ digits k (n / 10) ++ (digit n ∷ [])
+digits-more : (k n : ℕ) → n ≢ 0 → digits (suc k) n ≡ digits k (n / 10) ++ (digit n ∷ [])
 unfolding digits
 digits-more k n h = rw (ne-eqb n 0 h)
 
@@ -45,13 +45,13 @@ unfolding digits
 digits-enough zero n h = rw (let e : n ≡ 0 = omega arith in e)
 digits-enough (suc k) n h = ap (λ (t : List ℕ). cond (eqb n 0) [] (t ++ (digit n ∷ []))) (digits-enough k (n / 10) (omega (arith, pow-suc 10 k)))
 
-pub decimal-one : (n : ℕ) → n < 10 → decimal n ≡ digit n ∷ []
+decimal-one : (n : ℕ) → n < 10 → decimal n ≡ digit n ∷ []
 unfolding decimal
 decimal-one n h =
     let e : n / 10 ≡ 0 = omega arith in
     ap (λ (m : ℕ). digits 19 m ++ (digit n ∷ [])) e ∙ ap (λ (t : List ℕ). t ++ (digit n ∷ [])) (digits-none 19)
 
-pub decimal-more : (n : ℕ) → 10 ≤ n → n < 2 ^ 64 → decimal n ≡ decimal (n / 10) ++ (digit n ∷ [])
+decimal-more : (n : ℕ) → 10 ≤ n → n < 2 ^ 64 → decimal n ≡ decimal (n / 10) ++ (digit n ∷ [])
 unfolding decimal
 decimal-more n h small =
     ap (λ (t : List ℕ). t ++ (digit n ∷ []))
