@@ -8,17 +8,18 @@ use native.Mathlib.Nat.{pow-suc}
 use native.Mathlib.Omega.{arith}
 use borrow.Author.Tests.{ne-eqb, eqb-true}
 use lib.Dec.{eqb}
-use lib.ListN.{length, set, take, drop, length-append, length-drop, length-set, drop-of-length-le}
-use lib.Seq.{drop-cons, getD-set-same, drop-set-lt, append-snoc, take-all}
+use lib.ListN.{length, set, length-append, length-set}
+use lib.Seq.{sets}
 use Rattle.listing.specs.Text.{digit, digits, decimal}
 use Rattle.listing.specs.Demands.{valueFrom}
+use Rattle.listing.proofs.WroteLaws.{sets-append, sets-set}
 
-pub digits-none : (k : ℕ) → digits k 0 ≡ []
+digits-none : (k : ℕ) → digits k 0 ≡ []
 unfolding digits
 digits-none zero = refl
 digits-none (suc k) = refl
 
-pub digits-more : (k n : ℕ) → n ≢ 0 → digits (suc k) n ≡ digits k (n / 10) ++ (digit n ∷ [])
+digits-more : (k n : ℕ) → n ≢ 0 → digits (suc k) n ≡ digits k (n / 10) ++ (digit n ∷ [])
 unfolding digits
 digits-more k n h = rw (ne-eqb n 0 h)
 
@@ -37,59 +38,86 @@ pub decimal-short : (n : ℕ) → length (decimal n) ≤ 20
 unfolding decimal
 decimal-short n = omega (arith, length-append (digits 19 (n / 10)) (digit n ∷ []), digits-short 19 (n / 10))
 
--- ---- the digits are written from the last on: those of `rest` are left, and those from place `from` on stand
+-- ---- the last digit apart
 
-pub record Left (n : ℕ) (bytes : List ℕ) (from rest : ℕ) : Type 0 where
-  pub low : from ≤ 19
-  pub room : length bytes ≡ 20
-  pub small : rest < 10 ^ from
-  pub whole : digits from rest ++ drop from bytes ≡ decimal n
+digits-enough : (k n : ℕ) → n < 10 ^ k → digits (suc k) n ≡ digits k n
+unfolding digits
+digits-enough zero n h = rw (let e : n ≡ 0 = omega arith in e)
+digits-enough (suc k) n h = ap (λ (t : List ℕ). cond (eqb n 0) [] (t ++ (digit n ∷ []))) (digits-enough k (n / 10) (omega (arith, pow-suc 10 k)))
 
--- the byte before the last that were written
-drop-put : (bytes : List ℕ) (k d : ℕ) → k < length bytes → drop k (set bytes k d) ≡ d ∷ drop (suc k) bytes
-drop-put bytes k d h =
-    drop-cons (set bytes k d) k 0 (omega (arith, length-set bytes k d))
-    ∙ rw (getD-set-same bytes k d 0 h, drop-set-lt (suc k) bytes k d (omega arith))
-
-pub left-start : (n : ℕ) (bytes : List ℕ) → n < 2 ^ 64 → length bytes ≡ 20 → Left n (set bytes 19 (digit n)) 19 (n / 10)
+decimal-one : (n : ℕ) → n < 10 → decimal n ≡ digit n ∷ []
 unfolding decimal
-left-start n bytes h l =
-    let d : drop 19 (set bytes 19 (digit n)) ≡ digit n ∷ drop 20 bytes = drop-put bytes 19 (digit n) (omega arith) in
+decimal-one n h =
+    let e : n / 10 ≡ 0 = omega arith in
+    ap (λ (m : ℕ). digits 19 m ++ (digit n ∷ [])) e ∙ ap (λ (t : List ℕ). t ++ (digit n ∷ [])) (digits-none 19)
+
+decimal-more : (n : ℕ) → 10 ≤ n → n < 2 ^ 64 → decimal n ≡ decimal (n / 10) ++ (digit n ∷ [])
+unfolding decimal
+decimal-more n h small =
+    ap (λ (t : List ℕ). t ++ (digit n ∷ []))
+    (digits-more 18 (n / 10) (λ e. omega arith)
+    ∙ ap (λ (t : List ℕ). t ++ (digit (n / 10) ∷ [])) (sym (digits-enough 18 (n / 10 / 10) (omega arith))))
+
+-- ---- how many digits
+
+length-more : (n : ℕ) → 10 ≤ n → n < 2 ^ 64 → length (decimal n) ≡ 1 + length (decimal (n / 10))
+length-more n h small = ap length (decimal-more n h small) ∙ omega (arith, length-append (decimal (n / 10)) (digit n ∷ []))
+
+pub digits-1 : (n : ℕ) → n < 10 → 1 ≡ length (decimal n)
+digits-1 n h = sym (ap length (decimal-one n h))
+
+pub digits-2 : (n : ℕ) → 10 ≤ n → n < 100 → 2 ≡ length (decimal n)
+digits-2 n h small = omega (arith, length-more n h (omega arith), digits-1 (n / 10) (omega arith))
+
+pub digits-3 : (n : ℕ) → 100 ≤ n → n < 1000 → 3 ≡ length (decimal n)
+digits-3 n h small = omega (arith, length-more n (omega arith) (omega arith), digits-2 (n / 10) (omega arith) (omega arith))
+
+pub digits-4 : (n : ℕ) → 1000 ≤ n → n < 10000 → 4 ≡ length (decimal n)
+digits-4 n h small = omega (arith, length-more n (omega arith) (omega arith), digits-3 (n / 10) (omega arith) (omega arith))
+
+-- four digits fewer
+pub four-fewer : (n : ℕ) → 10000 ≤ n → n < 2 ^ 64 → length (decimal n) ≡ 4 + length (decimal (n / 10000))
+four-fewer n h small =
+    let e : n / 10 / 10 / 10 / 10 ≡ n / 10000 = omega arith in
+    omega (
+      arith,
+      length-more n (omega arith) small,
+      length-more (n / 10) (omega arith) (omega arith),
+      length-more (n / 10 / 10) (omega arith) (omega arith),
+      length-more (n / 10 / 10 / 10) (omega arith) (omega arith),
+      ap (λ (m : ℕ). length (decimal m)) e,
+    )
+
+-- ---- the digits are written from the last on: to write those of `rest` in ys comes to the same as to write those of n in xs
+
+pub record Left (xs : List ℕ) (at n : ℕ) (ys : List ℕ) (w rest : ℕ) : Type 0 where
+  pub small : rest < 2 ^ 64
+  pub room : length ys ≡ length xs
+  pub place : w ≡ at + length (decimal rest)
+  pub bytes : sets ys at (decimal rest) ≡ sets xs at (decimal n)
+
+pub left-turn : {xs : List ℕ} {at n : ℕ} {ys : List ℕ} {w rest : ℕ} → 10 ≤ rest → Left xs at n ys w rest → Left xs at n (set ys (w - 1) (digit rest)) (w - 1) (rest / 10)
+left-turn {xs} {at} {n} {ys} {w} {rest} h l =
+    let t = decimal (rest / 10) in
+    let e : w - 1 ≡ at + length t = omega (arith, l .place, length-more rest h (l .small)) in
     record {
-      low = omega arith;
-      room = omega (arith, length-set bytes 19 (digit n));
-      small = omega arith;
-      whole = ap (λ (t : List ℕ). digits 19 (n / 10) ++ t) (d ∙ ap (λ (t : List ℕ). digit n ∷ t) (drop-of-length-le bytes (let h : length bytes ≤ 20 = omega arith in h)));
+      small = omega (arith, l .small);
+      room = length-set ys (w - 1) (digit rest) ∙ l .room;
+      place = e;
+      bytes =
+          ap (λ (k : ℕ). sets (set ys k (digit rest)) at t) e
+          ∙ sym (sets-set ys at t (at + length t) (digit rest) (omega arith))
+          ∙ sym (sets-append ys at t (digit rest ∷ []))
+          ∙ ap (λ (s : List ℕ). sets ys at s) (sym (decimal-more rest h (l .small)))
+          ∙ l .bytes;
     }
 
-pub left-turn : (n : ℕ) (bytes : List ℕ) (from rest : ℕ) → rest ≢ 0 → Left n bytes from rest → Left n (set bytes (from - 1) (digit rest)) (from - 1) (rest / 10)
-left-turn n bytes zero rest h l = absurd (h (omega (arith, l .small)))
-left-turn n bytes (suc k) rest h l =
-    let e : suc k - 1 ≡ k = omega arith in
-    let low = l .low in
-    let room = l .room in
-    let p = pow-suc 10 k in
-    rw e (record {
-      low = omega arith;
-      room = omega (arith, length-set bytes k (digit rest));
-      small = omega (arith, l .small);
-      whole =
-          ap (λ (t : List ℕ). digits k (rest / 10) ++ t) (drop-put bytes k (digit rest) (omega arith))
-          ∙ sym (append-snoc (digits k (rest / 10)) (digit rest) (drop (suc k) bytes))
-          ∙ ap (λ (t : List ℕ). t ++ drop (suc k) bytes) (sym (digits-more k rest h))
-          ∙ l .whole;
-    })
+-- the byte before the last that was written
+pub left-some : {xs : List ℕ} {at n : ℕ} {ys : List ℕ} {w rest : ℕ} → 10 ≤ rest → Left xs at n ys w rest → (at < w) × (w ≤ at + 20)
+left-some {xs} {at} {n} {ys} {w} {rest} h l = (omega (arith, l .place, length-more rest h (l .small)), omega (arith, l .place, decimal-short rest))
 
-pub left-none : (n : ℕ) (bytes : List ℕ) (from : ℕ) → Left n bytes from 0 → drop from bytes ≡ decimal n
-left-none n bytes from l = ap (λ (t : List ℕ). t ++ drop from bytes) (sym (digits-none from)) ∙ l .whole
-
-pub left-some : (n : ℕ) (bytes : List ℕ) (from rest : ℕ) → rest ≢ 0 → Left n bytes from rest → 1 ≤ from
-left-some n bytes zero rest h l = absurd (h (omega (arith, l .small)))
-left-some n bytes (suc k) rest h l = omega arith
-
--- the part that holds the number
-pub number-part : (n : ℕ) (bytes : List ℕ) (from : ℕ) → (from ≤ 19) × (length bytes ≡ 20) × (drop from bytes ≡ decimal n) → take (20 - from) (drop from bytes) ≡ decimal n
-number-part n bytes from (low, room, e) = take-all (20 - from) (drop from bytes) (omega (arith, length-drop from bytes)) ∙ e
+pub left-last : {xs : List ℕ} {at n : ℕ} {ys : List ℕ} {w rest : ℕ} → rest < 10 → Left xs at n ys w rest → set ys at (digit rest) ≡ sets xs at (decimal n)
+left-last {xs} {at} {n} {ys} {w} {rest} h l = ap (λ (s : List ℕ). sets ys at s) (sym (decimal-one rest h)) ∙ l .bytes
 
 -- ---- digits read back
 

@@ -1,18 +1,25 @@
 -- Laws of writing bytes, one text after the other.
 use mathlib.Core.Path.{_≡_, refl, sym, subst, ap, _∙_}
 use mathlib.Core.List.{List, [], _∷_, _++_}
-use Prim.Native.Nat.{ℕ, suc, _+_, _<_}
+use Prim.Native.Nat.{ℕ, suc, _+_, _≤_, _<_}
 use native.Mathlib.Nat.{add-zero, add-suc, suc-add}
 use native.Mathlib.Numerals.{add-one}
 use native.Mathlib.Omega.{arith}
 use lib.ListN.{length, set, getD, take, length-append}
-use lib.Seq.{sets, take-suc, length-take-le}
+use lib.Seq.{sets, set-comm, take-suc, length-take-le}
 use Rattle.listing.specs.Code.{Wrote}
 
 -- a chain of writers: holds with room or without
 pub sets-append : (xs : List ℕ) (at : ℕ) (s t : List ℕ) → sets xs at (s ++ t) ≡ sets (sets xs at s) (at + length s) t
 sets-append xs at [] t = rw (add-zero at)
 sets-append xs at (v ∷ s) t = sets-append (set xs at v) (suc at) s t ∙ rw (suc-add at (length s), add-suc at (length s))
+
+-- a byte after a text may be written first
+pub sets-set : (xs : List ℕ) (at : ℕ) (s : List ℕ) (k d : ℕ) → at + length s ≤ k → set (sets xs at s) k d ≡ sets (set xs k d) at s
+sets-set xs at [] k d h = refl
+sets-set xs at (v ∷ s) k d h =
+    sets-set (set xs at v) (suc at) s k d (omega arith)
+    ∙ ap (λ (ys : List ℕ). sets ys (suc at) s) (set-comm xs at k v d (λ e. omega arith))
 
 pub wrote-append : {xs ys zs : List ℕ} {at next last : ℕ} {s t : List ℕ} → Wrote xs at s next ys → Wrote ys next t last zs → Wrote xs at (s ++ t) last zs
 wrote-append {xs} {ys} {zs} {at} {next} {last} {s} {t} a b =

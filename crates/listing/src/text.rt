@@ -1,8 +1,8 @@
 // Text into lent bytes: words, and numbers in plain decimal. Each writer writes at a place and answers the next.
 ghost use mathlib.Core.Path.{_≡_};
 ghost use mathlib.Core.List.{_++_};
-ghost use Prim.Native.Nat.{_+_, _≤_};
-ghost use lib.ListN.{length, drop};
+ghost use Prim.Native.Nat.{_+_, _≤_, _<_};
+ghost use lib.ListN.{length};
 ghost use Rattle.listing.specs.Text.{digit, decimal};
 ghost use Rattle.listing.specs.Code.{Wrote};
 
@@ -18,12 +18,6 @@ pub(crate) fn put_text(out: &mut [u8], at: usize, s: &[u8]) -> usize
     at + i
 }
 
-// A number in decimal stands in the last bytes, from `from` on.
-struct Decimal {
-    bytes: [u8; 20],
-    from: usize,
-}
-
 // The last digit of a number.
 fn last_digit(n: u64) -> u8
     ensures { λ r. ⌜ r ≡ digit n ⌝ }
@@ -31,30 +25,52 @@ fn last_digit(n: u64) -> u8
     48 + (n % 10) as u8
 }
 
-fn decimal_of(n: u64) -> Decimal
-    ensures { λ r. ⌜ (r .from ≤ 19) × (length (r .bytes) ≡ 20) × (drop (r .from) (r .bytes) ≡ decimal n) ⌝ }
+// How many digits a number below 10000 has.
+fn few_digits(n: u64) -> usize
+    requires { ⌜ n < 10000 ⌝ }
+    ensures { λ r. ⌜ r ≡ length (decimal n) ⌝ }
 {
-    let mut bytes = [0u8; 20];
-    bytes[19] = last_digit(n);
-    let mut from = 19;
-    let mut rest = n / 10;
-    while rest != 0 {
-        from -= 1;
-        bytes[from] = last_digit(rest);
-        rest /= 10;
+    if n < 10 {
+        return 1;
     }
-    Decimal { bytes, from }
+    if n < 100 {
+        return 2;
+    }
+    if n < 1000 {
+        return 3;
+    }
+    4
 }
 
+// How many digits a number has.
+fn count_digits(n: u64) -> usize
+    ensures { λ r. ⌜ (r ≡ length (decimal n)) × (r ≤ 20) ⌝ }
+{
+    let mut k = 0;
+    let mut rest = n;
+    while 10000 <= rest {
+        k += 4;
+        rest /= 10000;
+    }
+    k + few_digits(rest)
+}
+
+// The digits are written from the last on.
 pub(crate) fn put_number(out: &mut [u8], at: usize, n: u64) -> usize
     requires { ⌜ at + 20 ≤ length (now out) ⌝ }
     ensures { λ r. ⌜ Wrote (now (out .entry)) at (decimal n) r (now (out .exit)) ⌝ }
     ensures { λ r. ⌜ r ≤ at + 20 ⌝ }
 {
-    let d = decimal_of(n);
-    let bytes = d.bytes;
-    let from = d.from;
-    put_text(out, at, &bytes[from..])
+    let end = at + count_digits(n);
+    let mut w = end;
+    let mut rest = n;
+    while 10 <= rest {
+        w -= 1;
+        out[w] = last_digit(rest);
+        rest /= 10;
+    }
+    out[at] = last_digit(rest);
+    end
 }
 
 // A text, and a number after it.
