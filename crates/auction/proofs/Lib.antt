@@ -1,6 +1,7 @@
 -- Laws and theorems of `auction`.
 pub mod StepLaws
 pub mod EventLaws
+pub mod HeadLaws
 pub mod Resend
 pub mod BoardSteps
 pub mod Accepted

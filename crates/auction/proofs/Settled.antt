@@ -26,3 +26,15 @@ write-fills κs a = (tt, λ y z v w p q. (p .0 ∙ sym (q .0), ap (λ x. (tt, (x
 
 pub accept : Settled contracts.orders.accept.ended contracts.orders.accept.Reads.Asked contracts.orders.accept.Reads.Learnt
 accept κs a = (tt, λ y z v w p q. (p ∙ sym q, refl))
+
+pub head-of : Settled contracts.turns.head_of.ended contracts.turns.head_of.Reads.Asked contracts.turns.head_of.Reads.Learnt
+head-of κs a = (tt, λ y z v w p q. (p ∙ sym q, refl))
+
+pub whole : Settled contracts.turns.whole.ended contracts.turns.whole.Reads.Asked contracts.turns.whole.Reads.Learnt
+whole κs a = (tt, λ y z v w p q. (p ∙ sym q, refl))
+
+pub turn-of : Settled contracts.turns.turn_of.ended contracts.turns.turn_of.Reads.Asked contracts.turns.turn_of.Reads.Learnt
+turn-of κs a = (tt, λ y z v w p q. (p ∙ sym q, refl))
+
+pub out-of-form : Settled contracts.turns.out_of_form.ended contracts.turns.out_of_form.Reads.Asked contracts.turns.out_of_form.Reads.Learnt
+out-of-form κs a = (tt, λ y z v w p q. (p ∙ sym q, refl))

@@ -2,6 +2,8 @@
 pub mod Mirror
 pub mod Accept
 pub mod Step
+pub mod Head
+pub mod Code
 pub mod Fills
 pub mod Run
 pub mod Lent

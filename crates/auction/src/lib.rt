@@ -8,6 +8,7 @@ mod fills;
 mod lent;
 mod mirror;
 mod orders;
+mod turns;
 
 pub use events::close;
 pub use events::step;
@@ -19,6 +20,10 @@ pub use fills::write_fills;
 pub use lent::apply;
 pub use lent::cancel;
 pub use orders::accept;
+pub use turns::head_of;
+pub use turns::out_of_form;
+pub use turns::turn_of;
+pub use turns::whole;
 
 // What is fixed at acceptance. `floor` is the NBB at initiation, `stop` the stop or auto-match limit as it was given.
 pub struct Terms {
@@ -110,4 +115,23 @@ pub enum Change {
 pub enum Outcome {
     Refuses(u32),
     Does(Change, Ending),
+}
+
+// An auction without the places of its board: what an event is decided by.
+pub struct Head {
+    pub terms: Terms,
+    pub quotes: Quotes,
+    pub sequence: u32,
+    pub clock: u32,
+    pub live: u64,
+    pub ending: Ending,
+    pub market: Market,
+}
+
+// What an event does to a head: the answer, the head after it, and the place that a response takes; 64 where none does.
+pub struct Turn {
+    pub answer: Answer,
+    pub head: Head,
+    pub at: usize,
+    pub response: Response,
 }

@@ -5,24 +5,33 @@ use mathlib.Core.List.{List, [], _∷_, _++_}
 use Prim.Native.Nat.{ℕ, zero, suc, _+_, _-_, _*_, _≤_, _<_}
 use native.Mathlib.Nat.{sub-zero}
 use native.Mathlib.Omega.{arith}
-use borrow.Author.Tests.{not-true, not-false}
-use lib.ListN.{length, take, drop, take-append-drop}
+use borrow.Author.Tests.{eq-eqb, lt-ltb, le-ltb}
+use lib.ListN.{length, set, take, drop, take-append-drop}
 use lib.Seq.{drop-drop, length-take-le}
 use Rattle.words.specs.Bytes.{wordAt}
 use Rattle.words.proofs.ByteLaws.{word-past}
 use Rattle.tape.specs.declared.Trailer.{Trailer}
 use Rattle.tape.specs.declared.Opened.the-variants.{Tape}
+use Rattle.board.specs.declared.Response.{Response}
+use Rattle.board.specs.Board.{findGtx}
 use Rattle.tape.specs.declared.ReadEvent.{ReadEvent}
+use Rattle.tape.specs.declared.ReadEvent.the-variants.{Event as GotEvent, Refused as NoEvent}
 use Rattle.tape.specs.Records.{readEvent}
 use Rattle.tape.specs.Tape.{openTape, eventPlace}
 use Rattle.tape.specs.Demands.{Holds}
 use Rattle.tape.proofs.TapeBack.{holds}
+use Rattle.tape.proofs.RoundTrip.{event-formed}
 use Rattle.auction.specs.declared.Auction.{Auction}
 use Rattle.auction.specs.declared.Stepped.{Stepped}
 use Rattle.auction.specs.Step.{isOpen, gives, endedByTime, closeOf}
 use Rattle.auction.specs.declared.Answer.the-variants.{Late, Refused}
+use Rattle.auction.specs.declared.Head.{Head}
+use Rattle.auction.specs.declared.Turn.{Turn}
+use Rattle.auction.specs.Head.{wholeOf, outOfFormOf, placesAfter, turned}
+use Rattle.auction.proofs.HeadLaws.{heads}
 use Rattle.auction.specs.Fills.{hasEnded}
 use Rattle.listing.specs.Run.{Said, said, heard, answers, heardAll, closed}
+use Rattle.listing.specs.Code.{foundFor, heardTurn}
 use Rattle.listing.specs.Listing.{eventLine, eventLines}
 
 -- ---- the tape
@@ -47,12 +56,24 @@ closed-ended a = go (isOpen (a .ending)) refl
     go true e = refl
     go false e = rw e
 
--- the number of a record out of form
-pub form-ended : (a : Auction) → hasEnded a ≡ true → _≡_ {A = ℕ} 31 (cond (isOpen (a .ending)) 32 31)
-form-ended a e = ap {B = ℕ} (λ b. cond b 32 31) (sym (not-true (isOpen (a .ending)) e))
+-- a turn of a record that was read does what the record does to the whole auction
+pub hears : (s : List ℕ) (h : Head) (places : List Response) (r : ReadEvent) (t : Turn) → r ≡ readEvent s → t ≡ heardTurn h places r → turned t places ≡ heard (wholeOf h places) r
+unfolding outOfFormOf
+hears s h places r t er et = ap (λ (u : Turn). turned u places) et ∙ go r (sym er)
+  where
+    go : (x : ReadEvent) → readEvent s ≡ x → turned (heardTurn h places x) places ≡ heard (wholeOf h places) x
+    go (GotEvent e) z =
+        let there = findGtx (wholeOf h places .board) (e .f12) in
+        sym (heads .turns h places (foundFor h places e) e (event-formed s e z) (λ k. ap (λ (b : Bool). cond b there 64) (eq-eqb (e .kind) 2 k)))
+    go (NoEvent n) z = refl
 
-pub form-open : (a : Auction) → hasEnded a ≡ false → _≡_ {A = ℕ} 32 (cond (isOpen (a .ending)) 32 31)
-form-open a e = ap {B = ℕ} (λ b. cond b 32 31) (sym (not-false (isOpen (a .ending)) e))
+-- the places after a turn: with its response where that takes a place
+module _ (t : Turn) (places after : List Response) where
+  pub place-set : t .at < 64 → after ≡ set places (t .at) (t .response) → after ≡ placesAfter t places
+  place-set l e = e ∙ ap (λ (b : Bool). cond b (set places (t .at) (t .response)) places) (sym (lt-ltb _ _ l))
+
+  pub place-kept : 64 ≤ t .at → after ≡ places → after ≡ placesAfter t places
+  place-kept l e = e ∙ ap (λ (b : Bool). cond b (set places (t .at) (t .response)) places) (sym (le-ltb _ _ l))
 
 -- ---- the records, from record k on
 
@@ -90,19 +111,20 @@ module _ (s : List ℕ) (at events : ℕ) where
       ap (λ (n : ℕ). heardAll n (drop (eventPlace at k) s) a) e
       ∙ ap (λ (r : List ℕ). heardAll (events - (k + 1)) r (heard a (record-at k) .auction)) (next-place k)
 
-  -- a turn of the loop: record k was read as r, its first word as q, and it did t
-  module _ (k q : ℕ) (a : Auction) (r : ReadEvent) (t : Stepped) (eq : q ≡ wordAt s (eventPlace at k)) (er : r ≡ readEvent (drop (eventPlace at k) s)) (et : t ≡ heard a r) where
-    did : t ≡ heard a (record-at k)
+  -- a turn of the loop: record k was read as r, its first word as q, it did t to the head, and `after` are the places then
+  module _ (k q : ℕ) (h : Head) (places after : List Response) (r : ReadEvent) (t : Turn) (eq : q ≡ wordAt s (eventPlace at k)) (er : r ≡ readEvent (drop (eventPlace at k) s)) (et : t ≡ heardTurn h places r) (ea : after ≡ placesAfter t places) where
+    did : gives (t .answer) (wholeOf (t .head) after) ≡ heard (wholeOf h places) (record-at k)
     unfolding record-at
-    did = et ∙ ap (heard a) er
+    did = ap (λ (x : List Response). gives (t .answer) (wholeOf (t .head) x)) ea ∙ hears (drop (eventPlace at k) s) h places r t er et ∙ ap (heard (wholeOf h places)) er
 
-    pub events-turn : k < events → eventPlace at k ≤ length s → eventLines (answersFrom k a) ≡ eventLine (said q (t .answer)) ++ eventLines (answersFrom (k + 1) (t .auction))
-    events-turn h p =
-        ap eventLines (answers-more k a h p)
+    pub events-turn : k < events → eventPlace at k ≤ length s
+        → eventLines (answersFrom k (wholeOf h places)) ≡ eventLine (said q (t .answer)) ++ eventLines (answersFrom (k + 1) (wholeOf (t .head) after))
+    events-turn l p =
+        ap eventLines (answers-more k (wholeOf h places) l p)
         ∙ ap₂ {C = List ℕ} (λ v u. eventLine (said v (u .answer)) ++ eventLines (answersFrom (k + 1) (u .auction))) (sym eq) (sym did)
 
-    pub heard-turn : k < events → heardFrom (k + 1) (t .auction) ≡ heardFrom k a
-    heard-turn h = ap (λ (u : Stepped). heardFrom (k + 1) (u .auction)) did ∙ sym (heard-more k a h)
+    pub heard-turn : k < events → heardFrom (k + 1) (wholeOf (t .head) after) ≡ heardFrom k (wholeOf h places)
+    heard-turn l = ap (λ (u : Stepped). heardFrom (k + 1) (u .auction)) did ∙ sym (heard-more k (wholeOf h places) l)
 
   pub answers-none : (k : ℕ) (a : Auction) → events ≤ k → answersFrom k a ≡ []
   unfolding answers

@@ -1,23 +1,26 @@
 // The runner's listing of a tape, into lent bytes.
 ghost use mathlib.Core.Path.{_≡_};
-ghost use mathlib.Core.Bool.{cond};
 ghost use Prim.Native.Nat.{_+_, _*_, _≤_};
 ghost use lib.ListN.{length, drop};
 ghost use Rattle.tape.specs.Records.{readOrder};
 ghost use Rattle.tape.specs.Tape.{eventPlace};
-ghost use Rattle.auction.specs.Step.{isOpen};
-ghost use Rattle.listing.specs.Run.{heard, answers, heardAll, refused, runEntry, runOrder};
+ghost use Rattle.board.specs.Board.{findGtx};
+ghost use Rattle.auction.specs.Head.{wholeOf, turnOf};
+ghost use Rattle.listing.specs.Run.{answers, heardAll, refused, runEntry, runOrder};
 ghost use Rattle.listing.specs.Listing.{eventLines, roomOf, lengthIn, listedOf, bytesOf};
-ghost use Rattle.listing.specs.Code.{Lists, Wrote};
-use auction::Answer;
+ghost use Rattle.listing.specs.Code.{foundFor, heardTurn, Lists, Wrote};
 use auction::Auction;
 use auction::Ending;
 use auction::Entry;
-use auction::Stepped;
+use auction::Head;
+use auction::Turn;
+use board::Board;
+use board::Response;
 use lines::put_auction;
 use lines::put_event;
 use lines::put_refused;
 use results::put_results;
+use tape::Event;
 use tape::Opened;
 use tape::Order;
 use tape::ReadEvent;
@@ -55,26 +58,34 @@ pub fn length_of(l: Listed) -> usize
 
 // ---- the event records
 
-// The number of a record out of form.
-fn out_of_form(a: Auction) -> u32
-    ensures { λ r. ⌜ r ≡ cond (isOpen (a .ending)) 32 31 ⌝ }
+// The place of the GTX that a cancel names, 64 where there is none.
+fn find(h: Head, places: [Response; 64], named: u32) -> usize
+    ensures { λ r. ⌜ r ≡ findGtx (wholeOf h places .board) named ⌝ }
 {
-    if auction::has_ended(a) {
-        return 31;
+    let b = Board {
+        places,
+        live: h.live,
+    };
+    board::find_gtx(b, named)
+}
+
+// What an event that was read does; the places are looked at for a cancel alone.
+fn hear_event(h: Head, places: [Response; 64], e: Event) -> Turn
+    ensures { λ r. ⌜ r ≡ turnOf h (foundFor h places e) e ⌝ }
+{
+    if e.kind == 2 {
+        return auction::turn_of(h, find(h, places, e.f12), e);
     }
-    32
+    auction::turn_of(h, 64, e)
 }
 
 // What a record that was read does.
-fn hear(a: Auction, r: ReadEvent) -> Stepped
-    ensures { λ s. ⌜ s ≡ heard a r ⌝ }
+fn hear(h: Head, places: [Response; 64], r: ReadEvent) -> Turn
+    ensures { λ t. ⌜ t ≡ heardTurn h places r ⌝ }
 {
     match r {
-        ReadEvent::Event(e) => auction::step(a, e),
-        ReadEvent::Refused(_) => Stepped {
-            answer: Answer::Refused(out_of_form(a)),
-            auction: a,
-        },
+        ReadEvent::Event(e) => hear_event(h, places, e),
+        ReadEvent::Refused(_) => auction::out_of_form(h),
     }
 }
 
@@ -97,20 +108,26 @@ fn put_events(
     ensures { λ r. ⌜ Wrote (now (out .entry)) start (eventLines (answers events (drop (eventPlace at 0) (now (tape .entry))) a)) (r .next) (now (out .exit)) ⌝ }
     ensures { λ r. ⌜ (r .auction ≡ heardAll events (drop (eventPlace at 0) (now (tape .entry))) a) × (r .next ≤ start + 56 * events) ⌝ }
 {
-    let mut cur = a;
+    let mut places = a.board.places;
+    let mut h = auction::head_of(a);
     let mut w = start;
     let mut k = 0;
     while k < events {
         let sequence = read_word(tape, at + 64 + k * 32);
-        let s = hear(cur, event_at(tape, at, k));
-        let answer = s.answer;
+        let t = hear(h, places, event_at(tape, at, k));
+        let answer = t.answer;
         w = put_event(out, w, sequence, answer);
-        cur = s.auction;
+        let i = t.at;
+        if i < 64 {
+            let r = t.response;
+            places[i] = r;
+        }
+        h = t.head;
         k += 1;
     }
     Heard {
         next: w,
-        auction: cur,
+        auction: auction::whole(h, places),
     }
 }
 

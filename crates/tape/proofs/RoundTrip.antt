@@ -185,12 +185,19 @@ event-written e l q ok =
     let n : 32 ≤ length s = record-long (eventWords e) l 32 (ap (λ (k : ℕ). k * 4) (event-length e)) in
     simp (le-ltb (length s) 32 n, spare, back, ok)
 
-event-read : (s : List ℕ) (e : Event) → AllBytes s → readEvent s ≡ GotEvent e → (eventFormed e ≡ true) × (wordBytes (eventWords e) ≡ take 32 s)
+took : (s : List ℕ) (e : Event) → readEvent s ≡ GotEvent e → (ltb (length s) 32 ≡ false) × ((eventSpare s && eventFormed (eventOf s)) ≡ true) × (eventOf s ≡ e)
 unfolding readEvent
+took s e h = took-event (ltb (length s) 32) (eventSpare s && eventFormed (eventOf s)) (eventOf s) e h
+
+-- an event that is read is in form
+pub event-formed : (s : List ℕ) (e : Event) → readEvent s ≡ GotEvent e → eventFormed e ≡ true
+event-formed s e h = let t = took s e h in ap eventFormed (sym (t .2)) ∙ and-right (eventSpare s) (eventFormed (eventOf s)) (t .1)
+
+event-read : (s : List ℕ) (e : Event) → AllBytes s → readEvent s ≡ GotEvent e → (eventFormed e ≡ true) × (wordBytes (eventWords e) ≡ take 32 s)
 event-read s e b h =
-    let t : (ltb (length s) 32 ≡ false) × ((eventSpare s && eventFormed (eventOf s)) ≡ true) × (eventOf s ≡ e) = took-event (ltb (length s) 32) (eventSpare s && eventFormed (eventOf s)) (eventOf s) e h in
+    let t = took s e h in
     let n : 32 ≤ length s = ltb-false (length s) 32 (t .0) in (
-      ap eventFormed (sym (t .2)) ∙ and-right (eventSpare s) (eventFormed (eventOf s)) (t .1),
+      event-formed s e h,
       ap (λ (x : Event). wordBytes (eventWords x)) (sym (t .2)) ∙ ap wordBytes (event-words s n (and-left (eventSpare s) (eventFormed (eventOf s)) (t .1))) ∙ record-back s 8 b n,
     )
 

@@ -1,8 +1,5 @@
 use mathlib.Core.Path.{sym, ap, _∙_}
-use Prim.Native.Nat.{ℕ}
-use Rattle.auction.specs.declared.Answer.the-variants.{Refused}
-use Rattle.auction.specs.Step.{gives}
-use Rattle.listing.specs.Run.{heard}
+use Rattle.listing.specs.Code.{heardTurn}
 use borrow.Author.Needs.{needs}
 use Rattle.listing.proofs.hear.Statement.{statement}
 use Rattle.listing.proofs.hear.Tie as tie
@@ -10,8 +7,8 @@ use Rattle.listing.proofs.hear.Tie as tie
 enum-known-r : tie.Need-enum-known-r
 enum-known-r c = search needs
 
-step-requires : tie.Need-step-requires
-step-requires c κs = search needs
+hear-event-requires : tie.Need-hear-event-requires
+hear-event-requires c κs = search needs
 
 enum-told : tie.Need-enum-told
 enum-told c = search needs
@@ -20,12 +17,12 @@ out-of-form-requires : tie.Need-out-of-form-requires
 out-of-form-requires c κs = search needs
 
 returns : tie.Need-returns
-returns c = let a = c .before .before .before .before .args in c .step .ensures ∙ ap (heard (a .a)) (sym (c .before .before .r .given .1))
+returns c = let a = c .before .before .before .before .args in c .hear-event .ensures ∙ ap (heardTurn (a .h) (a .places)) (sym (c .before .before .r .given .1))
 
 returns-2 : tie.Need-returns-2
-returns-2 c = let a = c .before .before .before .args in ap (λ (n : ℕ). gives (Refused n) (a .a)) (c .out-of-form .ensures) ∙ ap (heard (a .a)) (sym (c .before .enum-told .given .1))
+returns-2 c = let a = c .before .before .before .args in c .out-of-form .ensures ∙ ap (heardTurn (a .h) (a .places)) (sym (c .before .enum-told .given .1))
 
 pub hear-spec : {M : Type 1} → statement M
 hear-spec =
     tie.close
-    (tie.spec enum-known-r step-requires enum-told out-of-form-requires returns returns-2)
+    (tie.spec enum-known-r hear-event-requires enum-told out-of-form-requires returns returns-2)

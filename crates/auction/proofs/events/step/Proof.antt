@@ -1,37 +1,24 @@
-use borrow.Author.Tests.{le-leb, lt-leb, eq-eqb, ne-eqb}
-use Rattle.auction.specs.Step.{stepOf}
+use mathlib.Core.Path.{ap, _∙_}
+use Rattle.auction.specs.Head.{turned}
+use Rattle.auction.specs.declared.Head.{Head}
+use Rattle.auction.specs.declared.Turn.{Turn}
+use Rattle.auction.specs.Code.{turnFor}
+use Rattle.auction.proofs.HeadLaws.{step-turned}
 use borrow.Author.Needs.{needs}
 use Rattle.auction.proofs.events.step.Statement.{statement}
 use Rattle.auction.proofs.events.step.Tie as tie
 
-event-refusal-requires : tie.Need-event-refusal-requires
-event-refusal-requires c κs = search needs
+head-of-requires : tie.Need-head-of-requires
+head-of-requires c κs = search needs
 
-ended-by-time-requires : tie.Need-ended-by-time-requires
-ended-by-time-requires c κs = search needs
+turn-for-requires : tie.Need-turn-for-requires
+turn-for-requires c κs = search needs
+
+settle-requires : tie.Need-settle-requires
+settle-requires c κs = search needs
 
 returns : tie.Need-returns
-unfolding stepOf
-returns c = simp ((rw (c .before .before .before .before .before .event-refusal .ensures) at (eq-eqb _ _ (c .before .before .before .before .if1 .taken))), (le-leb _ _ (c .before .if2 .taken))) (cc)
-
-in-time-requires : tie.Need-in-time-requires
-in-time-requires c κs = search needs
-
-returns-2 : tie.Need-returns-2
-unfolding stepOf
-returns-2 c = simp ((rw (c .before .before .before .before .before .event-refusal .ensures) at (eq-eqb _ _ (c .before .before .before .before .if1 .taken))), (lt-leb _ _ (c .before .if2 .left))) (c .in-time .ensures)
-
-returns-3 : tie.Need-returns-3
-unfolding stepOf
-returns-3 c = simp ((rw (c .before .event-refusal .ensures) at (ne-eqb _ _ (c .if1 .left)))) (cc)
+returns c = let a = c .before .before .before .before .args in c .settle .ensures ∙ ap (λ (t : Turn). turned t (a .a .board .places)) (c .before .turn-for .ensures ∙ ap (λ (h : Head). turnFor h (a .a .board) (a .e)) (c .before .before .head-of .ensures)) ∙ step-turned (a .a) (a .e)
 
 pub step-spec : {M : Type 1} → statement M
-step-spec =
-    tie.close
-    (tie.spec
-    event-refusal-requires
-    ended-by-time-requires
-    returns
-    in-time-requires
-    returns-2
-    returns-3)
+step-spec = tie.close (tie.spec head-of-requires turn-for-requires settle-requires returns)
