@@ -116,6 +116,10 @@ shares-parts p R T k xs e h f =
     let y : leftover R (sizes (inSequence xs)) ≡ k = rw (z, parts-sequence R T xs) (sym f) in
     rw (lt-leb (sum (sizes (inSequence xs))) R (omega arith), y, z)
 
+pub shares-none : (p R : ℕ) (ps : List Response) → shareFills p R (inSequence (liveIn 0 ps)) ≡ []
+unfolding shareFills
+shares-none p R ps = rw (none-left ps)
+
 pub parts-le : (R T : ℕ) (xs : List Response) → T ≡ sum (sizes xs) → R < T → sum (floors R T (sizes xs)) ≤ R
 parts-le R T xs e h = rw e (floors-at-most R (sizes xs) (omega arith))
 

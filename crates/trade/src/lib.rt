@@ -109,7 +109,7 @@ fn write_level(
     requires { ⌜ at + 3 * length (placeFills price left (inSequence (liveIn (l .customers) places)) contra (sharedOf left (l .served) (l .want)) (inSequence (liveIn (l .others) places))) ≤ length (now out) ⌝ }
     ensures { λ r. ⌜ Wrote (now (out .entry)) at (placeFills price left (inSequence (liveIn (l .customers) places)) contra (sharedOf left (l .served) (l .want)) (inSequence (liveIn (l .others) places))) r (now (out .exit)) ⌝ }
 {
-    let a = write::write_each(places, l.customers, price, true, 0, 0, left, out, at);
+    let a = write::write_turns(places, l.customers, price, left, out, at);
     let b = write::put_fill(out, a, 0, price, contra);
     let shared = numbers::shared_of(left, l.served, l.want);
     write::write_shares(places, l.others, price, shared, l.total, out, b)

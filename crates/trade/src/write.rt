@@ -1,6 +1,6 @@
 // Writes fills into lent words.
 ghost use mathlib.Core.Path.{_≡_};
-ghost use mathlib.Core.Bool.{false};
+ghost use mathlib.Core.Bool.{true, false};
 ghost use Prim.Native.Nat.{_+_, _*_, _≤_, _<_, min};
 ghost use lib.ListN.{length};
 ghost use Rattle.board.specs.Board.{liveIn, inSequence};
@@ -101,6 +101,25 @@ pub(crate) fn write_each(
     w
 }
 
+// The responses of the word in turn out of k: where there are none, the places are not even copied.
+pub(crate) fn write_turns(
+    places: [Response; 64],
+    word: u64,
+    price: u32,
+    k: u64,
+    out: &mut [u32],
+    at: usize,
+) -> usize
+    requires { ⌜ k ≤ 4294967295 ⌝ }
+    requires { ⌜ at + 3 * length (eachFills price true 0 0 k (inSequence (liveIn word places))) ≤ length (now out) ⌝ }
+    ensures { λ r. ⌜ Wrote (now (out .entry)) at (eachFills price true 0 0 k (inSequence (liveIn word places))) r (now (out .exit)) ⌝ }
+{
+    if word == 0 {
+        return at;
+    }
+    write_each(places, word, price, true, 0, 0, k, out, at)
+}
+
 // The amount over the responses of the word, pro rata: total is the sum of their sizes.
 pub(crate) fn write_shares(
     places: [Response; 64],
@@ -115,6 +134,9 @@ pub(crate) fn write_shares(
     requires { ⌜ at + 3 * length (shareFills price amount (inSequence (liveIn word places))) ≤ length (now out) ⌝ }
     ensures { λ r. ⌜ Wrote (now (out .entry)) at (shareFills price amount (inSequence (liveIn word places))) r (now (out .exit)) ⌝ }
 {
+    if word == 0 {
+        return at;
+    }
     if total <= amount {
         return write_each(places, word, price, true, amount, total, amount, out, at);
     }
