@@ -133,16 +133,15 @@ live-short w (p ∷ ps) = go (eqb (w % 2) 1) (live-short (w / 2) ps)
 
 pub adds-of : (bound p : ℕ) (r : Response) (i : ℕ) (f n : Found) (a b : Bool) → worksAt bound p r ≡ a → r .customer ≡ b
     → n .customers ≡ cond (a && b) (withBit (f .customers) i) (f .customers) → n .others ≡ cond (a && not b) (withBit (f .others) i) (f .others)
-    → n .served ≡ f .served + cond (a && b) (r .size) 0 → n .total ≡ f .total + cond (a && not b) (r .size) 0 → n .served + n .total ≤ f .served + f .total + 4294967295
+    → n .served ≡ f .served + cond (a && b) (r .size) 0 → n .total ≡ f .total + cond (a && not b) (r .size) 0
     → Adds bound p r i f n
-adds-of bound p r i f n a b e g c o s t h =
+adds-of bound p r i f n a b e g c o s t =
     record {
       customers = c ∙ ap₂ (λ (x y : Bool). cond (x && y) (withBit (f .customers) i) (f .customers)) (sym e) (sym g);
       others = o ∙ ap₂ (λ (x y : Bool). cond (x && not y) (withBit (f .others) i) (f .others)) (sym e) (sym g);
       served = s ∙ ap₂ (λ (x y : Bool). f .served + cond (x && y) (r .size) 0) (sym e) (sym g);
       total = t ∙ ap₂ (λ (x y : Bool). f .total + cond (x && not y) (r .size) 0) (sym e) (sym g);
-      small = h;
     }
 
 pub adds-none : (bound p : ℕ) (r : Response) (i : ℕ) (f : Found) → max (r .price) bound ≢ p → Adds bound p r i f f
-adds-none bound p r i f h = adds-of bound p r i f f false (r .customer) (ne-eqb (max (r .price) bound) p h) refl refl refl (omega arith) (omega arith) (omega arith)
+adds-none bound p r i f h = adds-of bound p r i f f false (r .customer) (ne-eqb (max (r .price) bound) p h) refl refl refl (omega arith) (omega arith)

@@ -1,5 +1,6 @@
 -- Laws that belong to no one function.
 pub mod CodeLaws
+pub mod FoundLaws
 pub mod WriteLaws
 pub mod StepLaws
 pub mod LevelLaws

@@ -1,6 +1,7 @@
 -- What the writers' proofs lean on: their fills, a response at a time.
 use mathlib.Core.Path.{_≡_, refl, sym, ap, ap₂, _∙_}
-use mathlib.Core.Bool.{Bool, true, false, cond}
+use mathlib.Core.Bool.{Bool, true, false, cond, true≢false}
+use mathlib.Core.Logic.{⊎-elim}
 use mathlib.Core.List.{List, [], _∷_, _++_}
 use Prim.Native.Nat.{ℕ, zero, suc, _+_, _-_, _*_, _/_, _^_, _≤_, _<_, min}
 use native.Mathlib.Nat.{mul-zero, zero-div}
@@ -8,22 +9,25 @@ use native.Mathlib.Omega.{arith}
 use borrow.Author.Tests.{le-leb, lt-leb, lt-ltb}
 use lib.Dec.{ltb}
 use lib.ListN.{length, getD}
-use Rattle.words.specs.Bits.{withoutBit, setIn}
-use Rattle.words.proofs.BitLaws.{lowest-set}
+use lib.Pow.{pow-pos}
+use Rattle.words.specs.Bits.{bitAt, withoutBit, setIn}
+use Rattle.words.proofs.BitLaws.{le-or-lt, no-bit, without-le, lowest-set}
 use Rattle.board.specs.declared.Response.{Response}
 use Rattle.board.specs.Lists.{Inserts, Shuffles, sum}
 use Rattle.board.specs.Lists.Inserts.{here, there}
 use Rattle.board.specs.Lists.Shuffles.{none, more}
 use Rattle.board.specs.Board.{noResponse, liveIn, inSequence, firstInSequence}
-use Rattle.board.proofs.LiveLaws.{none-live}
-use Rattle.board.proofs.SequenceLaws.{sequence-shuffles}
+use Rattle.board.specs.Theorems.{RisingFrom}
+use Rattle.board.proofs.ListLaws.{every-inserts}
+use Rattle.board.proofs.LiveLaws.{none-live, less-live}
+use Rattle.board.proofs.SequenceLaws.{From, rising-from, sequence-shuffles}
 use Rattle.board.proofs.FirstLaws.{some-first, first-earliest, earliest-sequence, Best, best-start, best-step, best-end}
 use Rattle.share.specs.Share.{floors, leftover, shares, inTurn}
 use Rattle.share.specs.Fills.{fillOf, sizes}
 use Rattle.share.proofs.ShareLaws.{room, floors-at-most}
 use Rattle.trade.specs.Code.{eachFills, dealt, shareFills, Gives}
 use Rattle.trade.specs.declared.Given.{Given}
-use Rattle.trade.proofs.CodeLaws.{cut-less}
+use Rattle.trade.proofs.CodeLaws.{cut-less, Turn, turn-of}
 
 -- ---- a turn of a loop by sequence: i is the place of the lowest sequence of rest
 
@@ -116,14 +120,70 @@ shares-parts p R T k xs e h f =
     let y : leftover R (sizes (inSequence xs)) ≡ k = rw (z, parts-sequence R T xs) (sym f) in
     rw (lt-leb (sum (sizes (inSequence xs))) R (omega arith), y, z)
 
+pub shares-none : (p R : ℕ) (ps : List Response) → shareFills p R (inSequence (liveIn 0 ps)) ≡ []
+unfolding shareFills
+shares-none p R ps = rw (none-left ps)
+
 pub parts-le : (R T : ℕ) (xs : List Response) → T ≡ sum (sizes xs) → R < T → sum (floors R T (sizes xs)) ≤ R
 parts-le R T xs e h = rw e (floors-at-most R (sizes xs) (omega arith))
+
+-- ---- places that stand in rising order of sequence
+
+pub rising-none : (ps : List Response) (m : ℕ) → RisingFrom m (liveIn 0 ps)
+rising-none ps m = rw (none-live ps) tt
+
+-- m is the sequence of the place before i
+pub rising-turn : (ps : List Response) (rest i m : ℕ) → Turn ps rest i → m ≤ getD ps i noResponse .sequence
+    → RisingFrom (getD ps i noResponse .sequence) (liveIn (withoutBit rest i) ps) → RisingFrom m (liveIn rest ps)
+rising-turn ps rest i m t h r = rw (t .cons) (h, r)
+
+-- one alone does
+pub rising-one : (ps : List Response) (word : ℕ) → length ps ≡ 64 → word < 2 ^ 64 → withoutBit word (setIn 64 word) ≡ 0 → RisingFrom 0 (liveIn word ps)
+rising-one ps word e h z =
+    ⊎-elim
+    (λ (l : word ≤ 0).
+    let n : word ≡ 0 = omega arith in
+    rw n (rising-none ps 0))
+    (λ (p : 0 < word).
+    let t = turn-of ps word (setIn 64 word) e p h refl in
+    rising-turn ps word (setIn 64 word) 0 t (omega arith) (rw z (rising-none ps (getD ps (setIn 64 word) noResponse .sequence))))
+    (le-or-lt word 0)
+
+-- and so do those that are left without one
+rising-inserts : {r : Response} {xs ys : List Response} → Inserts r xs ys → (m : ℕ) → RisingFrom m ys → RisingFrom m xs
+rising-inserts (here {xs = []}) m h = tt
+rising-inserts (here {xs = x ∷ xs}) m h = (omega (arith, h .0, h .1 .0), h .1 .1)
+rising-inserts (there {x = x} i) m h = (h .0, rising-inserts i (x .sequence) (h .1))
+
+pub rising-without : (ps : List Response) (rest i : ℕ) → i < length ps → bitAt rest i ≡ true → RisingFrom 0 (liveIn rest ps) → RisingFrom 0 (liveIn (withoutBit rest i) ps)
+rising-without ps rest i l t = rising-inserts (less-live rest i ps noResponse l t) 0
+
+pub unseen-le : (sorted : Bool) (rest i : ℕ) → cond sorted 0 (withoutBit rest i) ≤ rest
+unseen-le true rest i = omega arith
+unseen-le false rest i = without-le rest i
 
 -- ---- the search for the lowest sequence: best is the earliest of those looked at, and scan is still to be looked at
 
 module _ (ps : List Response) (e : length ps ≡ 64) where
-  pub hunt-start : (rest i : ℕ) → 0 < rest → rest < 2 ^ 64 → i ≡ setIn 64 rest → Best ps rest i (withoutBit rest i)
-  hunt-start rest i p h q = let t = lowest-set rest i p h q in best-start ps rest i (omega (arith, t .place)) t
+  -- where the places stand in rising order, the first is the earliest of all
+  rising-best : (rest i : ℕ) → 0 < rest → rest < 2 ^ 64 → i ≡ setIn 64 rest → RisingFrom 0 (liveIn rest ps) → Best ps rest i 0
+  rising-best rest i p h q r =
+      let t = lowest-set rest i p h q in
+      let v = rw (turn-of ps rest i e p h q .cons) at r in
+      let from : From (getD ps i noResponse .sequence) (liveIn rest ps) =
+      rw (turn-of ps rest i e p h q .cons) (omega arith, rising-from (getD ps i noResponse .sequence) (liveIn (withoutBit rest i) ps) (v .1)) in
+      record {
+        place = omega (arith, t .place);
+        set = t .set;
+        inside = λ j b. absurd (true≢false (sym b ∙ no-bit 0 j (pow-pos j)));
+        ahead = λ j b. absurd (true≢false (sym b ∙ no-bit 0 j (pow-pos j)));
+        least = λ j l b f. every-inserts (λ (x : Response). getD ps i noResponse .sequence ≤ x .sequence) (less-live rest j ps noResponse l b) from .0;
+        lowest = λ j l b f. absurd (true≢false (sym b ∙ t .none j l));
+      }
+
+  pub hunt-start : (sorted : Bool) (rest i : ℕ) → 0 < rest → rest < 2 ^ 64 → i ≡ setIn 64 rest → (sorted ≡ true → RisingFrom 0 (liveIn rest ps)) → Best ps rest i (cond sorted 0 (withoutBit rest i))
+  hunt-start true rest i p h q r = rising-best rest i p h q (r refl)
+  hunt-start false rest i p h q r = let t = lowest-set rest i p h q in best-start ps rest i (omega (arith, t .place)) t
 
   pub hunt-step : (rest best scan i n : ℕ) → 0 < scan → scan < 2 ^ 64 → i ≡ setIn 64 scan → n ≡ cond (ltb (getD ps i noResponse .sequence) (getD ps best noResponse .sequence)) i best
       → Best ps rest best scan → Best ps rest n (withoutBit scan i)

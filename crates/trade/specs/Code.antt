@@ -3,7 +3,7 @@ use mathlib.Core.Path.{_≡_}
 use mathlib.Core.Bool.{Bool, true, false, cond, not, _&&_, _||_}
 use mathlib.Core.List.{List, [], _∷_, _++_}
 use Prim.Native.Nat.{ℕ, suc, _+_, _-_, _*_, _/_, _≤_, min, max}
-use lib.Dec.{leb, eqb}
+use lib.Dec.{leb, ltb, eqb}
 use Rattle.words.specs.Bits.{withBit}
 use Rattle.board.specs.declared.Response.{Response}
 use Rattle.board.specs.Lists.{filter, sum}
@@ -56,6 +56,15 @@ pub record Adds (bound p : ℕ) (r : Response) (i : ℕ) (f n : Found) : Type 0 
   pub others : n .others ≡ cond (otherAt bound p r) (withBit (f .others) i) (f .others)
   pub served : n .served ≡ f .served + cond (customerAt bound p r) (r .size) 0
   pub total : n .total ≡ f .total + cond (otherAt bound p r) (r .size) 0
+
+-- of what was found, that at the price p, which is at most its price: nothing yet, where p is lower
+unfoldable pub foundAt : Found → ℕ → Found
+foundAt f p = cond (ltb p (f .price)) (record { price = p; customers = 0; others = 0; served = 0; total = 0 }) f
+
+-- what is found of one response more, at place i: that at the least price
+pub record Takes (bound : ℕ) (r : Response) (i : ℕ) (f n : Found) : Type 0 where
+  pub price : n .price ≡ min (max (r .price) bound) (f .price)
+  pub adds : Adds bound (n .price) r i (foundAt f (n .price)) n
   pub small : n .served + n .total ≤ f .served + f .total + 4294967295
 
 -- what is found at the price p among the places of a word

@@ -50,6 +50,7 @@ struct Price {
 
 // What stands at a price: the words of its Customers and of the others, and their sizes.
 struct Found {
+    price: u64,
     customers: u64,
     others: u64,
     served: u64,
@@ -78,8 +79,8 @@ fn level_at(d: Deal, places: [Response; 64], g: u64, s: Walked) -> Price
 {
     let top = numbers::top_of(d);
     let entry = numbers::entry_of(d);
-    let price = scan::least_price(places, s.rest, d.bound, top);
-    let f = scan::found_at(places, s.rest, d.bound, price);
+    let f = scan::found_least(places, s.rest, d.bound, top);
+    let price = f.price;
     let a = f.served + f.total;
     let m = numbers::matched(d.mode, g, s.held, a);
     let last = numbers::is_last(entry, top, price, s.left, a + m);
@@ -109,7 +110,7 @@ fn write_level(
     requires { ⌜ at + 3 * length (placeFills price left (inSequence (liveIn (l .customers) places)) contra (sharedOf left (l .served) (l .want)) (inSequence (liveIn (l .others) places))) ≤ length (now out) ⌝ }
     ensures { λ r. ⌜ Wrote (now (out .entry)) at (placeFills price left (inSequence (liveIn (l .customers) places)) contra (sharedOf left (l .served) (l .want)) (inSequence (liveIn (l .others) places))) r (now (out .exit)) ⌝ }
 {
-    let a = write::write_each(places, l.customers, price, true, 0, 0, left, out, at);
+    let a = write::write_turns(places, l.customers, price, left, out, at);
     let b = write::put_fill(out, a, 0, price, contra);
     let shared = numbers::shared_of(left, l.served, l.want);
     write::write_shares(places, l.others, price, shared, l.total, out, b)

@@ -5,7 +5,7 @@ ghost use Rattle.board.specs.Board.{liveIn};
 ghost use Rattle.board.specs.Lists.{sum};
 ghost use Rattle.share.specs.Share.{floors};
 ghost use Rattle.share.specs.Fills.{sizes};
-ghost use Rattle.trade.specs.Code.{leastOf, Adds, FoundAt};
+ghost use Rattle.trade.specs.Code.{leastOf, foundAt, Takes, FoundAt};
 use crate::Found;
 use crate::numbers;
 use board::Response;
@@ -25,35 +25,57 @@ pub(crate) fn least_price(places: [Response; 64], word: u64, bound: u32, last: u
     best
 }
 
-// What a response at place i adds to what was found at the price p.
-fn found(f: Found, r: Response, bound: u32, p: u64, i: usize) -> Found
-    requires { ⌜ f .served + f .total ≤ 274877906880 ⌝ }
-    ensures { λ n. ⌜ Adds bound p r i f n ⌝ }
+// What was found at the price p, which is at most the price of f: nothing yet, where it is lower.
+fn found_at(f: Found, p: u64) -> Found
+    ensures { λ r. ⌜ (r ≡ foundAt f p) × (r .served + r .total ≤ f .served + f .total) ⌝ }
 {
-    if numbers::working(r.price, bound) != p {
+    if p < f.price {
+        return Found {
+            price: p,
+            customers: 0,
+            others: 0,
+            served: 0,
+            total: 0,
+        };
+    }
+    f
+}
+
+// What was found, with a response at place i: one at a lower price stands alone.
+fn found(f: Found, r: Response, bound: u32, i: usize) -> Found
+    requires { ⌜ f .served + f .total ≤ 274877906880 ⌝ }
+    ensures { λ n. ⌜ Takes bound r i f n ⌝ }
+{
+    let p = numbers::working(r.price, bound);
+    if f.price < p {
         return f;
     }
+    let b = found_at(f, p);
     if r.customer {
         return Found {
-            customers: bits::with_bit(f.customers, i),
-            others: f.others,
-            served: f.served + numbers::wide(r.size),
-            total: f.total,
+            price: p,
+            customers: bits::with_bit(b.customers, i),
+            others: b.others,
+            served: b.served + numbers::wide(r.size),
+            total: b.total,
         };
     }
     Found {
-        customers: f.customers,
-        others: bits::with_bit(f.others, i),
-        served: f.served,
-        total: f.total + numbers::wide(r.size),
+        price: p,
+        customers: b.customers,
+        others: bits::with_bit(b.others, i),
+        served: b.served,
+        total: b.total + numbers::wide(r.size),
     }
 }
 
-// The places that work at the price p: Customers and others, and their sizes.
-pub(crate) fn found_at(places: [Response; 64], word: u64, bound: u32, p: u64) -> Found
-    ensures { λ r. ⌜ FoundAt bound p places word r ⌝ }
+// The least working price, but at most the last, and the places that work at it: Customers and others, and their sizes.
+pub(crate) fn found_least(places: [Response; 64], word: u64, bound: u32, last: u64) -> Found
+    ensures { λ r. ⌜ (r .price ≡ leastOf bound last (liveIn word places)) × (r .price ≤ last) ⌝ }
+    ensures { λ r. ⌜ FoundAt bound (r .price) places word r ⌝ }
 {
     let mut f = Found {
+        price: last,
         customers: 0,
         others: 0,
         served: 0,
@@ -62,7 +84,7 @@ pub(crate) fn found_at(places: [Response; 64], word: u64, bound: u32, p: u64) ->
     let mut rest = word;
     while rest != 0 {
         let i = bits::first_set(rest) as usize;
-        f = found(f, places[i], bound, p, i);
+        f = found(f, places[i], bound, i);
         rest = bits::without_bit(rest, i);
     }
     f

@@ -1,10 +1,12 @@
 // Writes fills into lent words.
 ghost use mathlib.Core.Path.{_≡_};
-ghost use mathlib.Core.Bool.{false};
+ghost use mathlib.Core.Bool.{true, false, cond};
 ghost use Prim.Native.Nat.{_+_, _*_, _≤_, _<_, min};
 ghost use lib.ListN.{length};
+ghost use Rattle.words.specs.Bits.{withoutBit, setIn};
 ghost use Rattle.board.specs.Board.{liveIn, inSequence};
 ghost use Rattle.board.specs.Lists.{sum};
+ghost use Rattle.board.specs.Theorems.{RisingFrom};
 ghost use Rattle.share.specs.Fills.{fillOf, sizes, Wrote};
 ghost use Rattle.trade.specs.Code.{eachFills, shareFills, Gives};
 use crate::Given;
@@ -62,6 +64,44 @@ fn given(turns: bool, amount: u64, total: u64, k: u64, size: u32) -> Given
     }
 }
 
+// Whether the places of the word stand in rising order of sequence.
+fn rising(places: [Response; 64], word: u64) -> bool
+    ensures { λ r. ⌜ (r ≡ true → RisingFrom 0 (liveIn word places)) ⌝ }
+{
+    let mut last = 0;
+    let mut rest = word;
+    while rest != 0 {
+        let i = bits::first_set(rest) as usize;
+        if places[i].sequence < last {
+            return false;
+        }
+        last = places[i].sequence;
+        rest = bits::without_bit(rest, i);
+    }
+    true
+}
+
+// The same, where more is every place of the word but the first: nothing is looked over for one alone.
+fn in_order(places: [Response; 64], word: u64, more: u64) -> bool
+    requires { ⌜ more ≡ withoutBit word (setIn 64 word) ⌝ }
+    ensures { λ r. ⌜ (r ≡ true → RisingFrom 0 (liveIn word places)) ⌝ }
+{
+    if more == 0 {
+        return true;
+    }
+    rising(places, word)
+}
+
+// The places to look at for the lowest sequence, where best is the first: none, where they stand in rising order.
+fn unseen_of(sorted: bool, rest: u64, best: usize) -> u64
+    ensures { λ r. ⌜ r ≡ cond sorted 0 (withoutBit rest best) ⌝ }
+{
+    if sorted {
+        return 0;
+    }
+    bits::without_bit(rest, best)
+}
+
 // The responses of the word by sequence, each with what it is given. A turn looks at one more place for the lowest sequence, or writes the fill of the place found.
 pub(crate) fn write_each(
     places: [Response; 64],
@@ -82,7 +122,8 @@ pub(crate) fn write_each(
     let mut left = k;
     let mut rest = word;
     let mut best = bits::first_set(word) as usize;
-    let mut unseen = bits::without_bit(word, best);
+    let sorted = in_order(places, word, bits::without_bit(word, best));
+    let mut unseen = unseen_of(sorted, word, best);
     while rest != 0 {
         if unseen != 0 {
             let i = bits::first_set(unseen) as usize;
@@ -96,9 +137,28 @@ pub(crate) fn write_each(
         left = g.left;
         rest = bits::without_bit(rest, best);
         best = bits::first_set(rest) as usize;
-        unseen = bits::without_bit(rest, best);
+        unseen = unseen_of(sorted, rest, best);
     }
     w
+}
+
+// The responses of the word in turn out of k: where there are none, the places are not even copied.
+pub(crate) fn write_turns(
+    places: [Response; 64],
+    word: u64,
+    price: u32,
+    k: u64,
+    out: &mut [u32],
+    at: usize,
+) -> usize
+    requires { ⌜ k ≤ 4294967295 ⌝ }
+    requires { ⌜ at + 3 * length (eachFills price true 0 0 k (inSequence (liveIn word places))) ≤ length (now out) ⌝ }
+    ensures { λ r. ⌜ Wrote (now (out .entry)) at (eachFills price true 0 0 k (inSequence (liveIn word places))) r (now (out .exit)) ⌝ }
+{
+    if word == 0 {
+        return at;
+    }
+    write_each(places, word, price, true, 0, 0, k, out, at)
 }
 
 // The amount over the responses of the word, pro rata: total is the sum of their sizes.
@@ -115,6 +175,9 @@ pub(crate) fn write_shares(
     requires { ⌜ at + 3 * length (shareFills price amount (inSequence (liveIn word places))) ≤ length (now out) ⌝ }
     ensures { λ r. ⌜ Wrote (now (out .entry)) at (shareFills price amount (inSequence (liveIn word places))) r (now (out .exit)) ⌝ }
 {
+    if word == 0 {
+        return at;
+    }
     if total <= amount {
         return write_each(places, word, price, true, amount, total, amount, out, at);
     }

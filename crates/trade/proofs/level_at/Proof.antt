@@ -19,20 +19,17 @@ top-of-requires c κs = search needs
 entry-of-requires : tie.Need-entry-of-requires
 entry-of-requires c κs = search needs
 
-least-price-requires : tie.Need-least-price-requires
-least-price-requires c κs = search needs
-
-found-at-requires : tie.Need-found-at-requires
-found-at-requires c κs = search needs
+found-least-requires : tie.Need-found-least-requires
+found-least-requires c κs = search needs
 
 add-a : tie.Need-add-a
-add-a c = omega (arith, c .before .found-at .ensures .small)
+add-a c = omega (arith, c .before .found-least .ensures .1 .small)
 
 matched-requires : tie.Need-matched-requires
 matched-requires c κs = search needs
 
 add-is-last : tie.Need-add-is-last
-add-is-last c = omega (arith, c .before .before .found-at .ensures .small, c .matched .ensures .1)
+add-is-last c = omega (arith, c .before .before .found-least .ensures .1 .small, c .matched .ensures .1)
 
 is-last-requires : tie.Need-is-last-requires
 is-last-requires c κs = search needs
@@ -42,13 +39,14 @@ wanted-requires c κs = search needs
 
 returns : tie.Need-returns
 returns c =
-    let s = c .before .before .before .before .before .before .before .before in
+    let s = c .before .before .before .before .before .before .before in
     let a = s .args in
-    let f = c .before .before .before .before .found-at in
-    looks (a .d) (a .places) (a .g) (a .s) (len s) (word s) _ (f .result) _ _ _ (c .before .before .before .before .before .before .before .top-of .ensures .0) (c .before .before .before .before .before .before .entry-of .ensures) (c .before .before .before .before .before .least-price .ensures .0) (f .ensures) refl refl refl refl
+    let t = c .before .before .before .before .before .before .top-of .ensures in
+    let f = c .before .before .before .before .found-least in
+    looks (a .d) (a .places) (a .g) (a .s) (len s) (word s) _ (f .result) _ _ _ (t .0) (c .before .before .before .before .before .entry-of .ensures) (f .ensures .0 .0) (f .ensures .1) refl refl refl refl
     (c .before .before .matched .ensures .0) (c .before .is-last .ensures) (c .wanted .ensures .0)
-    (omega (arith, c .before .before .before .before .before .least-price .ensures .1, c .before .before .before .before .before .before .before .top-of .ensures .1))
-    (omega (arith, f .ensures .small, c .before .before .matched .ensures .1, c .wanted .ensures .1, s .pre))
+    (omega (arith, f .ensures .0 .1, t .1))
+    (omega (arith, f .ensures .1 .small, c .before .before .matched .ensures .1, c .wanted .ensures .1, s .pre))
 
 pub level-at-spec : {M : Type 1} → statement M
 level-at-spec =
@@ -56,8 +54,7 @@ level-at-spec =
     (tie.spec
     top-of-requires
     entry-of-requires
-    least-price-requires
-    found-at-requires
+    found-least-requires
     add-a
     matched-requires
     add-is-last

@@ -8,7 +8,6 @@ use Rattle.share.specs.Fills.{fillOf}
 use Rattle.share.proofs.FillsLaws.{wrote-append}
 use Rattle.trade.specs.Code.{eachFills, shareFills, placeFills, sharedOf}
 use Rattle.trade.proofs.LevelLaws.{place-length}
-use mathlib.Core.Bool.{true≢false}
 use borrow.Author.Needs.{needs}
 use Rattle.trade.proofs.write_level.Statement.{statement}
 use Rattle.trade.proofs.write_level.Tie as tie
@@ -19,11 +18,11 @@ sized : (c : tie.Start)
     + (length (fillOf 0 (c .args .price) (c .args .contra)) + length (shareFills (c .args .price) (sharedOf (c .args .left) (c .args .l .served) (c .args .l .want)) (inSequence (liveIn (c .args .l .others) (c .args .places)))))
 sized c = place-length (c .args .price) (c .args .left) _ (c .args .contra) _ _
 
-write-each-requires : tie.Need-write-each-requires
-write-each-requires c κs = let s = c .before .before in let a = s .args in ((omega arith, s .pre .0 .0, λ e. absurd (true≢false e)), omega (arith, s .pre .1, sized s))
+write-turns-requires : tie.Need-write-turns-requires
+write-turns-requires c κs = let s = c .before .before in (s .pre .0 .0, omega (arith, s .pre .1, sized s))
 
 put-fill-requires : tie.Need-put-fill-requires
-put-fill-requires c κs = let s = c .before .before .before .before .before .before in let w = c .before .before .before .write-each in (s .pre .0 .1, omega (arith, s .pre .1, sized s, w .ensures .place, w .kept .1 .1 .1 .1 .1 .1 .1 .0))
+put-fill-requires c κs = let s = c .before .before .before .before .before .before in let w = c .before .before .before .write-turns in (s .pre .0 .1, omega (arith, s .pre .1, sized s, w .ensures .place, w .kept .1 .1 .1 .1 .0))
 
 shared-of-requires : tie.Need-shared-of-requires
 shared-of-requires c κs = search needs
@@ -32,11 +31,11 @@ write-shares-requires : tie.Need-write-shares-requires
 write-shares-requires c κs =
     let s = c .before .before .before .before .before .before .before .before .before .before .before in
     let a = s .args in
-    let w = c .before .before .before .before .before .before .before .before .write-each in
+    let w = c .before .before .before .before .before .before .before .before .write-turns in
     let f = c .before .before .before .before .put-fill in
     let e = c .before .shared-of .ensures in (
       (omega (arith, e .1, s .pre .0 .0), s .pre .0 .2),
-      rw (e .0) (omega (arith, s .pre .1, sized s, w .ensures .place, w .kept .1 .1 .1 .1 .1 .1 .1 .0, f .ensures .place, f .kept .0)),
+      rw (e .0) (omega (arith, s .pre .1, sized s, w .ensures .place, w .kept .1 .1 .1 .1 .0, f .ensures .place, f .kept .0)),
     )
 
 same-length : tie.Need-same-length
@@ -44,13 +43,13 @@ same-length c = search needs
 
 returns : tie.Need-returns
 unfolding placeFills
-returns c = wrote-append (c .before .before .before .before .before .before .before .before .before .before .before .write-each .ensures) (wrote-append (c .before .before .before .before .before .before .before .put-fill .ensures) (rw (c .before .before .before .before .shared-of .ensures .0) at (c .before .before .write-shares .ensures)))
+returns c = wrote-append (c .before .before .before .before .before .before .before .before .before .before .before .write-turns .ensures) (wrote-append (c .before .before .before .before .before .before .before .put-fill .ensures) (rw (c .before .before .before .before .shared-of .ensures .0) at (c .before .before .write-shares .ensures)))
 
 pub write-level-spec : {M : Type 1} → statement M
 write-level-spec =
     tie.close
     (tie.spec
-    write-each-requires
+    write-turns-requires
     put-fill-requires
     shared-of-requires
     write-shares-requires

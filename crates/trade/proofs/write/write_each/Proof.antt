@@ -1,4 +1,5 @@
-use mathlib.Core.Path.{_≡_, refl, ap}
+use mathlib.Core.Path.{_≡_, refl, ap, _∙_}
+use mathlib.Core.Bool.{true}
 use mathlib.Core.List.{_++_}
 use Prim.Native.Nat.{_+_, _*_, _^_, _≤_, _<_}
 use native.Mathlib.Omega.{arith}
@@ -7,27 +8,29 @@ use borrow.Author.Needs.{needs}
 use Rattle.words.specs.Bits.{withoutBit}
 use Rattle.words.proofs.BitLaws.{without-le, set-le}
 use Rattle.board.specs.Board.{noResponse, liveIn, inSequence}
+use Rattle.board.specs.Theorems.{RisingFrom}
 use Rattle.board.proofs.FirstLaws.{Best}
 use Rattle.share.specs.Fills.{fillOf}
 use Rattle.share.proofs.FillsLaws.{Left, left-start, left-turn, left-done}
 use Rattle.trade.specs.Code.{eachFills}
 use Rattle.trade.proofs.CodeLaws.{Turn, turn-of}
-use Rattle.trade.proofs.WriteLaws.{Pick, each-pick, each-none, hunt-start, hunt-step, hunt-end, gives-left}
+use Rattle.trade.proofs.WriteLaws.{Pick, each-pick, each-none, rising-without, unseen-le, hunt-start, hunt-step, hunt-end, gives-left}
 use lib.ListN.{length-append}
 use Rattle.trade.proofs.write.write_each.Statement.{statement}
 use Rattle.trade.proofs.write.write_each.Tie as tie
 
 abbrev Inv-loop : tie.InvT-loop
-Inv-loop word price turns amount total k out₀ at places w₀ left₀ rest₀ best₀ unseen₀ out w left rest best unseen =
+Inv-loop word price turns amount total k out₀ at places w₀ left₀ rest₀ best₀ sorted unseen₀ out w left rest best unseen =
     (rest < 2 ^ 64)
     × (unseen < 2 ^ 64)
     × (left ≤ 4294967295)
     × (length out ≡ length out₀)
     × (0 < rest → Best places rest best unseen)
+    × (sorted ≡ true → RisingFrom 0 (liveIn rest places))
     × Left out₀ at (eachFills price turns amount total k (inSequence (liveIn word places))) out w (eachFills price turns amount total left (inSequence (liveIn rest places)))
 
 abbrev μ-loop : tie.MeasureT-loop
-μ-loop word price turns amount total k out₀ at places w₀ left₀ rest₀ best₀ unseen₀ out w left rest best unseen =
+μ-loop word price turns amount total k out₀ at places w₀ left₀ rest₀ best₀ sorted unseen₀ out w left rest best unseen =
     rest * 18446744073709551616 + unseen
 
 first-set-requires : tie.Need-first-set-requires Inv-loop μ-loop
@@ -39,43 +42,52 @@ cast-best c = omega (arith, c .first-set .ensures, set-le 64 (c .before .before 
 without-bit-requires : tie.Need-without-bit-requires Inv-loop μ-loop
 without-bit-requires c κs = search needs
 
+in-order-requires : tie.Need-in-order-requires Inv-loop μ-loop
+in-order-requires c κs = c .without-bit .ensures ∙ ap (withoutBit (c .before .before .before .args .word)) (c .before .first-set .ensures)
+
+unseen-of-requires : tie.Need-unseen-of-requires Inv-loop μ-loop
+unseen-of-requires c κs = search needs
+
 len : (c : tie.Start Inv-loop μ-loop) → length (c .args .t1) ≡ 64
 len c = search needs
 
 -- the next place to look at
-look : (c : tie.After-first-set2 Inv-loop μ-loop) → Turn (c .before .before .before .before .before .before .before .args .t1) (c .before .before .before .loop .unseen) (c .first-set2 .result)
-look c = turn-of (c .before .before .before .before .before .before .before .args .t1) (c .before .before .before .loop .unseen) _ (len (c .before .before .before .before .before .before .before)) (omega arith) (c .before .before .before .loop .inv .1) (c .first-set2 .ensures)
+look : (c : tie.After-first-set2 Inv-loop μ-loop) → Turn (c .before .before .before .before .before .before .before .before .before .args .t1) (c .before .before .before .loop .unseen) (c .first-set2 .result)
+look c = turn-of (c .before .before .before .before .before .before .before .before .before .args .t1) (c .before .before .before .loop .unseen) _ (len (c .before .before .before .before .before .before .before .before .before)) (omega arith) (c .before .before .before .loop .inv .1) (c .first-set2 .ensures)
 
 -- where all were looked at, the place found is the next in sequence
-pick : (c : tie.Else1 Inv-loop μ-loop) → Pick (c .before .before .before .before .before .before .args .t1) (c .before .before .loop .rest) (c .before .before .loop .best)
+pick : (c : tie.Else1 Inv-loop μ-loop) → Pick (c .before .before .before .before .before .before .before .before .args .t1) (c .before .before .loop .rest) (c .before .before .loop .best)
 pick c =
     let l = c .before .before in
     let p : 0 < l .loop .rest = omega arith in
-    hunt-end (c .before .before .before .before .before .before .args .t1) (len (c .before .before .before .before .before .before)) (l .loop .rest) (l .loop .best) (l .loop .unseen) p (l .loop .inv .0) (c .if1 .left) (l .loop .inv .4 p)
+    hunt-end (c .before .before .before .before .before .before .before .before .args .t1) (len (c .before .before .before .before .before .before .before .before)) (l .loop .rest) (l .loop .best) (l .loop .unseen) p (l .loop .inv .0) (c .if1 .left) (l .loop .inv .4 p)
 
 -- what is still to be written: this response's fill, and the others'
 step : (c : tie.After-given Inv-loop μ-loop)
-    → eachFills (c .before .before .before .before .before .before .before .before .args .price) (c .before .before .before .before .before .before .before .before .args .turns) (c .before .before .before .before .before .before .before .before .args .amount) (c .before .before .before .before .before .before .before .before .args .total) (c .before .before .before .before .loop .left)
-    (inSequence (liveIn (c .before .before .before .before .loop .rest) (c .before .before .before .before .before .before .before .before .args .t1)))
-    ≡ fillOf (getD (c .before .before .before .before .before .before .before .before .args .t1) (c .before .before .before .before .loop .best) noResponse .sequence) (c .before .before .before .before .before .before .before .before .args .price) (c .given .result .quantity)
-    ++ eachFills (c .before .before .before .before .before .before .before .before .args .price) (c .before .before .before .before .before .before .before .before .args .turns) (c .before .before .before .before .before .before .before .before .args .amount) (c .before .before .before .before .before .before .before .before .args .total) (c .given .result .left)
-    (inSequence (liveIn (withoutBit (c .before .before .before .before .loop .rest) (c .before .before .before .before .loop .best)) (c .before .before .before .before .before .before .before .before .args .t1)))
+    → eachFills (c .before .before .before .before .before .before .before .before .before .before .args .price) (c .before .before .before .before .before .before .before .before .before .before .args .turns) (c .before .before .before .before .before .before .before .before .before .before .args .amount) (c .before .before .before .before .before .before .before .before .before .before .args .total) (c .before .before .before .before .loop .left)
+    (inSequence (liveIn (c .before .before .before .before .loop .rest) (c .before .before .before .before .before .before .before .before .before .before .args .t1)))
+    ≡ fillOf (getD (c .before .before .before .before .before .before .before .before .before .before .args .t1) (c .before .before .before .before .loop .best) noResponse .sequence) (c .before .before .before .before .before .before .before .before .before .before .args .price) (c .given .result .quantity)
+    ++ eachFills (c .before .before .before .before .before .before .before .before .before .before .args .price) (c .before .before .before .before .before .before .before .before .before .before .args .turns) (c .before .before .before .before .before .before .before .before .before .before .args .amount) (c .before .before .before .before .before .before .before .before .before .before .args .total) (c .given .result .left)
+    (inSequence (liveIn (withoutBit (c .before .before .before .before .loop .rest) (c .before .before .before .before .loop .best)) (c .before .before .before .before .before .before .before .before .before .before .args .t1)))
 step c =
     let l = c .before .before .before .before in
-    let a = c .before .before .before .before .before .before .before .before .args in
+    let a = c .before .before .before .before .before .before .before .before .before .before .args in
     each-pick (a .price) (a .turns) (a .amount) (a .total) (l .loop .left) (a .t1) (l .loop .rest) (l .loop .best) (c .given .result) (pick (c .before .before)) (c .given .ensures)
 
 loop-holds : tie.Need-loop-holds Inv-loop μ-loop
 loop-holds c =
-    let s = c .before .before .before in
+    let s = c .before .before .before .before .before in
     let a = s .args in
     let f : a .word < 2 ^ 64 = search needs in
-    let e = c .without-bit .ensures in (
+    let i = c .before .before .before .first-set in
+    let o = c .before .in-order in
+    let e = c .unseen-of .ensures in (
       f,
-      rw e (omega (arith, without-le (a .word) (c .before .first-set .result))),
+      rw e (omega (arith, unseen-le (o .result) (a .word) (i .result))),
       s .pre .0 .1,
       refl,
-      λ p. rw e (hunt-start (a .t1) (len s) (a .word) _ p f (c .before .first-set .ensures)),
+      λ p. rw e (hunt-start (a .t1) (len s) (o .result) (a .word) _ p f (i .ensures) (o .ensures)),
+      o .ensures,
       left-start _ _ _,
     )
 
@@ -86,10 +98,10 @@ cast-i : tie.Need-cast-i Inv-loop μ-loop
 cast-i c = omega (arith, look c .low)
 
 mul-sooner : tie.Need-mul-sooner Inv-loop μ-loop
-mul-sooner c = let l = c .before .before .before in omega (arith, l .loop .inv .4 (omega arith) .place, len (c .before .before .before .before .before .before .before))
+mul-sooner c = let l = c .before .before .before in omega (arith, l .loop .inv .4 (omega arith) .place, len (c .before .before .before .before .before .before .before .before .before))
 
 element-copy-out-sooner : tie.Need-element-copy-out-sooner Inv-loop μ-loop
-element-copy-out-sooner c = let l = c .before .before .before in omega (arith, l .loop .inv .4 (omega arith) .place, len (c .before .before .before .before .before .before .before))
+element-copy-out-sooner c = let l = c .before .before .before in omega (arith, l .loop .inv .4 (omega arith) .place, len (c .before .before .before .before .before .before .before .before .before))
 
 mul-sooner-2 : tie.Need-mul-sooner-2 Inv-loop μ-loop
 mul-sooner-2 c = omega (arith, look c .low)
@@ -110,7 +122,7 @@ loop-again : tie.Need-loop-again Inv-loop μ-loop
 loop-again c =
     let d = c .before .before in
     let l = d .before .before .before in
-    let s = l .before .before .before .before in
+    let s = l .before .before .before .before .before .before in
     let a = s .args in
     let e = c .without-bit2 .ensures in (
       l .loop .inv .0,
@@ -119,6 +131,7 @@ loop-again c =
       l .loop .inv .3,
       λ p. rw e (hunt-step (a .t1) (len s) (l .loop .rest) (l .loop .best) (l .loop .unseen) _ _ (omega arith) (l .loop .inv .1) (d .first-set2 .ensures) (c .before .sooner .ensures) (l .loop .inv .4 p)),
       l .loop .inv .5,
+      l .loop .inv .6,
     )
 
 mul-r : tie.Need-mul-r Inv-loop μ-loop
@@ -130,15 +143,15 @@ array-copy-out-r c = pick c .low
 given-requires : tie.Need-given-requires Inv-loop μ-loop
 given-requires c κs =
     let l = c .before .before .before in
-    let s = l .before .before .before .before in
+    let s = l .before .before .before .before .before .before in
     (s .pre .0 .0, l .loop .inv .2, s .pre .0 .2)
 
 put-fill-requires : tie.Need-put-fill-requires Inv-loop μ-loop
 put-fill-requires c κs =
     let g = c .before in
     let l = g .before .before .before .before in
-    let s = l .before .before .before .before in
-    (g .given .ensures .small, omega (arith, l .loop .inv .3, l .loop .inv .5 .place, s .pre .1, simp length-append at (ap length (step g))))
+    let s = l .before .before .before .before .before .before in
+    (g .given .ensures .small, omega (arith, l .loop .inv .3, l .loop .inv .6 .place, s .pre .1, simp length-append at (ap length (step g))))
 
 without-bit-requires-3 : tie.Need-without-bit-requires-3 Inv-loop μ-loop
 without-bit-requires-3 c κs = search needs
@@ -149,32 +162,36 @@ first-set-requires-3 c κs = search needs
 cast-best-2 : tie.Need-cast-best-2 Inv-loop μ-loop
 cast-best-2 c = omega (arith, c .first-set3 .ensures, set-le 64 (c .before .without-bit3 .result))
 
-without-bit-requires-4 : tie.Need-without-bit-requires-4 Inv-loop μ-loop
-without-bit-requires-4 c κs = search needs
+unseen-of-requires-2 : tie.Need-unseen-of-requires-2 Inv-loop μ-loop
+unseen-of-requires-2 c κs = search needs
 
 loop-less-2 : tie.Need-loop-less-2 Inv-loop μ-loop
 loop-less-2 c =
     let d = c .before .before .before .before .before .before .before .before .before in
     let r = c .before .before .without-bit3 in
-    omega (arith, rw (← r .ensures) at (pick d .less), rw (← c .without-bit4 .ensures) at (without-le (r .result) (c .before .first-set3 .result)), d .before .before .loop .inv .0)
+    omega (arith, rw (← r .ensures) at (pick d .less), c .unseen-of2 .ensures, unseen-le (d .before .before .before .before .in-order .result) (r .result) (c .before .first-set3 .result), d .before .before .loop .inv .0)
 
 loop-again-2 : tie.Need-loop-again-2 Inv-loop μ-loop
 loop-again-2 c =
     let g = c .before .before .before .before .before .before .before in
     let d = g .before .before in
     let l = d .before .before in
-    let s = l .before .before .before .before in
+    let s = l .before .before .before .before .before .before in
     let a = s .args in
+    let o = l .before .before .in-order .result in
     let r = c .before .before .without-bit3 in
     let f = c .before .before .before .before .before .put-fill in
-    let e = c .without-bit4 .ensures in
-    let small : r .result < 2 ^ 64 = rw (r .ensures) (omega (arith, without-le (l .loop .rest) (l .loop .best), l .loop .inv .0)) in (
+    let e = c .unseen-of2 .ensures in
+    let best = l .loop .inv .4 (omega arith) in
+    let small : r .result < 2 ^ 64 = rw (r .ensures) (omega (arith, without-le (l .loop .rest) (l .loop .best), l .loop .inv .0)) in
+    let rises : o ≡ true → RisingFrom 0 (liveIn (r .result) (a .t1)) = rw (r .ensures) (λ t. rising-without (a .t1) (l .loop .rest) (l .loop .best) (best .place) (best .set) (l .loop .inv .5 t)) in (
       small,
-      rw e (omega (arith, without-le (r .result) (c .before .first-set3 .result))),
+      rw e (omega (arith, unseen-le o (r .result) (c .before .first-set3 .result))),
       omega (arith, gives-left (a .turns) (a .amount) (a .total) (l .loop .left) _ (g .given .result) (g .given .ensures), l .loop .inv .2),
       omega (arith, f .kept .0, l .loop .inv .3),
-      λ p. rw e (hunt-start (a .t1) (len s) (r .result) _ p small (c .before .first-set3 .ensures)),
-      rw (r .ensures) (left-turn (rw (step g) at (l .loop .inv .5)) (f .ensures)),
+      λ p. rw e (hunt-start (a .t1) (len s) o (r .result) _ p small (c .before .first-set3 .ensures) rises),
+      rises,
+      rw (r .ensures) (left-turn (rw (step g) at (l .loop .inv .6)) (f .ensures)),
     )
 
 same-length : tie.Need-same-length Inv-loop μ-loop
@@ -184,7 +201,7 @@ returns : tie.Need-returns Inv-loop μ-loop
 returns c =
     let l = c .before in
     let z : l .loop .rest ≡ 0 = omega arith in
-    left-done (rw (z, each-none) at (l .loop .inv .5))
+    left-done (rw (z, each-none) at (l .loop .inv .6))
 
 pub write-each-spec : {M : Type 1} → statement M
 write-each-spec =
@@ -195,6 +212,8 @@ write-each-spec =
     first-set-requires
     cast-best
     without-bit-requires
+    in-order-requires
+    unseen-of-requires
     loop-holds
     first-set-requires-2
     cast-i
@@ -213,7 +232,7 @@ write-each-spec =
     without-bit-requires-3
     first-set-requires-3
     cast-best-2
-    without-bit-requires-4
+    unseen-of-requires-2
     loop-less-2
     loop-again-2
     same-length
