@@ -13,8 +13,8 @@ use Rattle.board.specs.Board.{findGtx, placed}
 use Rattle.tape.specs.declared.Event.{Event}
 use Rattle.tape.specs.Form.{eventFormed}
 use Rattle.auction.specs.Mirror.{buyEvent}
-use Rattle.auction.specs.Step.{isOpen, eventRefusal, outcomeOf, after, endedByTime, gives, carried, stepOf}
-use Rattle.auction.specs.Head.{headOf, wholeOf, headRefusal, headByTime, turnBy, stays, turnOf, outOfFormOf, turned, Heads}
+use Rattle.auction.specs.Step.{isOpen, eventRefusal, outcomeOf, after, endedByTime, gives, carried, stepOf, closeOf}
+use Rattle.auction.specs.Head.{headOf, wholeOf, headRefusal, headByTime, turnBy, stays, turnOf, outOfFormOf, turned, Heads, closeTurn}
 use Rattle.auction.specs.Code.{turnFor}
 use Rattle.auction.specs.declared.Auction.{Auction}
 use Rattle.auction.specs.declared.Terms.{Terms}
@@ -86,8 +86,16 @@ module _ (h : Head) (places : List Response) (e : Event) where
       go x true = refl
       go x false = refl
 
+closes : (h : Head) (places : List Response) → closeOf (wholeOf h places) ≡ turned (closeTurn h) places
+unfolding closeOf closeTurn endedByTime
+closes h places = go (isOpen (h .ending))
+  where
+    go : (b : Bool) → cond b (gives Late (endedByTime (wholeOf h places))) (gives (Refused 31) (wholeOf h places)) ≡ turned (cond b (stays Late (headByTime h)) (stays (Refused 31) h)) places
+    go true = refl
+    go false = refl
+
 pub heads : Heads
-heads = record { whole = λ a. refl; turns = λ h places found e. turns h places e found; out-of-form = out-of-form }
+heads = record { whole = λ a. refl; turns = λ h places found e. turns h places e found; out-of-form = out-of-form; closes = closes }
 
 -- the step, by its head and places
 pub step-turned : (a : Auction) (e : Event) → turned (turnFor (headOf a) (a .board) e) (a .board .places) ≡ stepOf a e

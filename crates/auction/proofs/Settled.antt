@@ -38,3 +38,6 @@ turn-of κs a = (tt, λ y z v w p q. (p ∙ sym q, refl))
 
 pub out-of-form : Settled contracts.turns.out_of_form.ended contracts.turns.out_of_form.Reads.Asked contracts.turns.out_of_form.Reads.Learnt
 out-of-form κs a = (tt, λ y z v w p q. (p ∙ sym q, refl))
+
+pub close-head : Settled contracts.turns.close_head.ended contracts.turns.close_head.Reads.Asked contracts.turns.close_head.Reads.Learnt
+close-head κs a = (tt, λ y z v w p q. (p ∙ sym q, refl))

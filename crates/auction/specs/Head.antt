@@ -11,7 +11,7 @@ use Rattle.board.specs.Board.{noResponse, findGtx}
 use Rattle.tape.specs.declared.Event.{Event}
 use Rattle.tape.specs.Form.{eventFormed}
 use Rattle.auction.specs.Mirror.{buyEvent}
-use Rattle.auction.specs.Step.{isOpen, outcomeOf, gives, stepOf}
+use Rattle.auction.specs.Step.{isOpen, outcomeOf, gives, stepOf, closeOf}
 use Rattle.auction.specs.declared.Auction.{Auction}
 use Rattle.auction.specs.declared.Head.{Head}
 use Rattle.auction.specs.declared.Turn.{Turn}
@@ -85,6 +85,10 @@ turnOf h found e =
 unfoldable pub outOfFormOf : Head → Turn
 outOfFormOf h = stays (Refused (cond (isOpen (h .ending)) 32 31)) h
 
+-- closing by hand, as an event at time L
+unfoldable pub closeTurn : Head → Turn
+closeTurn h = cond (isOpen (h .ending)) (stays Late (headByTime h)) (stays (Refused 31) h)
+
 -- ---- a turn on the places
 
 -- the places after it
@@ -102,3 +106,4 @@ pub record Heads : Type 0 where
   pub turns : (h : Head) (places : List Response) (found : ℕ) (e : Event) → eventFormed e ≡ true → (e .kind ≡ 2 → found ≡ findGtx (wholeOf h places .board) (e .f12))
       → stepOf (wholeOf h places) e ≡ turned (turnOf h found e) places
   pub out-of-form : (h : Head) (places : List Response) (e : Event) → eventFormed e ≡ false → stepOf (wholeOf h places) e ≡ turned (outOfFormOf h) places
+  pub closes : (h : Head) (places : List Response) → closeOf (wholeOf h places) ≡ turned (closeTurn h) places

@@ -3,14 +3,12 @@ ghost use mathlib.Core.Path.{_≡_};
 ghost use Rattle.auction.specs.Step.{stepOf, closeOf};
 ghost use Rattle.auction.specs.Head.{turned};
 ghost use Rattle.auction.specs.Code.{turnFor};
-use crate::Answer;
 use crate::Auction;
 use crate::Head;
 use crate::Stepped;
 use crate::Turn;
-use crate::turns::by_time;
+use crate::turns::close_head;
 use crate::turns::head_of;
-use crate::turns::is_open;
 use crate::turns::out_of_form;
 use crate::turns::turn_of;
 use crate::turns::whole;
@@ -57,17 +55,6 @@ pub fn step(a: Auction, e: Event) -> Stepped
 pub fn close(a: Auction) -> Stepped
     ensures { λ r. ⌜ r ≡ closeOf a ⌝ }
 {
-    let g = a.ending;
-    if is_open(g) {
-        let places = a.board.places;
-        let auction = whole(by_time(head_of(a)), places);
-        return Stepped {
-            answer: Answer::Late,
-            auction,
-        };
-    }
-    Stepped {
-        answer: Answer::Refused(31),
-        auction: a,
-    }
+    let places = a.board.places;
+    settle(close_head(head_of(a)), places)
 }

@@ -20,6 +20,7 @@ pub use fills::write_fills;
 pub use lent::apply;
 pub use lent::cancel;
 pub use orders::accept;
+pub use turns::close_head;
 pub use turns::head_of;
 pub use turns::out_of_form;
 pub use turns::turn_of;

@@ -2,7 +2,7 @@
 ghost use mathlib.Core.Path.{_≡_};
 ghost use mathlib.Core.Bool.{cond};
 ghost use Rattle.auction.specs.Step.{isOpen};
-ghost use Rattle.auction.specs.Head.{headOf, wholeOf, stays, headRefusal, headByTime, moved, taken, turnBy, turnOf, outOfFormOf};
+ghost use Rattle.auction.specs.Head.{headOf, wholeOf, stays, headRefusal, headByTime, moved, taken, turnBy, turnOf, outOfFormOf, closeTurn};
 use crate::Answer;
 use crate::Auction;
 use crate::Change;
@@ -118,7 +118,7 @@ fn refusal(h: Head, e: Event) -> u32
 }
 
 // The head that ends by time: nothing but its ending moves.
-pub(crate) fn by_time(h: Head) -> Head
+fn by_time(h: Head) -> Head
     ensures { λ r. ⌜ r ≡ headByTime h ⌝ }
 {
     let terms = h.terms;
@@ -211,6 +211,17 @@ pub fn out_of_form(h: Head) -> Turn
     let g = h.ending;
     if is_open(g) {
         return stay(Answer::Refused(32), h);
+    }
+    stay(Answer::Refused(31), h)
+}
+
+// Closing by hand: as an event at time L.
+pub fn close_head(h: Head) -> Turn
+    ensures { λ r. ⌜ r ≡ closeTurn h ⌝ }
+{
+    let g = h.ending;
+    if is_open(g) {
+        return stay(Answer::Late, by_time(h));
     }
     stay(Answer::Refused(31), h)
 }

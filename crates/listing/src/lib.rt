@@ -89,7 +89,7 @@ fn hear(h: Head, places: [Response; 64], r: ReadEvent) -> Turn
     }
 }
 
-// The auction after its records, and the place after their lines.
+// The auction after its records, closed, and the place after their lines.
 struct Heard {
     next: usize,
     auction: Auction,
@@ -106,7 +106,7 @@ fn put_events(
 ) -> Heard
     requires { ⌜ (at + 80 + events * 32 ≤ length (now tape)) × (length (now tape) ≤ 65536) × (start + 56 * events ≤ length (now out)) ⌝ }
     ensures { λ r. ⌜ Wrote (now (out .entry)) start (eventLines (answers events (drop (eventPlace at 0) (now (tape .entry))) a)) (r .next) (now (out .exit)) ⌝ }
-    ensures { λ r. ⌜ (r .auction ≡ heardAll events (drop (eventPlace at 0) (now (tape .entry))) a) × (r .next ≤ start + 56 * events) ⌝ }
+    ensures { λ r. ⌜ (r .auction ≡ closed (heardAll events (drop (eventPlace at 0) (now (tape .entry))) a)) × (r .next ≤ start + 56 * events) ⌝ }
 {
     let mut places = a.board.places;
     let mut h = auction::head_of(a);
@@ -125,9 +125,10 @@ fn put_events(
         h = t.head;
         k += 1;
     }
+    let c = auction::close_head(h);
     Heard {
         next: w,
-        auction: auction::whole(h, places),
+        auction: auction::whole(c.head, places),
     }
 }
 
@@ -148,8 +149,7 @@ fn list_auction(tape: &[u8], at: usize, events: usize, a: Auction, out: &mut [u8
 {
     let w = put_auction(out, 0, a);
     let h = put_events(tape, at, events, a, out, w);
-    let c = auction::close(h.auction);
-    let last = c.auction;
+    let last = h.auction;
     let n = put_results(out, h.next, last);
     Listed::Ended {
         ending: auction::ending_of(last),
