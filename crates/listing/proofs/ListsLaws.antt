@@ -8,11 +8,9 @@ use lib.ListN.{length}
 use Rattle.words.proofs.ByteLaws.{sets-front}
 use Rattle.auction.specs.declared.Auction.{Auction}
 use Rattle.auction.specs.declared.Ending.{Ending}
-use Rattle.auction.specs.declared.Stepped.{Stepped}
-use Rattle.auction.specs.Step.{closeOf}
 use Rattle.listing.specs.declared.Listed.{Listed}
 use Rattle.listing.specs.declared.Listed.the-variants.{Short, Ended as Auctioned}
-use Rattle.listing.specs.Run.{Said, Run, ended, closed, runOf}
+use Rattle.listing.specs.Run.{Said, Run, ended, runOf}
 use Rattle.listing.specs.Listing.{auctionLine, eventLines, endLines, linesOf, listingOf, roomOf, answerOf, listedOf, bytesOf}
 use Rattle.listing.proofs.WroteLaws.{wrote-append}
 use Rattle.listing.proofs.LengthLaws.{listing-fits}
@@ -27,13 +25,12 @@ pub lists-same : {xs ys : List ℕ} {r : Listed} {other : Run} (run : Run) → L
 lists-same {xs} {ys} {r} run l e = subst (λ u. Lists u xs r ys) e l
 
 -- an auction: its opening, its records, and the end of what closing by hand gave
-pub auction-lists : {ws xs ys zs : List ℕ} {u v n : ℕ} {a : Auction} {es : List Said} (g : Ending) (t : Stepped) (b m : Auction) → Wrote ws 0 (auctionLine a) u xs → Wrote xs u (eventLines es) v ys
-    → Wrote ys v (endLines (t .auction)) n zs → g ≡ t .auction .ending → t ≡ closeOf b → b ≡ m → Lists (ended a es (closed m)) ws (Auctioned g n) zs
-auction-lists {ws} {xs} {ys} {zs} {u} {v} {n} {a} {es} g t b m p q r eg et em =
-    let last : t .auction ≡ closed m = ap (λ s. s .auction) et ∙ ap closed em in
-    subst (λ h. Lists (ended a es (closed m)) ws (Auctioned h n) zs) (sym eg)
-    (subst (λ c. Lists (ended a es c) ws (Auctioned (t .auction .ending) n) zs) last
-    (wrote-lists (ended a es (t .auction)) (wrote-append p (wrote-append q r))))
+pub auction-lists : {ws xs ys zs : List ℕ} {u v n : ℕ} {a : Auction} {es : List Said} (g : Ending) (b c : Auction) → Wrote ws 0 (auctionLine a) u xs → Wrote xs u (eventLines es) v ys
+    → Wrote ys v (endLines b) n zs → g ≡ b .ending → b ≡ c → Lists (ended a es c) ws (Auctioned g n) zs
+auction-lists {ws} {xs} {ys} {zs} {u} {v} {n} {a} {es} g b c p q r eg eb =
+    subst (λ h. Lists (ended a es c) ws (Auctioned h n) zs) (sym eg)
+    (subst (λ x. Lists (ended a es x) ws (Auctioned (b .ending) n) zs) eb
+    (wrote-lists (ended a es b) (wrote-append p (wrote-append q r))))
 
 -- ---- the whole listing
 

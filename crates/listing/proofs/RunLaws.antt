@@ -27,7 +27,7 @@ use Rattle.auction.specs.Step.{isOpen, gives, endedByTime, closeOf}
 use Rattle.auction.specs.declared.Answer.the-variants.{Late, Refused}
 use Rattle.auction.specs.declared.Head.{Head}
 use Rattle.auction.specs.declared.Turn.{Turn}
-use Rattle.auction.specs.Head.{wholeOf, outOfFormOf, placesAfter, turned}
+use Rattle.auction.specs.Head.{wholeOf, stays, headByTime, outOfFormOf, closeTurn, placesAfter, turned}
 use Rattle.auction.proofs.HeadLaws.{heads}
 use Rattle.auction.specs.Fills.{hasEnded}
 use Rattle.listing.specs.Run.{Said, said, heard, answers, heardAll, closed}
@@ -55,6 +55,15 @@ closed-ended a = go (isOpen (a .ending)) refl
     go : (b : Bool) → isOpen (a .ending) ≡ b → not (isOpen (cond b (gives Late (endedByTime a)) (gives (Refused 31) a) .auction .ending)) ≡ true
     go true e = refl
     go false e = rw e
+
+-- a head that was closed by hand, and places, are the auction closed by hand
+pub whole-closed : (h : Head) (places : List Response) (t : Turn) → t ≡ closeTurn h → wholeOf (t .head) places ≡ closed (wholeOf h places)
+unfolding closeOf closeTurn endedByTime
+whole-closed h places t e = ap (λ (u : Turn). wholeOf (u .head) places) e ∙ go (isOpen (h .ending))
+  where
+    go : (b : Bool) → wholeOf (cond b (stays Late (headByTime h)) (stays (Refused 31) h) .head) places ≡ cond b (gives Late (endedByTime (wholeOf h places))) (gives (Refused 31) (wholeOf h places)) .auction
+    go true = refl
+    go false = refl
 
 -- a turn of a record that was read does what the record does to the whole auction
 pub hears : (s : List ℕ) (h : Head) (places : List Response) (r : ReadEvent) (t : Turn) → r ≡ readEvent s → t ≡ heardTurn h places r → turned t places ≡ heard (wholeOf h places) r

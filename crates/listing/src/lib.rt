@@ -6,7 +6,7 @@ ghost use Rattle.tape.specs.Records.{readOrder};
 ghost use Rattle.tape.specs.Tape.{eventPlace};
 ghost use Rattle.board.specs.Board.{findGtx};
 ghost use Rattle.auction.specs.Head.{wholeOf, turnOf};
-ghost use Rattle.listing.specs.Run.{answers, heardAll, refused, runEntry, runOrder};
+ghost use Rattle.listing.specs.Run.{answers, heardAll, closed, refused, runEntry, runOrder};
 ghost use Rattle.listing.specs.Listing.{eventLines, roomOf, lengthIn, listedOf, bytesOf};
 ghost use Rattle.listing.specs.Code.{foundFor, heardTurn, Lists, Wrote};
 use auction::Auction;

@@ -10,7 +10,8 @@ use Rattle.auction.specs.declared.Head.{Head}
 use Rattle.auction.specs.Head.{wholeOf, placesAfter}
 use Rattle.listing.specs.Listing.{eventLines}
 use Rattle.listing.proofs.WroteLaws.{wrote-same, Left, left-start, left-wrote, left-same, left-done}
-use Rattle.listing.proofs.RunLaws.{answersFrom, heardFrom, answers-all, heard-all, place-set, place-kept, events-turn, heard-turn, answers-none, heard-none}
+use Rattle.listing.specs.Run.{closed}
+use Rattle.listing.proofs.RunLaws.{whole-closed, answersFrom, heardFrom, answers-all, heard-all, place-set, place-kept, events-turn, heard-turn, answers-none, heard-none}
 use Rattle.listing.proofs.put_events.Statement.{statement}
 use Rattle.listing.proofs.put_events.Tie as tie
 
@@ -81,6 +82,9 @@ loop-again c =
       heard-turn s (a .at) (a .events) (l .k) (w .result) (l .h) (l .places) (c .before .if1 .places) (r .result) (t .result) (w .ensures) (r .ensures) (t .ensures) p k ∙ l .inv .4,
     )
 
+close-head-requires : tie.Need-close-head-requires Inv-loop μ-loop
+close-head-requires c κs = search needs
+
 whole-requires : tie.Need-whole-requires Inv-loop μ-loop
 whole-requires c κs = search needs
 
@@ -89,13 +93,13 @@ same-length c = search needs
 
 returns : tie.Need-returns Inv-loop μ-loop
 returns c =
-    let a = c .before .before .before .before .before .before .before .args in
-    let l = c .before .before .loop in
+    let a = c .before .before .before .before .before .before .before .before .args in
+    let l = c .before .before .before .loop in
     let s = now (a .tape) in
-    let e : wholeOf (c .before .before .before .head-of .result) (a .a .board .places) ≡ a .a = ap (λ (h : Head). wholeOf h (a .a .board .places)) (c .before .before .before .head-of .ensures) in (
+    let e : wholeOf (c .before .before .before .before .head-of .result) (a .a .board .places) ≡ a .a = ap (λ (h : Head). wholeOf h (a .a .board .places)) (c .before .before .before .before .head-of .ensures) in (
       wrote-same (left-done (left-same (l .inv .3) (ap eventLines (answers-none s (a .at) (a .events) (l .k) (wholeOf (l .h) (l .places)) (omega arith)))))
           (ap (λ (x : Auction). eventLines (answersFrom s (a .at) (a .events) 0 x)) e ∙ ap eventLines (sym (answers-all s (a .at) (a .events) (a .a)))),
-      (c .whole .ensures ∙ sym (heard-none s (a .at) (a .events) (l .k) (wholeOf (l .h) (l .places)) (omega arith)) ∙ l .inv .4 ∙ ap (heardFrom s (a .at) (a .events) 0) e ∙ sym (heard-all s (a .at) (a .events) (a .a)), omega arith),
+      (c .whole .ensures ∙ whole-closed (l .h) (l .places) (c .before .close-head .result) (c .before .close-head .ensures) ∙ ap closed (sym (heard-none s (a .at) (a .events) (l .k) (wholeOf (l .h) (l .places)) (omega arith)) ∙ l .inv .4 ∙ ap (heardFrom s (a .at) (a .events) 0) e ∙ sym (heard-all s (a .at) (a .events) (a .a))), omega arith),
     )
 
 pub put-events-spec : {M : Type 1} → statement M
@@ -118,6 +122,7 @@ put-events-spec =
     add-k
     loop-less
     loop-again
+    close-head-requires
     whole-requires
     same-length
     returns)
