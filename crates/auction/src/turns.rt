@@ -220,8 +220,8 @@ pub fn close_head(h: Head) -> Turn
     ensures { λ r. ⌜ r ≡ closeTurn h ⌝ }
 {
     let g = h.ending;
-    if is_open(g) {
-        return stay(Answer::Late, by_time(h));
+    if !is_open(g) {
+        return stay(Answer::Refused(31), h);
     }
-    stay(Answer::Refused(31), h)
+    stay(Answer::Late, by_time(h))
 }
