@@ -207,8 +207,8 @@ fn write_all(d: Deal, b: Board, out: &mut [u32]) -> usize
     let size = numbers::wide(d.size);
     let takes = numbers::lesser(size, numbers::wide(d.selling));
     let left = size - takes;
-    let at = write_market(d, places, b.live, takes, out);
     let g = numbers::guarantee_of(size, bits::ones(b.live));
+    let at = write_market(d, places, b.live, takes, out);
     write_walk(d, places, b.live, g, left, out, at)
 }
 

@@ -42,14 +42,14 @@ lesser-requires c κs = search needs
 sub-left : tie.Need-sub-left
 sub-left c = search needs
 
-write-market-requires : tie.Need-write-market-requires
-write-market-requires c κs = (omega (arith, c .before .lesser .ensures, c .before .before .before .wide .ensures .1), omega (arith, c .before .before .before .before .before .before .pre))
-
 ones-requires : tie.Need-ones-requires
 ones-requires c κs = search needs
 
 guarantee-of-requires : tie.Need-guarantee-of-requires
 guarantee-of-requires c κs = search needs
+
+write-market-requires : tie.Need-write-market-requires
+write-market-requires c κs = (omega (arith, c .before .before .before .lesser .ensures, c .before .before .before .before .before .wide .ensures .1), omega (arith, c .before .before .before .before .before .before .before .before .pre))
 
 write-walk-requires : tie.Need-write-walk-requires
 write-walk-requires c κs =
@@ -57,8 +57,9 @@ write-walk-requires c κs =
     let a = s .args in
     let f = fills-are (c .before .before .before .before .before .before .before) in
     let z = c .before .before .before .before .before .before .before .before .before .wide .ensures in
-    let w = c .before .before .before .before .before .write-market in (
-      (omega (arith, z .1), c .before .guarantee-of .ensures .1, guarantee-found (a .d) (a .b .places) (a .b .live) _ _ _ (len s) (z .0) (c .before .before .ones .ensures) (c .before .guarantee-of .ensures .0)),
+    let g = c .before .before .before .before .before .guarantee-of .ensures in
+    let w = c .before .before .before .write-market in (
+      (omega (arith, z .1), g .1, guarantee-found (a .d) (a .b .places) (a .b .live) _ _ _ (len s) (z .0) (c .before .before .before .before .before .before .ones .ensures) (g .0)),
       omega (arith, s .pre, fills-few (a .d) (a .b) (len s), simp length-append at (ap length f), w .ensures .place, w .kept .1 .1 .1 .1 .0),
     )
 
@@ -67,7 +68,7 @@ same-length c = search needs
 
 returns : tie.Need-returns
 returns c =
-    rw (fills-are (c .before .before .before .before .before .before .before .before .before .before)) (wrote-append (c .before .before .before .before .before .before .before .before .write-market .ensures) (c .before .before .write-walk .ensures))
+    rw (fills-are (c .before .before .before .before .before .before .before .before .before .before)) (wrote-append (c .before .before .before .before .before .before .write-market .ensures) (c .before .before .write-walk .ensures))
 
 pub write-all-spec : {M : Type 1} → statement M
 write-all-spec =
@@ -77,9 +78,9 @@ write-all-spec =
     wide-requires-2
     lesser-requires
     sub-left
-    write-market-requires
     ones-requires
     guarantee-of-requires
+    write-market-requires
     write-walk-requires
     same-length
     returns)
