@@ -63,12 +63,12 @@ guarantee-found d ps live size n g l z e f =
     let c : onesIn 64 live ≡ length (liveIn live ps) = ap (λ (k : ℕ). onesIn k live) (sym l) ∙ count-live live ps in
     f ∙ ap₂ guaranteeOf z (e ∙ c ∙ sym (length-sequence (liveIn live ps)))
 
-pub all-fills : (d : Deal) (b : Board) (price takes left : ℕ) → price ≡ shown (d .sell) (marketPrice d (offers b)) → takes ≡ min (d .size) (d .selling) → left ≡ d .size - takes
-    → fillsOf d b ≡ fillOf (d .market) price takes ++ reported (d .sell) (flat (walkFrom d (offers b) 0 left 0))
+pub all-fills : (d : Deal) (b : Board) (takes left : ℕ) → takes ≡ min (d .size) (d .selling) → left ≡ d .size - takes
+    → fillsOf d b ≡ fillOf (d .market) (shown (d .sell) (marketPrice d (offers b))) takes ++ reported (d .sell) (flat (walkFrom d (offers b) 0 left 0))
 unfolding fillsOf fills
-all-fills d b price takes left e f g =
+all-fills d b takes left f g =
     reported-append (d .sell) (marketFill d (offers b)) (flat (levels d (offers b)))
-    ∙ ap₂ {C = List Fill} (λ x y. x ++ y) (reported-fill (d .sell) (d .market) (marketPrice d (offers b)) (marketTakes d (offers b)) ∙ ap₂ {C = List Fill} (λ (p q : ℕ). fillOf (d .market) p q) (sym e) (sym f))
+    ∙ ap₂ {C = List Fill} (λ x y. x ++ y) (reported-fill (d .sell) (d .market) (marketPrice d (offers b)) (marketTakes d (offers b)) ∙ ap {B = List Fill} (λ (q : ℕ). fillOf (d .market) (shown (d .sell) (marketPrice d (offers b))) q) (sym f))
     (ap (λ (ls : List Level). reported (d .sell) (flat ls)) (from-start d (offers b) ∙ ap (λ (n : ℕ). walkFrom d (offers b) 0 n 0) (ap (λ (n : ℕ). d .size - n) (sym f) ∙ sym g)))
 
 pub fills-few : (d : Deal) (b : Board) → length (b .places) ≡ 64 → length (fillsOf d b) ≤ 130

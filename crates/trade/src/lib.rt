@@ -4,9 +4,9 @@ ghost use Prim.Native.Nat.{_+_, _*_, _≤_, _<_};
 ghost use lib.ListN.{length};
 ghost use Rattle.board.specs.Board.{liveIn, inSequence};
 ghost use Rattle.board.specs.Lists.{sum};
-ghost use Rattle.share.specs.Fills.{sizes, Wrote};
+ghost use Rattle.share.specs.Fills.{fillOf, sizes, Wrote};
 ghost use Rattle.trade.specs.Trade.{levelFills, flat, marketPrice, guarantee};
-ghost use Rattle.trade.specs.Write.{reported, fillsOf, answer, after};
+ghost use Rattle.trade.specs.Write.{shown, reported, fillsOf, answer, after};
 ghost use Rattle.trade.specs.Code.{sharedOf, placeFills, levelOf, Looks, Stepped, walkFrom};
 use board::Board;
 use board::Response;
@@ -186,6 +186,18 @@ fn market_price(d: Deal, places: [Response; 64], live: u64) -> u64
     numbers::lesser(lowest, numbers::working(d.stop, d.bound))
 }
 
+// The fill of the market order that ended the auction, at the first of the lent words. Where it takes nothing there is none, and no price is looked for.
+fn write_market(d: Deal, places: [Response; 64], live: u64, takes: u64, out: &mut [u32]) -> usize
+    requires { ⌜ (takes ≤ 4294967295) × (3 ≤ length (now out)) ⌝ }
+    ensures { λ r. ⌜ Wrote (now (out .entry)) 0 (fillOf (d .market) (shown (d .sell) (marketPrice d (inSequence (liveIn live places)))) takes) r (now (out .exit)) ⌝ }
+{
+    if takes == 0 {
+        return 0;
+    }
+    let price = numbers::shown_price(d.sell, market_price(d, places, live));
+    write::put_fill(out, 0, d.market, price, takes)
+}
+
 // All the fills, from the first of the lent words on. Answers the place after them.
 fn write_all(d: Deal, b: Board, out: &mut [u32]) -> usize
     requires { ⌜ 390 ≤ length (now out) ⌝ }
@@ -195,9 +207,8 @@ fn write_all(d: Deal, b: Board, out: &mut [u32]) -> usize
     let size = numbers::wide(d.size);
     let takes = numbers::lesser(size, numbers::wide(d.selling));
     let left = size - takes;
-    let price = numbers::shown_price(d.sell, market_price(d, places, b.live));
-    let at = write::put_fill(out, 0, d.market, price, takes);
     let g = numbers::guarantee_of(size, bits::ones(b.live));
+    let at = write_market(d, places, b.live, takes, out);
     write_walk(d, places, b.live, g, left, out, at)
 }
 

@@ -5,7 +5,7 @@ use native.Mathlib.Omega.{arith}
 use lib.ListN.{length}
 use Rattle.trade.proofs.WholeLaws.{guarantee-found, all-fills, fills-few}
 use Rattle.trade.specs.Code.{walkFrom}
-use Rattle.trade.specs.Trade.{offers, flat}
+use Rattle.trade.specs.Trade.{offers, flat, marketPrice}
 use Rattle.trade.specs.Write.{shown, reported, fillsOf}
 use Rattle.share.specs.Fills.{fillOf}
 use Rattle.share.proofs.FillsLaws.{wrote-append}
@@ -19,16 +19,16 @@ len : (c : tie.Start) → length (c .args .b .places) ≡ 64
 len c = search (needs, length-mapped)
 
 -- all the fills: the market order's, and those of the walk
-fills-are : (c : tie.After-put-fill-arg)
-    → fillsOf (c .before .before .before .before .before .before .before .before .args .d) (c .before .before .before .before .before .before .before .before .args .b)
-    ≡ fillOf (c .before .before .before .before .before .before .before .before .args .d .market) (c .before .shown-price .result) (c .before .before .before .lesser .result)
-    ++ reported (c .before .before .before .before .before .before .before .before .args .d .sell) (flat (walkFrom (c .before .before .before .before .before .before .before .before .args .d) (offers (c .before .before .before .before .before .before .before .before .args .b)) 0 (c .before .before .before .before .before .wide .result - c .before .before .before .lesser .result) 0))
+fills-are : (c : tie.After-lesser)
+    → fillsOf (c .before .before .before .before .before .args .d) (c .before .before .before .before .before .args .b)
+    ≡ fillOf (c .before .before .before .before .before .args .d .market) (shown (c .before .before .before .before .before .args .d .sell) (marketPrice (c .before .before .before .before .before .args .d) (offers (c .before .before .before .before .before .args .b)))) (c .lesser .result)
+    ++ reported (c .before .before .before .before .before .args .d .sell) (flat (walkFrom (c .before .before .before .before .before .args .d) (offers (c .before .before .before .before .before .args .b)) 0 (c .before .before .wide .result - c .lesser .result) 0))
 fills-are c =
-    let a = c .before .before .before .before .before .before .before .before .args in
-    let z = c .before .before .before .before .before .wide .ensures .0 in
-    all-fills (a .d) (a .b) _ _ _ (c .before .shown-price .ensures ∙ ap (shown (a .d .sell)) (c .before .before .market-price .ensures .0))
-    (c .before .before .before .lesser .ensures ∙ ap₂ (λ (x y : ℕ). min x y) z (c .before .before .before .before .wide2 .ensures .0))
-    (ap (λ (n : ℕ). n - c .before .before .before .lesser .result) z)
+    let a = c .before .before .before .before .before .args in
+    let z = c .before .before .wide .ensures .0 in
+    all-fills (a .d) (a .b) _ _
+    (c .lesser .ensures ∙ ap₂ (λ (x y : ℕ). min x y) z (c .before .wide2 .ensures .0))
+    (ap (λ (n : ℕ). n - c .lesser .result) z)
 
 wide-requires : tie.Need-wide-requires
 wide-requires c κs = search needs
@@ -42,34 +42,25 @@ lesser-requires c κs = search needs
 sub-left : tie.Need-sub-left
 sub-left c = search needs
 
-market-price-requires : tie.Need-market-price-requires
-market-price-requires c κs = search needs
-
-shown-price-requires : tie.Need-shown-price-requires
-shown-price-requires c κs = search needs
-
-put-fill-requires : tie.Need-put-fill-requires
-put-fill-requires c κs =
-    let s = c .before .before .before .before .before .before .before .before in
-    let a = s .args in
-    let f = fills-are c in
-    (omega (arith, c .before .before .before .lesser .ensures, c .before .before .before .before .before .wide .ensures .1), omega (arith, s .pre, fills-few (a .d) (a .b) (len s), simp length-append at (ap length f)))
-
 ones-requires : tie.Need-ones-requires
 ones-requires c κs = search needs
 
 guarantee-of-requires : tie.Need-guarantee-of-requires
 guarantee-of-requires c κs = search needs
 
+write-market-requires : tie.Need-write-market-requires
+write-market-requires c κs = (omega (arith, c .before .before .before .lesser .ensures, c .before .before .before .before .before .wide .ensures .1), omega (arith, c .before .before .before .before .before .before .before .before .pre))
+
 write-walk-requires : tie.Need-write-walk-requires
 write-walk-requires c κs =
-    let s = c .before .before .before .before .before .before .before .before .before .before .before .before .before .before in
+    let s = c .before .before .before .before .before .before .before .before .before .before .before .before in
     let a = s .args in
-    let p = c .before .before .before .before .before .before in
-    let f = fills-are p in
-    let w = c .before .before .before .before .before .put-fill in (
-      (omega (arith, c .before .before .before .before .before .before .before .before .before .before .before .wide .ensures .1), c .before .guarantee-of .ensures .1, guarantee-found (a .d) (a .b .places) (a .b .live) _ _ _ (len s) (c .before .before .before .before .before .before .before .before .before .before .before .wide .ensures .0) (c .before .before .ones .ensures) (c .before .guarantee-of .ensures .0)),
-      omega (arith, s .pre, fills-few (a .d) (a .b) (len s), simp length-append at (ap length f), w .ensures .place, w .kept .0),
+    let f = fills-are (c .before .before .before .before .before .before .before) in
+    let z = c .before .before .before .before .before .before .before .before .before .wide .ensures in
+    let g = c .before .before .before .before .before .guarantee-of .ensures in
+    let w = c .before .before .before .write-market in (
+      (omega (arith, z .1), g .1, guarantee-found (a .d) (a .b .places) (a .b .live) _ _ _ (len s) (z .0) (c .before .before .before .before .before .before .ones .ensures) (g .0)),
+      omega (arith, s .pre, fills-few (a .d) (a .b) (len s), simp length-append at (ap length f), w .ensures .place, w .kept .1 .1 .1 .1 .0),
     )
 
 same-length : tie.Need-same-length
@@ -77,7 +68,7 @@ same-length c = search needs
 
 returns : tie.Need-returns
 returns c =
-    rw (fills-are (c .before .before .before .before .before .before .before .before .before)) (wrote-append (c .before .before .before .before .before .before .before .before .put-fill .ensures) (c .before .before .write-walk .ensures))
+    rw (fills-are (c .before .before .before .before .before .before .before .before .before .before)) (wrote-append (c .before .before .before .before .before .before .write-market .ensures) (c .before .before .write-walk .ensures))
 
 pub write-all-spec : {M : Type 1} → statement M
 write-all-spec =
@@ -87,11 +78,9 @@ write-all-spec =
     wide-requires-2
     lesser-requires
     sub-left
-    market-price-requires
-    shown-price-requires
-    put-fill-requires
     ones-requires
     guarantee-of-requires
+    write-market-requires
     write-walk-requires
     same-length
     returns)
