@@ -79,6 +79,13 @@ static void responses(int n, int prices, uint32_t size)
         respond(size + (uint32_t)i % 7, prices ? 910 + (uint32_t)i : 950);
 }
 
+/* The first response is cancelled and comes again: it takes the first place with the last sequence. */
+static void out_of_order(uint32_t size)
+{
+    add(build_cancel(++sequence, 1, FIRST + 1));
+    respond(size, 950);
+}
+
 static void tape(uint32_t mode)
 {
     struct peer_order o = order_of(mode);
@@ -181,19 +188,22 @@ static int make(const char *name)
         for (i = 0; i < 1000; i++)
             add(build_gtx(FIRST + 1, 1, PEER_SELL, 100, 950, 0));
         tape(PEER_STOP);
-    } else if (IS("shared")) {                      /* at one price, more than the order: pro rata */
-        responses(n, 0, 10000 / (uint32_t)n + 50);
-        tape(PEER_MATCH);
-    } else if (IS("shared_market")) {
+    } else if (IS("shared") || IS("shared_market")) {       /* at one price, more than the order: pro rata */
         responses(n, 0, 10000 / (uint32_t)(n ? n : 1) + 50);
-        all_to_market();
+        if (IS("shared_market"))
+            all_to_market();
         tape(PEER_MATCH);
-    } else if (IS("priced")) {                      /* each at its own price, less than the order: every price trades */
-        responses(n, 1, 60);
+    } else if (IS("crossed") || IS("crossed_market")) {    /* the same, and the first place has the last sequence */
+        responses(n, 0, 10000 / (uint32_t)(n ? n : 1) + 50);
+        if (n)
+            out_of_order(10000 / (uint32_t)n + 50);
+        if (IS("crossed_market"))
+            all_to_market();
         tape(PEER_MATCH);
-    } else if (IS("priced_market")) {
+    } else if (IS("priced") || IS("priced_market")) {       /* each at its own price, less than the order: every price trades */
         responses(n, 1, 60);
-        all_to_market();
+        if (IS("priced_market"))
+            all_to_market();
         tape(PEER_MATCH);
     } else if (IS("refused")) {
         length[0] = 0;
@@ -214,6 +224,7 @@ static int make(const char *name)
 static const char *const cases[] = {
     "refused", "order", "standing-0", "standing-8", "standing-63", "quotes-0", "quotes-8", "quotes-63", "pairs-0", "pairs-8", "pairs-63",
     "limits-8", "resent-8", "shared-1", "shared-8", "shared-64", "shared_market-0", "shared_market-1", "shared_market-8", "shared_market-64",
+    "crossed-8", "crossed-64", "crossed_market-0", "crossed_market-8", "crossed_market-64",
     "priced-1", "priced-8", "priced-64", "priced_market-0", "priced_market-1", "priced_market-8", "priced_market-64", "no_responses", "mixed", "batch",
 };
 #define N_CASES (sizeof cases / sizeof cases[0])
