@@ -1,13 +1,13 @@
 -- What the writers' proofs lean on: their fills, a response at a time.
 use mathlib.Core.Path.{_≡_, refl, sym, ap, ap₂, _∙_}
-use mathlib.Core.Bool.{Bool, true, false, cond, true≢false}
+use mathlib.Core.Bool.{Bool, true, false, cond, _&&_, true≢false, false≢true}
 use mathlib.Core.Logic.{⊎-elim}
 use mathlib.Core.List.{List, [], _∷_, _++_}
 use Prim.Native.Nat.{ℕ, zero, suc, _+_, _-_, _*_, _/_, _^_, _≤_, _<_, min}
 use native.Mathlib.Nat.{mul-zero, zero-div}
 use native.Mathlib.Omega.{arith}
-use borrow.Author.Tests.{le-leb, lt-leb, lt-ltb}
-use lib.Dec.{ltb}
+use borrow.Author.Tests.{leb-true, le-leb, lt-leb, lt-ltb}
+use lib.Dec.{leb, ltb}
 use lib.ListN.{length, getD}
 use lib.Pow.{pow-pos}
 use Rattle.words.specs.Bits.{bitAt, withoutBit, setIn}
@@ -25,7 +25,7 @@ use Rattle.board.proofs.FirstLaws.{some-first, first-earliest, earliest-sequenc
 use Rattle.share.specs.Share.{floors, leftover, shares, inTurn}
 use Rattle.share.specs.Fills.{fillOf, sizes}
 use Rattle.share.proofs.ShareLaws.{room, floors-at-most}
-use Rattle.trade.specs.Code.{eachFills, dealt, shareFills, Gives}
+use Rattle.trade.specs.Code.{eachFills, dealt, shareFills, isRising, Gives}
 use Rattle.trade.specs.declared.Given.{Given}
 use Rattle.trade.proofs.CodeLaws.{cut-less, Turn, turn-of}
 
@@ -129,16 +129,22 @@ parts-le R T xs e h = rw e (floors-at-most R (sizes xs) (omega arith))
 
 -- ---- places that stand in rising order of sequence
 
-pub rising-none : (ps : List Response) (m : ℕ) → RisingFrom m (liveIn 0 ps)
-rising-none ps m = rw (none-live ps) tt
+pub rising-none : (ps : List Response) (m : ℕ) → isRising m (liveIn 0 ps) ≡ true
+unfolding isRising
+rising-none ps m = rw (none-live ps)
 
 -- m is the sequence of the place before i
 pub rising-turn : (ps : List Response) (rest i m : ℕ) → Turn ps rest i → m ≤ getD ps i noResponse .sequence
-    → RisingFrom (getD ps i noResponse .sequence) (liveIn (withoutBit rest i) ps) → RisingFrom m (liveIn rest ps)
-rising-turn ps rest i m t h r = rw (t .cons) (h, r)
+    → isRising m (liveIn rest ps) ≡ isRising (getD ps i noResponse .sequence) (liveIn (withoutBit rest i) ps)
+unfolding isRising
+rising-turn ps rest i m t h = rw (t .cons, le-leb m (getD ps i noResponse .sequence) h)
+
+pub rising-not : (ps : List Response) (rest i m : ℕ) → Turn ps rest i → getD ps i noResponse .sequence < m → isRising m (liveIn rest ps) ≡ false
+unfolding isRising
+rising-not ps rest i m t h = rw (t .cons, lt-leb m (getD ps i noResponse .sequence) h)
 
 -- one alone does
-pub rising-one : (ps : List Response) (word : ℕ) → length ps ≡ 64 → word < 2 ^ 64 → withoutBit word (setIn 64 word) ≡ 0 → RisingFrom 0 (liveIn word ps)
+pub rising-one : (ps : List Response) (word : ℕ) → length ps ≡ 64 → word < 2 ^ 64 → withoutBit word (setIn 64 word) ≡ 0 → isRising 0 (liveIn word ps) ≡ true
 rising-one ps word e h z =
     ⊎-elim
     (λ (l : word ≤ 0).
@@ -146,8 +152,18 @@ rising-one ps word e h z =
     rw n (rising-none ps 0))
     (λ (p : 0 < word).
     let t = turn-of ps word (setIn 64 word) e p h refl in
-    rising-turn ps word (setIn 64 word) 0 t (omega arith) (rw z (rising-none ps (getD ps (setIn 64 word) noResponse .sequence))))
+    rising-turn ps word (setIn 64 word) 0 t (omega arith) ∙ rw z (rising-none ps (getD ps (setIn 64 word) noResponse .sequence)))
     (le-or-lt word 0)
+
+-- what the test says
+pub rising-is : (m : ℕ) (xs : List Response) → isRising m xs ≡ true → RisingFrom m xs
+unfolding isRising
+rising-is m [] e = tt
+rising-is m (x ∷ xs) e = go (leb m (x .sequence)) refl e (rising-is (x .sequence) xs)
+  where
+    go : (b : Bool) → leb m (x .sequence) ≡ b → (b && isRising (x .sequence) xs) ≡ true → (isRising (x .sequence) xs ≡ true → RisingFrom (x .sequence) xs) → RisingFrom m (x ∷ xs)
+    go true h e f = (leb-true m (x .sequence) h, f e)
+    go false h e f = absurd (false≢true e)
 
 -- and so do those that are left without one
 rising-inserts : {r : Response} {xs ys : List Response} → Inserts r xs ys → (m : ℕ) → RisingFrom m ys → RisingFrom m xs

@@ -90,6 +90,11 @@ dealt false R T k ss = plus (floors R T ss) (firsts k ss)
 unfoldable pub eachFills : ℕ → Bool → ℕ → ℕ → ℕ → List Response → List Fill
 eachFills p turns R T k rs = fillsBy p rs (dealt turns R T k (sizes rs))
 
+-- whether sequences rise, from m on
+unfoldable pub isRising : ℕ → List Response → Bool
+isRising m [] = true
+isRising m (r ∷ rs) = leb m (r .sequence) && isRising (r .sequence) rs
+
 -- what one of the size s gets, and what is left of k
 pub record Gives (turns : Bool) (R T k s : ℕ) (g : Given) : Type 0 where
   pub quantity : g .quantity ≡ cond turns (min k s) (R * s / T + min k (min s 1))

@@ -6,9 +6,8 @@ ghost use lib.ListN.{length};
 ghost use Rattle.words.specs.Bits.{withoutBit, setIn};
 ghost use Rattle.board.specs.Board.{liveIn, inSequence};
 ghost use Rattle.board.specs.Lists.{sum};
-ghost use Rattle.board.specs.Theorems.{RisingFrom};
 ghost use Rattle.share.specs.Fills.{fillOf, sizes, Wrote};
-ghost use Rattle.trade.specs.Code.{eachFills, shareFills, Gives};
+ghost use Rattle.trade.specs.Code.{eachFills, shareFills, isRising, Gives};
 use crate::Given;
 use crate::numbers;
 use crate::scan;
@@ -66,7 +65,7 @@ fn given(turns: bool, amount: u64, total: u64, k: u64, size: u32) -> Given
 
 // Whether the places of the word stand in rising order of sequence.
 fn rising(places: [Response; 64], word: u64) -> bool
-    ensures { λ r. ⌜ (r ≡ true → RisingFrom 0 (liveIn word places)) ⌝ }
+    ensures { λ r. ⌜ r ≡ isRising 0 (liveIn word places) ⌝ }
 {
     let mut last = 0;
     let mut rest = word;
@@ -84,7 +83,7 @@ fn rising(places: [Response; 64], word: u64) -> bool
 // The same, where more is every place of the word but the first: nothing is looked over for one alone.
 fn in_order(places: [Response; 64], word: u64, more: u64) -> bool
     requires { ⌜ more ≡ withoutBit word (setIn 64 word) ⌝ }
-    ensures { λ r. ⌜ (r ≡ true → RisingFrom 0 (liveIn word places)) ⌝ }
+    ensures { λ r. ⌜ r ≡ isRising 0 (liveIn word places) ⌝ }
 {
     if more == 0 {
         return true;

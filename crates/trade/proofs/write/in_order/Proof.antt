@@ -16,7 +16,7 @@ returns : tie.Need-returns
 returns c =
     let s = c .before in
     let a = s .args in
-    λ e. rising-one (a .places) (a .word) (len s) (word s) (sym (s .pre) ∙ c .if1 .taken)
+    sym (rising-one (a .places) (a .word) (len s) (word s) (sym (s .pre) ∙ c .if1 .taken))
 
 rising-requires : tie.Need-rising-requires
 rising-requires c κs = search needs

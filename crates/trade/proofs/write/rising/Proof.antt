@@ -1,19 +1,18 @@
-use mathlib.Core.Path.{_≡_}
-use mathlib.Core.Bool.{false≢true}
+use mathlib.Core.Path.{_≡_, refl, sym, _∙_}
 use Prim.Native.Nat.{_^_, _<_}
 use native.Mathlib.Omega.{arith}
 use lib.ListN.{length}
 use borrow.Author.Needs.{needs}
 use Rattle.words.proofs.BitLaws.{without-le}
 use Rattle.board.specs.Board.{liveIn}
-use Rattle.board.specs.Theorems.{RisingFrom}
+use Rattle.trade.specs.Code.{isRising}
 use Rattle.trade.proofs.CodeLaws.{Turn, turn-of}
-use Rattle.trade.proofs.WriteLaws.{rising-turn, rising-none}
+use Rattle.trade.proofs.WriteLaws.{rising-turn, rising-not, rising-none}
 use Rattle.trade.proofs.write.rising.Statement.{statement}
 use Rattle.trade.proofs.write.rising.Tie as tie
 
 abbrev Inv-loop : tie.InvT-loop
-Inv-loop word places last₀ rest₀ last rest = (rest < 2 ^ 64) × (RisingFrom last (liveIn rest places) → RisingFrom 0 (liveIn word places))
+Inv-loop word places last₀ rest₀ last rest = (rest < 2 ^ 64) × (isRising last (liveIn rest places) ≡ isRising 0 (liveIn word places))
 
 abbrev μ-loop : tie.MeasureT-loop
 μ-loop word places last₀ rest₀ last rest = rest
@@ -25,7 +24,7 @@ turn : (c : tie.After-first-set Inv-loop μ-loop) → Turn (c .before .before .b
 turn c = turn-of (c .before .before .before .args .t1) (c .before .before .loop .rest) _ (len (c .before .before .before)) (omega arith) (c .before .before .loop .inv .0) (c .first-set .ensures)
 
 loop-holds : tie.Need-loop-holds Inv-loop μ-loop
-loop-holds c = (search needs, λ h. h)
+loop-holds c = (search needs, refl)
 
 first-set-requires : tie.Need-first-set-requires Inv-loop μ-loop
 first-set-requires c κs = search needs
@@ -40,7 +39,10 @@ element-copy-out-if1 : tie.Need-element-copy-out-if1 Inv-loop μ-loop
 element-copy-out-if1 c = turn c .low
 
 returns : tie.Need-returns Inv-loop μ-loop
-returns c = λ e. absurd (false≢true e)
+returns c =
+    let d = c .before in
+    let l = d .before .before in
+    sym (rising-not (l .before .args .t1) (l .loop .rest) (d .first-set .result) (l .loop .last) (turn d) (c .if1 .taken)) ∙ l .loop .inv .1
 
 mul-last : tie.Need-mul-last Inv-loop μ-loop
 mul-last c = omega (arith, turn (c .before) .low)
@@ -61,7 +63,7 @@ loop-again c =
     let a = l .before .args in
     rw (c .without-bit .ensures) (
       omega (arith, without-le (l .loop .rest) (d .first-set .result), l .loop .inv .0),
-      λ h. l .loop .inv .1 (rising-turn (a .t1) (l .loop .rest) (d .first-set .result) (l .loop .last) (turn d) (c .before .if1 .left) h),
+      sym (rising-turn (a .t1) (l .loop .rest) (d .first-set .result) (l .loop .last) (turn d) (c .before .if1 .left)) ∙ l .loop .inv .1,
     )
 
 returns-2 : tie.Need-returns-2 Inv-loop μ-loop
@@ -69,7 +71,7 @@ returns-2 c =
     let l = c .before in
     let a = l .before .args in
     let z : l .loop .rest ≡ 0 = omega arith in
-    λ e. l .loop .inv .1 (rw z (rising-none (a .t1) (l .loop .last)))
+    rw (← z) at (sym (rising-none (a .t1) (l .loop .last))) ∙ l .loop .inv .1
 
 pub rising-spec : {M : Type 1} → statement M
 rising-spec =

@@ -1,4 +1,4 @@
-use mathlib.Core.Path.{_≡_, refl, ap, _∙_}
+use mathlib.Core.Path.{_≡_, sym, refl, ap, _∙_}
 use mathlib.Core.Bool.{true}
 use mathlib.Core.List.{_++_}
 use Prim.Native.Nat.{_+_, _*_, _^_, _≤_, _<_}
@@ -14,7 +14,7 @@ use Rattle.share.specs.Fills.{fillOf}
 use Rattle.share.proofs.FillsLaws.{Left, left-start, left-turn, left-done}
 use Rattle.trade.specs.Code.{eachFills}
 use Rattle.trade.proofs.CodeLaws.{Turn, turn-of}
-use Rattle.trade.proofs.WriteLaws.{Pick, each-pick, each-none, rising-without, unseen-le, hunt-start, hunt-step, hunt-end, gives-left}
+use Rattle.trade.proofs.WriteLaws.{Pick, each-pick, each-none, rising-is, rising-without, unseen-le, hunt-start, hunt-step, hunt-end, gives-left}
 use lib.ListN.{length-append}
 use Rattle.trade.proofs.write.write_each.Statement.{statement}
 use Rattle.trade.proofs.write.write_each.Tie as tie
@@ -81,13 +81,14 @@ loop-holds c =
     let f : a .word < 2 ^ 64 = search needs in
     let i = c .before .before .before .first-set in
     let o = c .before .in-order in
+    let rises : o .result ≡ true → RisingFrom 0 (liveIn (a .word) (a .t1)) = λ t. rising-is 0 (liveIn (a .word) (a .t1)) (sym (o .ensures) ∙ t) in
     let e = c .unseen-of .ensures in (
       f,
       rw e (omega (arith, unseen-le (o .result) (a .word) (i .result))),
       s .pre .0 .1,
       refl,
-      λ p. rw e (hunt-start (a .t1) (len s) (o .result) (a .word) _ p f (i .ensures) (o .ensures)),
-      o .ensures,
+      λ p. rw e (hunt-start (a .t1) (len s) (o .result) (a .word) _ p f (i .ensures) rises),
+      rises,
       left-start _ _ _,
     )
 
