@@ -5,7 +5,7 @@ use mathlib.Core.List.{List}
 use Prim.Native.Nat.{ℕ, _^_, _+_}
 use lib.Dec.{leb, ltb, eqb}
 use lib.ListN.{set}
-use borrow.Author.Tests.{eqb-true}
+use borrow.Author.Tests.{eqb-true, eq-eqb}
 use Rattle.words.specs.Bits.{bitAt, withBit, clearIn}
 use Rattle.board.specs.declared.Response.{Response}
 use Rattle.board.specs.declared.Board.{Board}
@@ -14,7 +14,7 @@ use Rattle.tape.specs.declared.Event.{Event}
 use Rattle.tape.specs.Form.{eventFormed}
 use Rattle.auction.specs.Mirror.{buyEvent}
 use Rattle.auction.specs.Step.{isOpen, eventRefusal, outcomeOf, after, endedByTime, gives, carried, stepOf, closeOf}
-use Rattle.auction.specs.Head.{headOf, wholeOf, headRefusal, headByTime, turnBy, stays, turnOf, outOfFormOf, turned, Heads, closeTurn}
+use Rattle.auction.specs.Head.{headOf, wholeOf, headRefusal, headByTime, turnBy, stays, turnOf, outOfFormOf, turned, Heads, closeTurn, foundFor, turnIn}
 use Rattle.auction.specs.Code.{turnFor}
 use Rattle.auction.specs.declared.Auction.{Auction}
 use Rattle.auction.specs.declared.Terms.{Terms}
@@ -78,6 +78,10 @@ module _ (h : Head) (places : List Response) (e : Event) where
           ∙ ap (λ (o : Outcome). turned (turnBy h e o) places) (sym (found-counts (h .terms) (h .quotes) (eqb (clearIn 64 (h .live)) 64) found there (buyEvent (h .terms .sell) e) (λ z. same (sym (buy-kind e (h .terms .sell)) ∙ z))))
       go false l = refl
 
+  -- what is found counts for a cancel alone
+  turn-in : eventFormed e ≡ true → stepOf (wholeOf h places) e ≡ turned (turnIn h places e) places
+  turn-in f = turns (foundFor h places e) f (λ k. ap (λ (b : Bool). cond b (findGtx (wholeOf h places .board) (e .f12)) 64) (eq-eqb (e .kind) 2 k))
+
   out-of-form : eventFormed e ≡ false → stepOf (wholeOf h places) e ≡ turned (outOfFormOf h) places
   unfolding stepOf outOfFormOf eventRefusal
   out-of-form f = rw f (go _ (isOpen (h .ending)))
@@ -95,12 +99,12 @@ closes h places = go (isOpen (h .ending))
     go false = refl
 
 pub heads : Heads
-heads = record { whole = λ a. refl; turns = λ h places found e. turns h places e found; out-of-form = out-of-form; closes = closes }
+heads = record { whole = λ a. refl; turns = turn-in; out-of-form = out-of-form; closes = closes }
 
 -- the step, by its head and places
-pub step-turned : (a : Auction) (e : Event) → turned (turnFor (headOf a) (a .board) e) (a .board .places) ≡ stepOf a e
+pub step-turned : (a : Auction) (e : Event) → turned (turnFor (headOf a) (a .board .places) e) (a .board .places) ≡ stepOf a e
 step-turned a e = go (eventFormed e) refl
   where
-    go : (b : Bool) → eventFormed e ≡ b → turned (cond b (turnOf (headOf a) (findGtx (a .board) (e .f12)) e) (outOfFormOf (headOf a))) (a .board .places) ≡ stepOf a e
-    go true f = sym (turns (headOf a) (a .board .places) e (findGtx (a .board) (e .f12)) f (λ _. refl))
+    go : (b : Bool) → eventFormed e ≡ b → turned (cond b (turnIn (headOf a) (a .board .places) e) (outOfFormOf (headOf a))) (a .board .places) ≡ stepOf a e
+    go true f = sym (turn-in (headOf a) (a .board .places) e f)
     go false f = sym (out-of-form (headOf a) (a .board .places) e f)

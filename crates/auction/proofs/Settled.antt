@@ -33,8 +33,8 @@ head-of κs a = (tt, λ y z v w p q. (p ∙ sym q, refl))
 pub whole : Settled contracts.turns.whole.ended contracts.turns.whole.Reads.Asked contracts.turns.whole.Reads.Learnt
 whole κs a = (tt, λ y z v w p q. (p ∙ sym q, refl))
 
-pub turn-of : Settled contracts.turns.turn_of.ended contracts.turns.turn_of.Reads.Asked contracts.turns.turn_of.Reads.Learnt
-turn-of κs a = (tt, λ y z v w p q. (p ∙ sym q, refl))
+pub turn-in : Settled contracts.turns.turn_in.ended contracts.turns.turn_in.Reads.Asked contracts.turns.turn_in.Reads.Learnt
+turn-in κs a = (tt, λ y z v w p q. (p ∙ sym q, refl))
 
 pub out-of-form : Settled contracts.turns.out_of_form.ended contracts.turns.out_of_form.Reads.Asked contracts.turns.out_of_form.Reads.Learnt
 out-of-form κs a = (tt, λ y z v w p q. (p ∙ sym q, refl))

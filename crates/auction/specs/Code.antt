@@ -1,13 +1,13 @@
 -- What the private functions of `auction` give.
 use mathlib.Core.Bool.{cond}
-use Rattle.board.specs.declared.Board.{Board}
-use Rattle.board.specs.Board.{findGtx}
+use mathlib.Core.List.{List}
+use Rattle.board.specs.declared.Response.{Response}
 use Rattle.tape.specs.declared.Event.{Event}
 use Rattle.tape.specs.Form.{eventFormed}
-use Rattle.auction.specs.Head.{turnOf, outOfFormOf}
+use Rattle.auction.specs.Head.{turnIn, outOfFormOf}
 use Rattle.auction.specs.declared.Head.{Head}
 use Rattle.auction.specs.declared.Turn.{Turn}
 
--- what any event does to the head of an auction with this board
-abbrev pub turnFor : Head → Board → Event → Turn
-turnFor h b e = cond (eventFormed e) (turnOf h (findGtx b (e .f12)) e) (outOfFormOf h)
+-- what any event does to a head, with the places at hand
+abbrev pub turnFor : Head → List Response → Event → Turn
+turnFor h places e = cond (eventFormed e) (turnIn h places e) (outOfFormOf h)

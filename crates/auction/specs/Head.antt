@@ -81,6 +81,14 @@ turnOf h found e =
     (turnBy h e (outcomeOf (h .terms) (h .quotes) (eqb (clearIn 64 (h .live)) 64) found (buyEvent (h .terms .sell) e))))
     (stays (Refused (headRefusal h e)) h)
 
+-- the place of the GTX that a cancel names; 64 where there is none, and for any other event
+abbrev pub foundFor : Head → List Response → Event → ℕ
+foundFor h places e = cond (eqb (e .kind) 2) (findGtx (wholeOf h places .board) (e .f12)) 64
+
+-- an event in form, with the places at hand
+abbrev pub turnIn : Head → List Response → Event → Turn
+turnIn h places e = turnOf h (foundFor h places e) e
+
 -- a record out of form: 31 where the auction has ended, else 32
 unfoldable pub outOfFormOf : Head → Turn
 outOfFormOf h = stays (Refused (cond (isOpen (h .ending)) 32 31)) h
@@ -102,8 +110,6 @@ turned t places = gives (t .answer) (wholeOf (t .head) (placesAfter t places))
 -- what a head and places are for: they do what the step does
 pub record Heads : Type 0 where
   pub whole : (a : Auction) → wholeOf (headOf a) (a .board .places) ≡ a
-  -- `found` counts for a cancel alone
-  pub turns : (h : Head) (places : List Response) (found : ℕ) (e : Event) → eventFormed e ≡ true → (e .kind ≡ 2 → found ≡ findGtx (wholeOf h places .board) (e .f12))
-      → stepOf (wholeOf h places) e ≡ turned (turnOf h found e) places
+  pub turns : (h : Head) (places : List Response) (e : Event) → eventFormed e ≡ true → stepOf (wholeOf h places) e ≡ turned (turnIn h places e) places
   pub out-of-form : (h : Head) (places : List Response) (e : Event) → eventFormed e ≡ false → stepOf (wholeOf h places) e ≡ turned (outOfFormOf h) places
   pub closes : (h : Head) (places : List Response) → closeOf (wholeOf h places) ≡ turned (closeTurn h) places

@@ -10,18 +10,17 @@ use crate::Turn;
 use crate::turns::close_head;
 use crate::turns::head_of;
 use crate::turns::out_of_form;
-use crate::turns::turn_of;
+use crate::turns::turn_in;
 use crate::turns::whole;
-use board::Board;
 use board::Response;
 use tape::Event;
 
-// What any event does to the head of an auction with this board.
-fn turn_for(h: Head, b: Board, e: Event) -> Turn
-    ensures { λ r. ⌜ r ≡ turnFor h b e ⌝ }
+// What any event does to a head, with the places at hand.
+fn turn_for(h: Head, places: [Response; 64], e: Event) -> Turn
+    ensures { λ r. ⌜ r ≡ turnFor h places e ⌝ }
 {
     if tape::event_form(e) {
-        return turn_of(h, board::find_gtx(b, e.f12), e);
+        return turn_in(h, places, e);
     }
     out_of_form(h)
 }
@@ -48,7 +47,7 @@ pub fn step(a: Auction, e: Event) -> Stepped
     ensures { λ r. ⌜ r ≡ stepOf a e ⌝ }
 {
     let places = a.board.places;
-    settle(turn_for(head_of(a), a.board, e), places)
+    settle(turn_for(head_of(a), places, e), places)
 }
 
 // Closing by hand: as an event at time L.

@@ -23,7 +23,7 @@ pub use orders::accept;
 pub use turns::close_head;
 pub use turns::head_of;
 pub use turns::out_of_form;
-pub use turns::turn_of;
+pub use turns::turn_in;
 pub use turns::whole;
 
 // What is fixed at acceptance. `floor` is the NBB at initiation, `stop` the stop or auto-match limit as it was given.

@@ -2,7 +2,8 @@
 ghost use mathlib.Core.Path.{_≡_};
 ghost use mathlib.Core.Bool.{cond};
 ghost use Rattle.auction.specs.Step.{isOpen};
-ghost use Rattle.auction.specs.Head.{headOf, wholeOf, stays, headRefusal, headByTime, moved, taken, turnBy, turnOf, outOfFormOf, closeTurn};
+ghost use Rattle.auction.specs.Head.{headOf, wholeOf, stays, headRefusal, headByTime, moved, taken, turnBy, turnOf, turnIn, outOfFormOf, closeTurn};
+ghost use Rattle.board.specs.Board.{findGtx};
 use crate::Answer;
 use crate::Auction;
 use crate::Change;
@@ -188,7 +189,7 @@ fn carry(h: Head, e: Event, o: Outcome) -> Turn
 }
 
 // What an event in form does to a head; `found` is the place of the GTX that a cancel names, 64 where there is none.
-pub fn turn_of(h: Head, found: usize, e: Event) -> Turn
+fn turn_of(h: Head, found: usize, e: Event) -> Turn
     ensures { λ r. ⌜ r ≡ turnOf h found e ⌝ }
 {
     let number = refusal(h, e);
@@ -202,6 +203,27 @@ pub fn turn_of(h: Head, found: usize, e: Event) -> Turn
         return carry(h, e, o);
     }
     stay(Answer::Refused(number), h)
+}
+
+// The place of the GTX that a cancel names, 64 where there is none.
+fn find(h: Head, places: [Response; 64], named: u32) -> usize
+    ensures { λ r. ⌜ r ≡ findGtx (wholeOf h places .board) named ⌝ }
+{
+    let b = Board {
+        places,
+        live: h.live,
+    };
+    board::find_gtx(b, named)
+}
+
+// An event in form, with the places at hand: they are looked at for a cancel alone.
+pub fn turn_in(h: Head, places: [Response; 64], e: Event) -> Turn
+    ensures { λ r. ⌜ r ≡ turnIn h places e ⌝ }
+{
+    if e.kind == 2 {
+        return turn_of(h, find(h, places, e.f12), e);
+    }
+    turn_of(h, 64, e)
 }
 
 // What a record out of form does to a head: 31 where the auction has ended, else 32.

@@ -5,7 +5,7 @@ use mathlib.Core.List.{List, [], _∷_, _++_}
 use Prim.Native.Nat.{ℕ, zero, suc, _+_, _-_, _*_, _≤_, _<_}
 use native.Mathlib.Nat.{sub-zero}
 use native.Mathlib.Omega.{arith}
-use borrow.Author.Tests.{eq-eqb, lt-ltb, le-ltb}
+use borrow.Author.Tests.{lt-ltb, le-ltb}
 use lib.ListN.{length, set, take, drop, take-append-drop}
 use lib.Seq.{drop-drop, length-take-le}
 use Rattle.words.specs.Bytes.{wordAt}
@@ -13,7 +13,6 @@ use Rattle.words.proofs.ByteLaws.{word-past}
 use Rattle.tape.specs.declared.Trailer.{Trailer}
 use Rattle.tape.specs.declared.Opened.the-variants.{Tape}
 use Rattle.board.specs.declared.Response.{Response}
-use Rattle.board.specs.Board.{findGtx}
 use Rattle.tape.specs.declared.ReadEvent.{ReadEvent}
 use Rattle.tape.specs.declared.ReadEvent.the-variants.{Event as GotEvent, Refused as NoEvent}
 use Rattle.tape.specs.Records.{readEvent}
@@ -31,7 +30,7 @@ use Rattle.auction.specs.Head.{wholeOf, stays, headByTime, outOfFormOf, closeTu
 use Rattle.auction.proofs.HeadLaws.{heads}
 use Rattle.auction.specs.Fills.{hasEnded}
 use Rattle.listing.specs.Run.{Said, said, heard, answers, heardAll, closed}
-use Rattle.listing.specs.Code.{foundFor, heardTurn}
+use Rattle.listing.specs.Code.{heardTurn}
 use Rattle.listing.specs.Listing.{eventLine, eventLines}
 
 -- ---- the tape
@@ -71,9 +70,7 @@ unfolding outOfFormOf
 hears s h places r t er et = ap (λ (u : Turn). turned u places) et ∙ go r (sym er)
   where
     go : (x : ReadEvent) → readEvent s ≡ x → turned (heardTurn h places x) places ≡ heard (wholeOf h places) x
-    go (GotEvent e) z =
-        let there = findGtx (wholeOf h places .board) (e .f12) in
-        sym (heads .turns h places (foundFor h places e) e (event-formed s e z) (λ k. ap (λ (b : Bool). cond b there 64) (eq-eqb (e .kind) 2 k)))
+    go (GotEvent e) z = sym (heads .turns h places e (event-formed s e z))
     go (NoEvent n) z = refl
 
 -- the places after a turn: with its response where that takes a place

@@ -1,22 +1,18 @@
 -- What the private functions of `listing` give.
 use mathlib.Core.Path.{_≡_}
-use mathlib.Core.Bool.{cond}
 use mathlib.Core.List.{List, [], _∷_}
 use Prim.Native.Nat.{ℕ, zero, suc, _+_}
-use lib.Dec.{eqb}
 use lib.ListN.{length, getD, drop}
 use lib.Seq.{sets}
-use Rattle.tape.specs.declared.Event.{Event}
 use Rattle.tape.specs.declared.ReadEvent.{ReadEvent}
 use Rattle.tape.specs.declared.ReadEvent.the-variants.{Event as GotEvent, Refused as NoEvent}
 use Rattle.board.specs.declared.Response.{Response}
-use Rattle.board.specs.Board.{findGtx}
 use Rattle.share.specs.Fills.{Fill}
 use Rattle.trade.specs.declared.Filled.{Filled}
 use Rattle.trade.specs.declared.Filled.the-variants.{Count, Refused as NoFills}
 use Rattle.auction.specs.declared.Head.{Head}
 use Rattle.auction.specs.declared.Turn.{Turn}
-use Rattle.auction.specs.Head.{wholeOf, turnOf, outOfFormOf}
+use Rattle.auction.specs.Head.{turnIn, outOfFormOf}
 use Rattle.listing.specs.declared.Listed.{Listed}
 use Rattle.listing.specs.Run.{Run}
 use Rattle.listing.specs.Listing.{linesOf, answerOf}
@@ -33,12 +29,8 @@ pub record Lists (run : Run) (xs : List ℕ) (r : Listed) (ys : List ℕ) : Type
 
 -- ---- what a record does to a head
 
--- the place of the GTX that a cancel names; 64 where there is none, and for any other event
-abbrev pub foundFor : Head → List Response → Event → ℕ
-foundFor h places e = cond (eqb (e .kind) 2) (findGtx (wholeOf h places .board) (e .f12)) 64
-
 abbrev pub heardTurn : Head → List Response → ReadEvent → Turn
-heardTurn h places (GotEvent e) = turnOf h (foundFor h places e) e
+heardTurn h places (GotEvent e) = turnIn h places e
 heardTurn h places (NoEvent n) = outOfFormOf h
 
 -- ---- fills as the writer of fills leaves them

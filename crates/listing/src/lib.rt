@@ -4,23 +4,19 @@ ghost use Prim.Native.Nat.{_+_, _*_, _≤_};
 ghost use lib.ListN.{length, drop};
 ghost use Rattle.tape.specs.Records.{readOrder};
 ghost use Rattle.tape.specs.Tape.{eventPlace};
-ghost use Rattle.board.specs.Board.{findGtx};
-ghost use Rattle.auction.specs.Head.{wholeOf, turnOf};
 ghost use Rattle.listing.specs.Run.{answers, heardAll, closed, refused, runEntry, runOrder};
 ghost use Rattle.listing.specs.Listing.{eventLines, roomOf, lengthIn, listedOf, bytesOf};
-ghost use Rattle.listing.specs.Code.{foundFor, heardTurn, Lists, Wrote};
+ghost use Rattle.listing.specs.Code.{heardTurn, Lists, Wrote};
 use auction::Auction;
 use auction::Ending;
 use auction::Entry;
 use auction::Head;
 use auction::Turn;
-use board::Board;
 use board::Response;
 use lines::put_auction;
 use lines::put_event;
 use lines::put_refused;
 use results::put_results;
-use tape::Event;
 use tape::Opened;
 use tape::Order;
 use tape::ReadEvent;
@@ -58,33 +54,12 @@ pub fn length_of(l: Listed) -> usize
 
 // ---- the event records
 
-// The place of the GTX that a cancel names, 64 where there is none.
-fn find(h: Head, places: [Response; 64], named: u32) -> usize
-    ensures { λ r. ⌜ r ≡ findGtx (wholeOf h places .board) named ⌝ }
-{
-    let b = Board {
-        places,
-        live: h.live,
-    };
-    board::find_gtx(b, named)
-}
-
-// What an event that was read does; the places are looked at for a cancel alone.
-fn hear_event(h: Head, places: [Response; 64], e: Event) -> Turn
-    ensures { λ r. ⌜ r ≡ turnOf h (foundFor h places e) e ⌝ }
-{
-    if e.kind == 2 {
-        return auction::turn_of(h, find(h, places, e.f12), e);
-    }
-    auction::turn_of(h, 64, e)
-}
-
 // What a record that was read does.
 fn hear(h: Head, places: [Response; 64], r: ReadEvent) -> Turn
     ensures { λ t. ⌜ t ≡ heardTurn h places r ⌝ }
 {
     match r {
-        ReadEvent::Event(e) => hear_event(h, places, e),
+        ReadEvent::Event(e) => auction::turn_in(h, places, e),
         ReadEvent::Refused(_) => auction::out_of_form(h),
     }
 }

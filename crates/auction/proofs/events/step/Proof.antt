@@ -18,7 +18,7 @@ settle-requires : tie.Need-settle-requires
 settle-requires c κs = search needs
 
 returns : tie.Need-returns
-returns c = let a = c .before .before .before .before .args in c .settle .ensures ∙ ap (λ (t : Turn). turned t (a .a .board .places)) (c .before .turn-for .ensures ∙ ap (λ (h : Head). turnFor h (a .a .board) (a .e)) (c .before .before .head-of .ensures)) ∙ step-turned (a .a) (a .e)
+returns c = let a = c .before .before .before .before .args in c .settle .ensures ∙ ap (λ (t : Turn). turned t (a .a .board .places)) (c .before .turn-for .ensures ∙ ap (λ (h : Head). turnFor h (a .a .board .places) (a .e)) (c .before .before .head-of .ensures)) ∙ step-turned (a .a) (a .e)
 
 pub step-spec : {M : Type 1} → statement M
 step-spec = tie.close (tie.spec head-of-requires turn-for-requires settle-requires returns)

@@ -5,14 +5,11 @@ use Rattle.auction.proofs.events.turn_for.Tie as tie
 event-form-requires : tie.Need-event-form-requires
 event-form-requires c κs = search needs
 
-find-gtx-requires : tie.Need-find-gtx-requires
-find-gtx-requires c κs = search needs
-
-turn-of-requires : tie.Need-turn-of-requires
-turn-of-requires c κs = search needs
+turn-in-requires : tie.Need-turn-in-requires
+turn-in-requires c κs = search needs
 
 returns : tie.Need-returns
-returns c = simp (rw (c .before .before .before .event-form .ensures) at (c .before .before .if1 .taken)) (cc)
+returns c = simp (rw (c .before .before .event-form .ensures) at (c .before .if1 .taken)) (c .turn-in .ensures)
 
 out-of-form-requires : tie.Need-out-of-form-requires
 out-of-form-requires c κs = search needs
@@ -22,11 +19,4 @@ returns-2 c = simp (rw (c .before .before .event-form .ensures) at (c .before .i
 
 pub turn-for-spec : {M : Type 1} → statement M
 turn-for-spec =
-    tie.close
-    (tie.spec
-    event-form-requires
-    find-gtx-requires
-    turn-of-requires
-    returns
-    out-of-form-requires
-    returns-2)
+    tie.close (tie.spec event-form-requires turn-in-requires returns out-of-form-requires returns-2)

@@ -1,7 +1,7 @@
 use borrow.Author.Tests.{eq-eqb, ne-eqb}
 use borrow.Author.Needs.{needs}
-use Rattle.listing.proofs.hear_event.Statement.{statement}
-use Rattle.listing.proofs.hear_event.Tie as tie
+use Rattle.auction.proofs.turns.turn_in.Statement.{statement}
+use Rattle.auction.proofs.turns.turn_in.Tie as tie
 
 find-requires : tie.Need-find-requires
 find-requires c κs = search needs
@@ -18,6 +18,6 @@ turn-of-requires-2 c κs = search needs
 returns-2 : tie.Need-returns-2
 returns-2 c = simp (ne-eqb _ _ (c .before .if1 .left)) (c .turn-of2 .ensures)
 
-pub hear-event-spec : {M : Type 1} → statement M
-hear-event-spec =
+pub turn-in-spec : {M : Type 1} → statement M
+turn-in-spec =
     tie.close (tie.spec find-requires turn-of-requires returns turn-of-requires-2 returns-2)
