@@ -18,7 +18,7 @@ use Rattle.board.proofs.LiveLaws.{none-live, first-live}
 use Rattle.share.specs.Share.{floors}
 use Rattle.share.specs.Fills.{sizes}
 use Rattle.trade.specs.Trade.{guaranteeOf}
-use Rattle.trade.specs.Code.{sharedOf, contraOf, worksAt, leastOf, Adds}
+use Rattle.trade.specs.Code.{sharedOf, contraOf, worksAt, leastOf, lastSequence, Adds}
 use Rattle.trade.specs.declared.Found.{Found}
 
 -- ---- numbers
@@ -103,6 +103,15 @@ sizes-turn t ps rest i k = rw (k .cons) (go (t (getD ps i noResponse)))
     go true = refl
     go false = omega arith
 
+pub last-turn : (t : Response → Bool) (m : ℕ) (ps : List Response) (rest i : ℕ) → Turn ps rest i
+    → lastSequence m (filter t (liveIn rest ps)) ≡ lastSequence (cond (t (getD ps i noResponse)) (getD ps i noResponse .sequence) m) (filter t (liveIn (withoutBit rest i) ps))
+unfolding lastSequence filter
+last-turn t m ps rest i k = rw (k .cons) (go (t (getD ps i noResponse)))
+  where
+    go : (b : Bool) → lastSequence m (keep b (getD ps i noResponse) (filter t (liveIn (withoutBit rest i) ps))) ≡ lastSequence (cond b (getD ps i noResponse .sequence) m) (filter t (liveIn (withoutBit rest i) ps))
+    go true = refl
+    go false = refl
+
 pub parts-turn : (R T : ℕ) (ps : List Response) (rest i : ℕ) → Turn ps rest i
     → sum (floors R T (sizes (liveIn rest ps))) ≡ R * getD ps i noResponse .size / T + sum (floors R T (sizes (liveIn (withoutBit rest i) ps)))
 unfolding sum
@@ -111,6 +120,10 @@ parts-turn R T = sum-turn (λ s. R * s / T) (λ rs. sum (floors R T (sizes rs)))
 pub sizes-none : (t : Response → Bool) (ps : List Response) → sum (sizes (filter t (liveIn 0 ps))) ≡ 0
 unfolding sum filter
 sizes-none t ps = rw (none-live ps)
+
+pub last-none : (t : Response → Bool) (m : ℕ) (ps : List Response) → lastSequence m (filter t (liveIn 0 ps)) ≡ m
+unfolding lastSequence filter
+last-none t m ps = rw (none-live ps)
 
 pub parts-none : (R T : ℕ) (ps : List Response) → sum (floors R T (sizes (liveIn 0 ps))) ≡ 0
 unfolding sum
@@ -134,14 +147,17 @@ live-short w (p ∷ ps) = go (eqb (w % 2) 1) (live-short (w / 2) ps)
 pub adds-of : (bound p : ℕ) (r : Response) (i : ℕ) (f n : Found) (a b : Bool) → worksAt bound p r ≡ a → r .customer ≡ b
     → n .customers ≡ cond (a && b) (withBit (f .customers) i) (f .customers) → n .others ≡ cond (a && not b) (withBit (f .others) i) (f .others)
     → n .served ≡ f .served + cond (a && b) (r .size) 0 → n .total ≡ f .total + cond (a && not b) (r .size) 0
+    → n .customer ≡ cond (a && b) (r .sequence) (f .customer) → n .other ≡ cond (a && not b) (r .sequence) (f .other)
     → Adds bound p r i f n
-adds-of bound p r i f n a b e g c o s t =
+adds-of bound p r i f n a b e g c o s t lc lo =
     record {
       customers = c ∙ ap₂ (λ (x y : Bool). cond (x && y) (withBit (f .customers) i) (f .customers)) (sym e) (sym g);
       others = o ∙ ap₂ (λ (x y : Bool). cond (x && not y) (withBit (f .others) i) (f .others)) (sym e) (sym g);
       served = s ∙ ap₂ (λ (x y : Bool). f .served + cond (x && y) (r .size) 0) (sym e) (sym g);
       total = t ∙ ap₂ (λ (x y : Bool). f .total + cond (x && not y) (r .size) 0) (sym e) (sym g);
+      customer = lc ∙ ap₂ (λ (x y : Bool). cond (x && y) (r .sequence) (f .customer)) (sym e) (sym g);
+      other = lo ∙ ap₂ (λ (x y : Bool). cond (x && not y) (r .sequence) (f .other)) (sym e) (sym g);
     }
 
 pub adds-none : (bound p : ℕ) (r : Response) (i : ℕ) (f : Found) → max (r .price) bound ≢ p → Adds bound p r i f f
-adds-none bound p r i f h = adds-of bound p r i f f false (r .customer) (ne-eqb (max (r .price) bound) p h) refl refl refl (omega arith) (omega arith)
+adds-none bound p r i f h = adds-of bound p r i f f false (r .customer) (ne-eqb (max (r .price) bound) p h) refl refl refl (omega arith) (omega arith) refl refl

@@ -1,5 +1,5 @@
 -- The pass that finds the least price: what was found at each price that may still be the least.
-use mathlib.Core.Path.{_≡_, sym}
+use mathlib.Core.Path.{_≡_, refl, sym, ap, _∙_}
 use mathlib.Core.Bool.{Bool, true, false, cond, not}
 use mathlib.Core.List.{List}
 use mathlib.Core.Logic.{⊎-elim}
@@ -15,13 +15,13 @@ use Rattle.board.specs.Lists.{filter, sum}
 use Rattle.board.specs.Board.{noResponse, liveIn}
 use Rattle.board.proofs.LiveLaws.{Sifted, sift-start, sift-end, sift-step}
 use Rattle.share.specs.Fills.{sizes}
-use Rattle.trade.specs.Code.{customerAt, otherAt, Adds, foundAt, Takes, FoundAt}
+use Rattle.trade.specs.Code.{customerAt, otherAt, lastSequence, Adds, foundAt, Takes, FoundAt}
 use Rattle.trade.specs.declared.Found.{Found}
-use Rattle.trade.proofs.CodeLaws.{Turn, sizes-turn, sizes-none, adds-of, adds-none}
+use Rattle.trade.proofs.CodeLaws.{Turn, sizes-turn, sizes-none, last-turn, last-none, adds-of, adds-none}
 
 -- nothing, at the price p
 abbrev pub nothingAt : ℕ → Found
-nothingAt p = record { price = p; customers = 0; others = 0; served = 0; total = 0 }
+nothingAt p = record { price = p; customers = 0; others = 0; served = 0; total = 0; customer = 0; other = 0 }
 
 pub found-lower : (f : Found) (p : ℕ) → p < f .price → foundAt f p ≡ nothingAt p
 unfolding foundAt
@@ -45,12 +45,13 @@ takes-none bound r i f h =
 pub takes-of : (bound : ℕ) (r : Response) (i : ℕ) (f b n : Found) (c : Bool) → max (r .price) bound ≤ f .price → n .price ≡ max (r .price) bound
     → b ≡ foundAt f (n .price) → b .served + b .total ≤ f .served + f .total → r .customer ≡ c
     → n .customers ≡ cond c (withBit (b .customers) i) (b .customers) → n .others ≡ cond (not c) (withBit (b .others) i) (b .others)
-    → n .served ≡ b .served + cond c (r .size) 0 → n .total ≡ b .total + cond (not c) (r .size) 0 → r .size ≤ 4294967295
+    → n .served ≡ b .served + cond c (r .size) 0 → n .total ≡ b .total + cond (not c) (r .size) 0
+    → n .customer ≡ cond c (r .sequence) (b .customer) → n .other ≡ cond (not c) (r .sequence) (b .other) → r .size ≤ 4294967295
     → Takes bound r i f n
-takes-of bound r i f b n c h e eb s ec cs os ss ts l =
+takes-of bound r i f b n c h e eb s ec cs os ss ts lc lo l =
     record {
       price = omega arith;
-      adds = rw (← eb) (adds-of bound (n .price) r i b n true c (eq-eqb _ _ (sym e)) ec cs os ss ts);
+      adds = rw (← eb) (adds-of bound (n .price) r i b n true c (eq-eqb _ _ (sym e)) ec cs os ss ts lc lo);
       small = small c ss ts;
     }
   where
@@ -67,9 +68,11 @@ module _ (bound : ℕ) (ps : List Response) (word : ℕ) where
     pub others : Sifted (otherAt bound p) ps word (f .others) rest
     pub served : sum (sizes (filter (customerAt bound p) (liveIn word ps))) ≡ f .served + sum (sizes (filter (customerAt bound p) (liveIn rest ps)))
     pub total : sum (sizes (filter (otherAt bound p) (liveIn word ps))) ≡ f .total + sum (sizes (filter (otherAt bound p) (liveIn rest ps)))
+    pub customer : lastSequence 0 (filter (customerAt bound p) (liveIn word ps)) ≡ lastSequence (f .customer) (filter (customerAt bound p) (liveIn rest ps))
+    pub other : lastSequence 0 (filter (otherAt bound p) (liveIn word ps)) ≡ lastSequence (f .other) (filter (otherAt bound p) (liveIn rest ps))
 
   seen-start : (p q : ℕ) → Seen p (nothingAt q) word
-  seen-start p q = record { customers = sift-start (customerAt bound p) ps word; others = sift-start (otherAt bound p) ps word; served = omega arith; total = omega arith }
+  seen-start p q = record { customers = sift-start (customerAt bound p) ps word; others = sift-start (otherAt bound p) ps word; served = omega arith; total = omega arith; customer = refl; other = refl }
 
   seen-step : (p : ℕ) (f n : Found) (rest i : ℕ) → length ps ≡ 64 → Turn ps rest i → Adds bound p (getD ps i noResponse) i f n → Seen p f rest → Seen p n (withoutBit rest i)
   seen-step p f n rest i e t a s =
@@ -79,6 +82,8 @@ module _ (bound : ℕ) (ps : List Response) (word : ℕ) where
         others = rw (a .others) (sift-step (otherAt bound p) ps word (f .others) rest i noResponse h (t .low) (t .set) (s .others));
         served = omega (arith, s .served, a .served, sizes-turn (customerAt bound p) ps rest i t);
         total = omega (arith, s .total, a .total, sizes-turn (otherAt bound p) ps rest i t);
+        customer = s .customer ∙ last-turn (customerAt bound p) (f .customer) ps rest i t ∙ ap (λ (m : ℕ). lastSequence m (filter (customerAt bound p) (liveIn (withoutBit rest i) ps))) (sym (a .customer));
+        other = s .other ∙ last-turn (otherAt bound p) (f .other) ps rest i t ∙ ap (λ (m : ℕ). lastSequence m (filter (otherAt bound p) (liveIn (withoutBit rest i) ps))) (sym (a .other));
       }
 
   -- of each price that is not above that of f
@@ -115,5 +120,7 @@ module _ (bound : ℕ) (ps : List Response) (word : ℕ) where
         others = sift-end (otherAt bound (f .price)) ps word (f .others) (k .others);
         served = omega (arith, k .served, sizes-none (customerAt bound (f .price)) ps);
         total = omega (arith, k .total, sizes-none (otherAt bound (f .price)) ps);
+        customer = sym (k .customer ∙ last-none (customerAt bound (f .price)) (f .customer) ps);
+        other = sym (k .other ∙ last-none (otherAt bound (f .price)) (f .other) ps);
         small = small;
       }

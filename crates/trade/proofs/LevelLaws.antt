@@ -22,7 +22,7 @@ use Rattle.trade.specs.declared.Walked.{Walked}
 use Rattle.trade.specs.Trade.{isCustomer, isOther, Level, customers, others, shared, given, first, contra, levelFills, total, flat, working, top, entry, next, guarantee}
 use Rattle.trade.specs.Write.{shown, reported}
 use Rattle.trade.specs.Demands.{sizeHere}
-use Rattle.trade.specs.Code.{matchOf, lastOf, wantOf, sharedOf, contraOf, leftOf, worksAt, customerAt, otherAt, FoundAt, leastOf, eachFills, dealt, shareFills, placeFills, levelOf, Looks, Stepped, walkFrom}
+use Rattle.trade.specs.Code.{matchOf, lastOf, wantOf, sharedOf, contraOf, leftOf, worksAt, customerAt, otherAt, lastSequence, Known, FoundAt, leastOf, eachFills, dealt, shareFills, placeFills, levelOf, Looks, Stepped, walkFrom}
 use Rattle.trade.proofs.Lists.{sizes-split}
 use Rattle.trade.proofs.Levels.{given-sum, traded-is}
 use Rattle.trade.proofs.WriteLaws.{sizes-sequence}
@@ -102,14 +102,14 @@ module _ (d : Deal) (ps : List Response) (G : ℕ) (s : Walked) (e : length ps �
   pub looks : (l : Price) (f : Found) (m T E : ℕ) → T ≡ top d → E ≡ entry d
       → l .price ≡ leastOf (d .bound) T (liveIn (s .rest) ps)
       → FoundAt (d .bound) (l .price) ps (s .rest) f
-      → l .customers ≡ f .customers → l .others ≡ f .others → l .served ≡ f .served → l .total ≡ f .total
+      → l .customers ≡ f .customers → l .others ≡ f .others → l .served ≡ f .served → l .total ≡ f .total → l .customer ≡ f .customer → l .other ≡ f .other
       → m ≡ matchOf (d .mode) G (s .held) (l .served + l .total)
       → l .last ≡ lastOf E T (l .price) (s .left) (l .served + l .total + m)
       → l .want ≡ wantOf (l .last) E (l .price) G (s .held) m
       → l .price ≤ 4294967295 → l .served + l .total + l .want ≤ 1099511627520
       → Looks d ps G s l
   unfolding levelOf
-  looks l f m T E et ee ep k ec eo es eT em el ew low small =
+  looks l f m T E et ee ep k ec eo es eT lc lo em el ew low small =
       let p : l .price ≡ leastOf (d .bound) (top d) (liveIn (s .rest) ps) = ep ∙ ap (λ (n : ℕ). leastOf (d .bound) n (liveIn (s .rest) ps)) et in
       let xs = filter (worksAt (d .bound) (l .price)) (liveIn (s .rest) ps) in
       let os = inSequence xs in
@@ -134,8 +134,8 @@ module _ (d : Deal) (ps : List Response) (G : ℕ) (s : Walked) (e : length ps �
         price-is = p;
         customers-are = rw (← p) sc;
         others-are = rw (← p) so;
-        served-is = rw (← p) C;
-        total-is = t;
+        customers-known = record { one-is = lc ∙ k .customer ∙ ap (lastSequence 0) (customers-word (l .price) ∙ sym cs); total-is = c };
+        others-known = record { one-is = lo ∙ k .other ∙ ap (lastSequence 0) (others-word (l .price) ∙ sym ot); total-is = t };
         want-is = rw (← p) W;
         last-is = rw (← p) F;
         gone = gone;
@@ -151,20 +151,23 @@ unfolding levelOf
 left-same d ps G s = refl
 
 module _ (d : Deal) (ps : List Response) (G : ℕ) (s : Walked) (l : Price) (k : Looks d ps G s l) where
+  served-all : l .served ≡ sum (sizes (customers (levelOf d ps G s)))
+  served-all = k .customers-known .total-is ∙ sym (sizes-sequence (liveIn (l .customers) ps)) ∙ ap (λ (x : List Response). sum (sizes x)) (k .customers-are)
+
   total-all : l .total ≡ sum (sizes (others (levelOf d ps G s)))
-  total-all = k .total-is ∙ sym (sizes-sequence (liveIn (l .others) ps)) ∙ ap (λ (x : List Response). sum (sizes x)) (k .others-are)
+  total-all = k .others-known .total-is ∙ sym (sizes-sequence (liveIn (l .others) ps)) ∙ ap (λ (x : List Response). sum (sizes x)) (k .others-are)
 
   pub contra-found : contraOf (s .left) (l .served) (l .total) (l .want) (l .last) ≡ contra (levelOf d ps G s)
   unfolding levelOf
-  contra-found = rw (k .served-is, total-all, k .want-is, k .last-is) (sym (contra-numbers (levelOf d ps G s)))
+  contra-found = rw (served-all, total-all, k .want-is, k .last-is) (sym (contra-numbers (levelOf d ps G s)))
 
   pub left-found : leftOf (s .left) (l .served) (l .total) (l .want) (l .last) ≡ s .left - total (levelFills (levelOf d ps G s))
   unfolding levelOf
-  left-found = rw (k .served-is, total-all, k .want-is, k .last-is) (sym (left-numbers (levelOf d ps G s)))
+  left-found = rw (served-all, total-all, k .want-is, k .last-is) (sym (left-numbers (levelOf d ps G s)))
 
   shared-found : sharedOf (s .left) (l .served) (l .want) ≡ shared (levelOf d ps G s)
   unfolding levelOf
-  shared-found = rw (k .served-is, k .want-is) (sym (shared-numbers (levelOf d ps G s)))
+  shared-found = rw (served-all, k .want-is) (sym (shared-numbers (levelOf d ps G s)))
 
   pub place-is : (price c : ℕ) → price ≡ shown (d .sell) (l .price) → c ≡ contraOf (s .left) (l .served) (l .total) (l .want) (l .last)
       → placeFills price (s .left) (inSequence (liveIn (l .customers) ps)) c (sharedOf (s .left) (l .served) (l .want)) (inSequence (liveIn (l .others) ps))

@@ -2,7 +2,7 @@
 use mathlib.Core.Path.{_≡_, refl, sym, ap, ap₂, _∙_}
 use mathlib.Core.Bool.{Bool, true, false, cond, _&&_, true≢false, false≢true}
 use mathlib.Core.Logic.{⊎-elim}
-use mathlib.Core.List.{List, [], _∷_, _++_}
+use mathlib.Core.List.{List, [], _∷_, _++_, append-nil}
 use Prim.Native.Nat.{ℕ, zero, suc, _+_, _-_, _*_, _/_, _^_, _≤_, _<_, min}
 use native.Mathlib.Nat.{mul-zero, zero-div}
 use native.Mathlib.Omega.{arith}
@@ -16,7 +16,7 @@ use Rattle.board.specs.declared.Response.{Response}
 use Rattle.board.specs.Lists.{Inserts, Shuffles, sum}
 use Rattle.board.specs.Lists.Inserts.{here, there}
 use Rattle.board.specs.Lists.Shuffles.{none, more}
-use Rattle.board.specs.Board.{noResponse, liveIn, inSequence, firstInSequence}
+use Rattle.board.specs.Board.{noResponse, liveIn, inserted, inSequence, firstInSequence}
 use Rattle.board.specs.Theorems.{RisingFrom}
 use Rattle.board.proofs.ListLaws.{every-inserts}
 use Rattle.board.proofs.LiveLaws.{none-live, less-live}
@@ -24,8 +24,8 @@ use Rattle.board.proofs.SequenceLaws.{From, rising-from, sequence-shuffles}
 use Rattle.board.proofs.FirstLaws.{some-first, first-earliest, earliest-sequence, Best, best-start, best-step, best-end}
 use Rattle.share.specs.Share.{floors, leftover, shares, inTurn}
 use Rattle.share.specs.Fills.{fillOf, sizes}
-use Rattle.share.proofs.ShareLaws.{room, floors-at-most}
-use Rattle.trade.specs.Code.{eachFills, dealt, shareFills, isRising, Gives}
+use Rattle.share.proofs.ShareLaws.{room, floors-at-most, shares-sum, shares-length}
+use Rattle.trade.specs.Code.{eachFills, dealt, shareFills, isRising, lastSequence, Known, Gives}
 use Rattle.trade.specs.declared.Given.{Given}
 use Rattle.trade.proofs.CodeLaws.{cut-less, Turn, turn-of}
 
@@ -126,6 +126,40 @@ shares-none p R ps = rw (none-left ps)
 
 pub parts-le : (R T : ℕ) (xs : List Response) → T ≡ sum (sizes xs) → R < T → sum (floors R T (sizes xs)) ≤ R
 parts-le R T xs e h = rw e (floors-at-most R (sizes xs) (omega arith))
+
+-- ---- one response alone
+
+only : (qs : List ℕ) (n : ℕ) → length qs ≡ 1 → sum qs ≡ n → qs ≡ n ∷ []
+unfolding sum
+only [] n l e = absurd (omega arith)
+only (q ∷ []) n l e = let f : q ≡ n = omega arith in rw f
+only (q ∷ x ∷ qs) n l e = absurd (omega arith)
+
+module _ (ps : List Response) (word one total : ℕ) (e : length ps ≡ 64) (p : 0 < word) (h : word < 2 ^ 64) (z : withoutBit word (setIn 64 word) ≡ 0) (k : Known ps word one total) where
+  abbrev it : Response
+  it = getD ps (setIn 64 word) noResponse
+
+  it-alone : liveIn word ps ≡ it ∷ []
+  it-alone = turn-of ps word (setIn 64 word) e p h refl .cons ∙ ap {B = List Response} (λ rs. it ∷ rs) (rw z (none-live ps))
+
+  its-sequence : one ≡ it .sequence
+  unfolding lastSequence
+  its-sequence = k .one-is ∙ ap (lastSequence 0) it-alone
+
+  its-size : total ≡ it .size
+  unfolding sum
+  its-size = k .total-is ∙ ap (λ (rs : List Response). sum (sizes rs)) it-alone ∙ omega arith
+
+  -- it gets what there is, up to its size
+  pub turns-one : (price n : ℕ) → eachFills price true 0 0 n (inSequence (liveIn word ps)) ≡ fillOf one price (min n total)
+  unfolding eachFills dealt inSequence inserted
+  turns-one price n = rw (it-alone, its-sequence, its-size) (append-nil (fillOf (it .sequence) price (min n (it .size))))
+
+  pub shares-one : (price R : ℕ) → shareFills price R (inSequence (liveIn word ps)) ≡ fillOf one price (min R total)
+  unfolding shareFills inSequence inserted sum
+  shares-one price R =
+      let q : shares R (it .size ∷ []) ≡ min R (it .size) ∷ [] = only (shares R (it .size ∷ [])) (min R (it .size)) (shares-length R (it .size ∷ [])) (shares-sum R (it .size ∷ []) ∙ omega arith) in
+      rw (it-alone, its-sequence, its-size, q) (append-nil (fillOf (it .sequence) price (min R (it .size))))
 
 -- ---- places that stand in rising order of sequence
 

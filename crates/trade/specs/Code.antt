@@ -50,16 +50,28 @@ customerAt bound p r = worksAt bound p r && r .customer
 abbrev pub otherAt : ℕ → ℕ → Response → Bool
 otherAt bound p r = worksAt bound p r && not (r .customer)
 
+-- the last sequence, and m where there is none
+unfoldable pub lastSequence : ℕ → List Response → ℕ
+lastSequence m [] = m
+lastSequence m (r ∷ rs) = lastSequence (r .sequence) rs
+
+-- what is known of the responses of a word: the sequence of the last, and the sum of their sizes
+pub record Known (places : List Response) (word one total : ℕ) : Type 0 where
+  pub one-is : one ≡ lastSequence 0 (liveIn word places)
+  pub total-is : total ≡ sum (sizes (liveIn word places))
+
 -- what a response at place i adds to what was found at the price p
 pub record Adds (bound p : ℕ) (r : Response) (i : ℕ) (f n : Found) : Type 0 where
   pub customers : n .customers ≡ cond (customerAt bound p r) (withBit (f .customers) i) (f .customers)
   pub others : n .others ≡ cond (otherAt bound p r) (withBit (f .others) i) (f .others)
   pub served : n .served ≡ f .served + cond (customerAt bound p r) (r .size) 0
   pub total : n .total ≡ f .total + cond (otherAt bound p r) (r .size) 0
+  pub customer : n .customer ≡ cond (customerAt bound p r) (r .sequence) (f .customer)
+  pub other : n .other ≡ cond (otherAt bound p r) (r .sequence) (f .other)
 
 -- of what was found, that at the price p, which is at most its price: nothing yet, where p is lower
 unfoldable pub foundAt : Found → ℕ → Found
-foundAt f p = cond (ltb p (f .price)) (record { price = p; customers = 0; others = 0; served = 0; total = 0 }) f
+foundAt f p = cond (ltb p (f .price)) (record { price = p; customers = 0; others = 0; served = 0; total = 0; customer = 0; other = 0 }) f
 
 -- what is found of one response more, at place i: that at the least price
 pub record Takes (bound : ℕ) (r : Response) (i : ℕ) (f n : Found) : Type 0 where
@@ -73,6 +85,8 @@ pub record FoundAt (bound p : ℕ) (places : List Response) (word : ℕ) (f : Fo
   pub others : f .others ≡ wordOf (otherAt bound p) word places
   pub served : f .served ≡ sum (sizes (filter (customerAt bound p) (liveIn word places)))
   pub total : f .total ≡ sum (sizes (filter (otherAt bound p) (liveIn word places)))
+  pub customer : f .customer ≡ lastSequence 0 (filter (customerAt bound p) (liveIn word places))
+  pub other : f .other ≡ lastSequence 0 (filter (otherAt bound p) (liveIn word places))
   pub small : f .served + f .total ≤ 274877906880
 
 -- the least working price, but at most the last
@@ -132,8 +146,8 @@ pub record Looks (d : Deal) (places : List Response) (G : ℕ) (s : Walked) (l :
   pub price-is : l .price ≡ levelOf d places G s .price
   pub customers-are : inSequence (liveIn (l .customers) places) ≡ customers (levelOf d places G s)
   pub others-are : inSequence (liveIn (l .others) places) ≡ others (levelOf d places G s)
-  pub served-is : l .served ≡ sum (sizes (customers (levelOf d places G s)))
-  pub total-is : l .total ≡ sum (sizes (liveIn (l .others) places))
+  pub customers-known : Known places (l .customers) (l .customer) (l .served)
+  pub others-known : Known places (l .others) (l .other) (l .total)
   pub want-is : l .want ≡ levelOf d places G s .want
   pub last-is : l .last ≡ levelOf d places G s .final
   -- its places are places of the walk's word

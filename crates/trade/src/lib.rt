@@ -3,11 +3,10 @@ ghost use mathlib.Core.Path.{_≡_};
 ghost use Prim.Native.Nat.{_+_, _*_, _≤_, _<_};
 ghost use lib.ListN.{length};
 ghost use Rattle.board.specs.Board.{liveIn, inSequence};
-ghost use Rattle.board.specs.Lists.{sum};
-ghost use Rattle.share.specs.Fills.{fillOf, sizes, Wrote};
+ghost use Rattle.share.specs.Fills.{fillOf, Wrote};
 ghost use Rattle.trade.specs.Trade.{levelFills, flat, marketPrice, guarantee};
 ghost use Rattle.trade.specs.Write.{shown, reported, fillsOf, answer, after};
-ghost use Rattle.trade.specs.Code.{sharedOf, placeFills, levelOf, Looks, Stepped, walkFrom};
+ghost use Rattle.trade.specs.Code.{sharedOf, placeFills, levelOf, Known, Looks, Stepped, walkFrom};
 use board::Board;
 use board::Response;
 use words::bits;
@@ -37,24 +36,28 @@ pub enum Filled {
     Refused(u32),
 }
 
-// A price of the walk: the words of its Customers and of the others, their sizes, and the plan.
+// A price of the walk: the words of its Customers and of the others, their sizes, the sequence of the last of each, and the plan.
 struct Price {
     price: u64,
     customers: u64,
     others: u64,
     served: u64,
     total: u64,
+    customer: u32,
+    other: u32,
     want: u64,
     last: bool,
 }
 
-// What stands at a price: the words of its Customers and of the others, and their sizes.
+// What stands at a price: the words of its Customers and of the others, their sizes, and the sequence of the last of each.
 struct Found {
     price: u64,
     customers: u64,
     others: u64,
     served: u64,
     total: u64,
+    customer: u32,
+    other: u32,
 }
 
 // What one is given, and what is left to give.
@@ -91,6 +94,8 @@ fn level_at(d: Deal, places: [Response; 64], g: u64, s: Walked) -> Price
         others: f.others,
         served: f.served,
         total: f.total,
+        customer: f.customer,
+        other: f.other,
         want,
         last,
     }
@@ -106,14 +111,23 @@ fn write_level(
     out: &mut [u32],
     at: usize,
 ) -> usize
-    requires { ⌜ (left ≤ 4294967295) × (contra ≤ 4294967295) × (l .total ≡ sum (sizes (liveIn (l .others) places))) ⌝ }
+    requires { ⌜ (left ≤ 4294967295) × (contra ≤ 4294967295) × Known places (l .customers) (l .customer) (l .served) × Known places (l .others) (l .other) (l .total) ⌝ }
     requires { ⌜ at + 3 * length (placeFills price left (inSequence (liveIn (l .customers) places)) contra (sharedOf left (l .served) (l .want)) (inSequence (liveIn (l .others) places))) ≤ length (now out) ⌝ }
     ensures { λ r. ⌜ Wrote (now (out .entry)) at (placeFills price left (inSequence (liveIn (l .customers) places)) contra (sharedOf left (l .served) (l .want)) (inSequence (liveIn (l .others) places))) r (now (out .exit)) ⌝ }
 {
-    let a = write::write_turns(places, l.customers, price, left, out, at);
+    let a = write::write_turns(
+        places,
+        l.customers,
+        l.customer,
+        l.served,
+        price,
+        left,
+        out,
+        at,
+    );
     let b = write::put_fill(out, a, 0, price, contra);
     let shared = numbers::shared_of(left, l.served, l.want);
-    write::write_shares(places, l.others, price, shared, l.total, out, b)
+    write::write_shares(places, l.others, l.other, price, shared, l.total, out, b)
 }
 
 // A price is filled, and the walk stands after it.

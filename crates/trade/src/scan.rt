@@ -36,6 +36,8 @@ fn found_at(f: Found, p: u64) -> Found
             others: 0,
             served: 0,
             total: 0,
+            customer: 0,
+            other: 0,
         };
     }
     f
@@ -58,6 +60,8 @@ fn found(f: Found, r: Response, bound: u32, i: usize) -> Found
             others: b.others,
             served: b.served + numbers::wide(r.size),
             total: b.total,
+            customer: r.sequence,
+            other: b.other,
         };
     }
     Found {
@@ -66,6 +70,8 @@ fn found(f: Found, r: Response, bound: u32, i: usize) -> Found
         others: bits::with_bit(b.others, i),
         served: b.served,
         total: b.total + numbers::wide(r.size),
+        customer: b.customer,
+        other: r.sequence,
     }
 }
 
@@ -80,6 +86,8 @@ pub(crate) fn found_least(places: [Response; 64], word: u64, bound: u32, last: u
         others: 0,
         served: 0,
         total: 0,
+        customer: 0,
+        other: 0,
     };
     let mut rest = word;
     while rest != 0 {

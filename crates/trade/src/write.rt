@@ -2,12 +2,12 @@
 ghost use mathlib.Core.Path.{_≡_};
 ghost use mathlib.Core.Bool.{true, false, cond};
 ghost use Prim.Native.Nat.{_+_, _*_, _≤_, _<_, min};
+ghost use lib.Dec.{eqb};
 ghost use lib.ListN.{length};
 ghost use Rattle.words.specs.Bits.{withoutBit, setIn};
 ghost use Rattle.board.specs.Board.{liveIn, inSequence};
-ghost use Rattle.board.specs.Lists.{sum};
-ghost use Rattle.share.specs.Fills.{fillOf, sizes, Wrote};
-ghost use Rattle.trade.specs.Code.{eachFills, shareFills, isRising, Gives};
+ghost use Rattle.share.specs.Fills.{fillOf, Wrote};
+ghost use Rattle.trade.specs.Code.{eachFills, shareFills, isRising, Known, Gives};
 use crate::Given;
 use crate::numbers;
 use crate::scan;
@@ -141,41 +141,58 @@ pub(crate) fn write_each(
     w
 }
 
-// The responses of the word in turn out of k: where there are none, the places are not even copied.
+// Whether the word has one place at most.
+fn alone(word: u64) -> bool
+    ensures { λ r. ⌜ r ≡ eqb (withoutBit word (setIn 64 word)) 0 ⌝ }
+{
+    let first = bits::first_set(word) as usize;
+    bits::without_bit(word, first) == 0
+}
+
+// The responses of the word in turn out of k, where one is the sequence of the last and total the sum of their sizes: for one alone or none the places are not even copied.
 pub(crate) fn write_turns(
     places: [Response; 64],
     word: u64,
+    one: u32,
+    total: u64,
     price: u32,
     k: u64,
     out: &mut [u32],
     at: usize,
 ) -> usize
-    requires { ⌜ k ≤ 4294967295 ⌝ }
+    requires { ⌜ (k ≤ 4294967295) × Known places word one total ⌝ }
     requires { ⌜ at + 3 * length (eachFills price true 0 0 k (inSequence (liveIn word places))) ≤ length (now out) ⌝ }
     ensures { λ r. ⌜ Wrote (now (out .entry)) at (eachFills price true 0 0 k (inSequence (liveIn word places))) r (now (out .exit)) ⌝ }
 {
     if word == 0 {
         return at;
     }
+    if alone(word) {
+        return put_fill(out, at, one, price, numbers::lesser(k, total));
+    }
     write_each(places, word, price, true, 0, 0, k, out, at)
 }
 
-// The amount over the responses of the word, pro rata: total is the sum of their sizes.
+// The amount over the responses of the word, pro rata, where one and total are the same.
 pub(crate) fn write_shares(
     places: [Response; 64],
     word: u64,
+    one: u32,
     price: u32,
     amount: u64,
     total: u64,
     out: &mut [u32],
     at: usize,
 ) -> usize
-    requires { ⌜ (amount ≤ 4294967295) × (total ≡ sum (sizes (liveIn word places))) ⌝ }
+    requires { ⌜ (amount ≤ 4294967295) × Known places word one total ⌝ }
     requires { ⌜ at + 3 * length (shareFills price amount (inSequence (liveIn word places))) ≤ length (now out) ⌝ }
     ensures { λ r. ⌜ Wrote (now (out .entry)) at (shareFills price amount (inSequence (liveIn word places))) r (now (out .exit)) ⌝ }
 {
     if word == 0 {
         return at;
+    }
+    if alone(word) {
+        return put_fill(out, at, one, price, numbers::lesser(amount, total));
     }
     if total <= amount {
         return write_each(places, word, price, true, amount, total, amount, out, at);

@@ -43,7 +43,7 @@ returns c =
     let a = s .args in
     let t = c .before .before .before .before .before .before .top-of .ensures in
     let f = c .before .before .before .before .found-least in
-    looks (a .d) (a .places) (a .g) (a .s) (len s) (word s) _ (f .result) _ _ _ (t .0) (c .before .before .before .before .before .entry-of .ensures) (f .ensures .0 .0) (f .ensures .1) refl refl refl refl
+    looks (a .d) (a .places) (a .g) (a .s) (len s) (word s) _ (f .result) _ _ _ (t .0) (c .before .before .before .before .before .entry-of .ensures) (f .ensures .0 .0) (f .ensures .1) refl refl refl refl refl refl
     (c .before .before .matched .ensures .0) (c .before .is-last .ensures) (c .wanted .ensures .0)
     (omega (arith, f .ensures .0 .1, t .1))
     (omega (arith, f .ensures .1 .small, c .before .before .matched .ensures .1, c .wanted .ensures .1, s .pre))

@@ -25,7 +25,7 @@ write-level-requires c κs =
     let l = c .before .before .before .before .level-at in
     let k = l .ensures in
     let e = c .before .before .before .contra-of .ensures in (
-      (omega (arith, s .pre .0 .1), omega (arith, s .pre .0 .1, e, contra-within (a .s .left) (l .result .served) (l .result .total) (l .result .want) (l .result .last)), k .total-is),
+      (omega (arith, s .pre .0 .1), omega (arith, s .pre .0 .1, e, contra-within (a .s .left) (l .result .served) (l .result .total) (l .result .want) (l .result .last)), k .customers-known, k .others-known),
       rw (place-is (a .d) (a .places) (a .g) (a .s) (l .result) k _ _ (c .before .shown-price .ensures) e) (s .pre .1),
     )
 

@@ -19,10 +19,10 @@ sized : (c : tie.Start)
 sized c = place-length (c .args .price) (c .args .left) _ (c .args .contra) _ _
 
 write-turns-requires : tie.Need-write-turns-requires
-write-turns-requires c κs = let s = c .before .before in (s .pre .0 .0, omega (arith, s .pre .1, sized s))
+write-turns-requires c κs = let s = c .before .before in ((s .pre .0 .0, s .pre .0 .2), omega (arith, s .pre .1, sized s))
 
 put-fill-requires : tie.Need-put-fill-requires
-put-fill-requires c κs = let s = c .before .before .before .before .before .before in let w = c .before .before .before .write-turns in (s .pre .0 .1, omega (arith, s .pre .1, sized s, w .ensures .place, w .kept .1 .1 .1 .1 .0))
+put-fill-requires c κs = let s = c .before .before .before .before .before .before in let w = c .before .before .before .write-turns in (s .pre .0 .1, omega (arith, s .pre .1, sized s, w .ensures .place, w .kept .1 .1 .1 .1 .1 .1 .0))
 
 shared-of-requires : tie.Need-shared-of-requires
 shared-of-requires c κs = search needs
@@ -34,8 +34,8 @@ write-shares-requires c κs =
     let w = c .before .before .before .before .before .before .before .before .write-turns in
     let f = c .before .before .before .before .put-fill in
     let e = c .before .shared-of .ensures in (
-      (omega (arith, e .1, s .pre .0 .0), s .pre .0 .2),
-      rw (e .0) (omega (arith, s .pre .1, sized s, w .ensures .place, w .kept .1 .1 .1 .1 .0, f .ensures .place, f .kept .0)),
+      (omega (arith, e .1, s .pre .0 .0), s .pre .0 .3),
+      rw (e .0) (omega (arith, s .pre .1, sized s, w .ensures .place, w .kept .1 .1 .1 .1 .1 .1 .0, f .ensures .place, f .kept .0)),
     )
 
 same-length : tie.Need-same-length

@@ -30,7 +30,7 @@ returns-2 c =
     let w = c .before .before .before .before .before .before .before .working .ensures .0 in
     let b = c .before .before .before .before .found-at in
     let a = c .before .before .before .before .before .before .before .before .args in
-    takes-of (a .bound) (a .r) (a .i) (a .f) (b .result) _ true (omega (arith, w, c .before .before .before .before .before .if1 .left)) w (b .ensures .0) (b .ensures .1) (c .before .before .before .if2 .taken) (c .before .before .with-bit .ensures) refl (ap (λ (n : ℕ). b .result .served + n) (c .before .wide .ensures .0)) (omega arith) (omega (arith, c .before .wide .ensures))
+    takes-of (a .bound) (a .r) (a .i) (a .f) (b .result) _ true (omega (arith, w, c .before .before .before .before .before .if1 .left)) w (b .ensures .0) (b .ensures .1) (c .before .before .before .if2 .taken) (c .before .before .with-bit .ensures) refl (ap (λ (n : ℕ). b .result .served + n) (c .before .wide .ensures .0)) (omega arith) refl refl (omega (arith, c .before .wide .ensures))
 
 with-bit-requires-2 : tie.Need-with-bit-requires-2
 with-bit-requires-2 c κs = search needs
@@ -46,7 +46,7 @@ returns-3 c =
     let w = c .before .before .before .before .before .before .before .working .ensures .0 in
     let b = c .before .before .before .before .found-at in
     let a = c .before .before .before .before .before .before .before .before .args in
-    takes-of (a .bound) (a .r) (a .i) (a .f) (b .result) _ false (omega (arith, w, c .before .before .before .before .before .if1 .left)) w (b .ensures .0) (b .ensures .1) (c .before .before .before .if2 .left) refl (c .before .before .with-bit2 .ensures) (omega arith) (ap (λ (n : ℕ). b .result .total + n) (c .before .wide2 .ensures .0)) (omega (arith, c .before .wide2 .ensures))
+    takes-of (a .bound) (a .r) (a .i) (a .f) (b .result) _ false (omega (arith, w, c .before .before .before .before .before .if1 .left)) w (b .ensures .0) (b .ensures .1) (c .before .before .before .if2 .left) refl (c .before .before .with-bit2 .ensures) (omega arith) (ap (λ (n : ℕ). b .result .total + n) (c .before .wide2 .ensures .0)) refl refl (omega (arith, c .before .wide2 .ensures))
 
 pub found-spec : {M : Type 1} → statement M
 found-spec =
