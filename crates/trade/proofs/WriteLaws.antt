@@ -1,7 +1,6 @@
 -- What the writers' proofs lean on: their fills, a response at a time.
 use mathlib.Core.Path.{_≡_, refl, sym, ap, ap₂, _∙_}
 use mathlib.Core.Bool.{Bool, true, false, cond, _&&_, true≢false, false≢true}
-use mathlib.Core.Logic.{⊎-elim}
 use mathlib.Core.List.{List, [], _∷_, _++_, append-nil}
 use Prim.Native.Nat.{ℕ, zero, suc, _+_, _-_, _*_, _/_, _^_, _≤_, _<_, min}
 use native.Mathlib.Nat.{mul-zero, zero-div}
@@ -11,7 +10,7 @@ use lib.Dec.{leb, ltb}
 use lib.ListN.{length, getD}
 use lib.Pow.{pow-pos}
 use Rattle.words.specs.Bits.{bitAt, withoutBit, setIn}
-use Rattle.words.proofs.BitLaws.{le-or-lt, no-bit, without-le, lowest-set}
+use Rattle.words.proofs.BitLaws.{no-bit, without-le, lowest-set}
 use Rattle.board.specs.declared.Response.{Response}
 use Rattle.board.specs.Lists.{Inserts, Shuffles, sum}
 use Rattle.board.specs.Lists.Inserts.{here, there}
@@ -176,18 +175,6 @@ rising-turn ps rest i m t h = rw (t .cons, le-leb m (getD ps i noResponse .seque
 pub rising-not : (ps : List Response) (rest i m : ℕ) → Turn ps rest i → getD ps i noResponse .sequence < m → isRising m (liveIn rest ps) ≡ false
 unfolding isRising
 rising-not ps rest i m t h = rw (t .cons, lt-leb m (getD ps i noResponse .sequence) h)
-
--- one alone does
-pub rising-one : (ps : List Response) (word : ℕ) → length ps ≡ 64 → word < 2 ^ 64 → withoutBit word (setIn 64 word) ≡ 0 → isRising 0 (liveIn word ps) ≡ true
-rising-one ps word e h z =
-    ⊎-elim
-    (λ (l : word ≤ 0).
-    let n : word ≡ 0 = omega arith in
-    rw n (rising-none ps 0))
-    (λ (p : 0 < word).
-    let t = turn-of ps word (setIn 64 word) e p h refl in
-    rising-turn ps word (setIn 64 word) 0 t (omega arith) ∙ rw z (rising-none ps (getD ps (setIn 64 word) noResponse .sequence)))
-    (le-or-lt word 0)
 
 -- what the test says
 pub rising-is : (m : ℕ) (xs : List Response) → isRising m xs ≡ true → RisingFrom m xs

@@ -75,7 +75,7 @@ fn found(f: Found, r: Response, bound: u32, i: usize) -> Found
     }
 }
 
-// The least working price, but at most the last, and the places that work at it: Customers and others, and their sizes.
+// The least working price, but at most the last, and the places that work at it: Customers and others, their sizes, and the sequence of the last of each.
 pub(crate) fn found_least(places: [Response; 64], word: u64, bound: u32, last: u64) -> Found
     ensures { λ r. ⌜ (r .price ≡ leastOf bound last (liveIn word places)) × (r .price ≤ last) ⌝ }
     ensures { λ r. ⌜ FoundAt bound (r .price) places word r ⌝ }

@@ -80,17 +80,6 @@ fn rising(places: [Response; 64], word: u64) -> bool
     true
 }
 
-// The same, where more is every place of the word but the first: nothing is looked over for one alone.
-fn in_order(places: [Response; 64], word: u64, more: u64) -> bool
-    requires { ⌜ more ≡ withoutBit word (setIn 64 word) ⌝ }
-    ensures { λ r. ⌜ r ≡ isRising 0 (liveIn word places) ⌝ }
-{
-    if more == 0 {
-        return true;
-    }
-    rising(places, word)
-}
-
 // The places to look at for the lowest sequence, where best is the first: none, where they stand in rising order.
 fn unseen_of(sorted: bool, rest: u64, best: usize) -> u64
     ensures { λ r. ⌜ r ≡ cond sorted 0 (withoutBit rest best) ⌝ }
@@ -121,7 +110,7 @@ pub(crate) fn write_each(
     let mut left = k;
     let mut rest = word;
     let mut best = bits::first_set(word) as usize;
-    let sorted = in_order(places, word, bits::without_bit(word, best));
+    let sorted = rising(places, word);
     let mut unseen = unseen_of(sorted, word, best);
     while rest != 0 {
         if unseen != 0 {
@@ -149,7 +138,7 @@ fn alone(word: u64) -> bool
     bits::without_bit(word, first) == 0
 }
 
-// The responses of the word in turn out of k, where one is the sequence of the last and total the sum of their sizes: for one alone or none the places are not even copied.
+// The responses of the word in turn out of k: one is the sequence of the last of them, and total the sum of their sizes. For one alone, and for none, the places are not even copied.
 pub(crate) fn write_turns(
     places: [Response; 64],
     word: u64,
@@ -173,7 +162,7 @@ pub(crate) fn write_turns(
     write_each(places, word, price, true, 0, 0, k, out, at)
 }
 
-// The amount over the responses of the word, pro rata, where one and total are the same.
+// The amount over the responses of the word, pro rata: one and total as for those in turn.
 pub(crate) fn write_shares(
     places: [Response; 64],
     word: u64,

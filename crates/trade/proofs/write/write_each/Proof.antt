@@ -39,11 +39,8 @@ first-set-requires c κs = search needs
 cast-best : tie.Need-cast-best Inv-loop μ-loop
 cast-best c = omega (arith, c .first-set .ensures, set-le 64 (c .before .before .args .word))
 
-without-bit-requires : tie.Need-without-bit-requires Inv-loop μ-loop
-without-bit-requires c κs = search needs
-
-in-order-requires : tie.Need-in-order-requires Inv-loop μ-loop
-in-order-requires c κs = c .without-bit .ensures ∙ ap (withoutBit (c .before .before .before .args .word)) (c .before .first-set .ensures)
+rising-requires : tie.Need-rising-requires Inv-loop μ-loop
+rising-requires c κs = search needs
 
 unseen-of-requires : tie.Need-unseen-of-requires Inv-loop μ-loop
 unseen-of-requires c κs = search needs
@@ -52,35 +49,35 @@ len : (c : tie.Start Inv-loop μ-loop) → length (c .args .t1) ≡ 64
 len c = search needs
 
 -- the next place to look at
-look : (c : tie.After-first-set2 Inv-loop μ-loop) → Turn (c .before .before .before .before .before .before .before .before .before .args .t1) (c .before .before .before .loop .unseen) (c .first-set2 .result)
-look c = turn-of (c .before .before .before .before .before .before .before .before .before .args .t1) (c .before .before .before .loop .unseen) _ (len (c .before .before .before .before .before .before .before .before .before)) (omega arith) (c .before .before .before .loop .inv .1) (c .first-set2 .ensures)
+look : (c : tie.After-first-set2 Inv-loop μ-loop) → Turn (c .before .before .before .before .before .before .before .before .args .t1) (c .before .before .before .loop .unseen) (c .first-set2 .result)
+look c = turn-of (c .before .before .before .before .before .before .before .before .args .t1) (c .before .before .before .loop .unseen) _ (len (c .before .before .before .before .before .before .before .before)) (omega arith) (c .before .before .before .loop .inv .1) (c .first-set2 .ensures)
 
 -- where all were looked at, the place found is the next in sequence
-pick : (c : tie.Else1 Inv-loop μ-loop) → Pick (c .before .before .before .before .before .before .before .before .args .t1) (c .before .before .loop .rest) (c .before .before .loop .best)
+pick : (c : tie.Else1 Inv-loop μ-loop) → Pick (c .before .before .before .before .before .before .before .args .t1) (c .before .before .loop .rest) (c .before .before .loop .best)
 pick c =
     let l = c .before .before in
     let p : 0 < l .loop .rest = omega arith in
-    hunt-end (c .before .before .before .before .before .before .before .before .args .t1) (len (c .before .before .before .before .before .before .before .before)) (l .loop .rest) (l .loop .best) (l .loop .unseen) p (l .loop .inv .0) (c .if1 .left) (l .loop .inv .4 p)
+    hunt-end (c .before .before .before .before .before .before .before .args .t1) (len (c .before .before .before .before .before .before .before)) (l .loop .rest) (l .loop .best) (l .loop .unseen) p (l .loop .inv .0) (c .if1 .left) (l .loop .inv .4 p)
 
 -- what is still to be written: this response's fill, and the others'
 step : (c : tie.After-given Inv-loop μ-loop)
-    → eachFills (c .before .before .before .before .before .before .before .before .before .before .args .price) (c .before .before .before .before .before .before .before .before .before .before .args .turns) (c .before .before .before .before .before .before .before .before .before .before .args .amount) (c .before .before .before .before .before .before .before .before .before .before .args .total) (c .before .before .before .before .loop .left)
-    (inSequence (liveIn (c .before .before .before .before .loop .rest) (c .before .before .before .before .before .before .before .before .before .before .args .t1)))
-    ≡ fillOf (getD (c .before .before .before .before .before .before .before .before .before .before .args .t1) (c .before .before .before .before .loop .best) noResponse .sequence) (c .before .before .before .before .before .before .before .before .before .before .args .price) (c .given .result .quantity)
-    ++ eachFills (c .before .before .before .before .before .before .before .before .before .before .args .price) (c .before .before .before .before .before .before .before .before .before .before .args .turns) (c .before .before .before .before .before .before .before .before .before .before .args .amount) (c .before .before .before .before .before .before .before .before .before .before .args .total) (c .given .result .left)
-    (inSequence (liveIn (withoutBit (c .before .before .before .before .loop .rest) (c .before .before .before .before .loop .best)) (c .before .before .before .before .before .before .before .before .before .before .args .t1)))
+    → eachFills (c .before .before .before .before .before .before .before .before .before .args .price) (c .before .before .before .before .before .before .before .before .before .args .turns) (c .before .before .before .before .before .before .before .before .before .args .amount) (c .before .before .before .before .before .before .before .before .before .args .total) (c .before .before .before .before .loop .left)
+    (inSequence (liveIn (c .before .before .before .before .loop .rest) (c .before .before .before .before .before .before .before .before .before .args .t1)))
+    ≡ fillOf (getD (c .before .before .before .before .before .before .before .before .before .args .t1) (c .before .before .before .before .loop .best) noResponse .sequence) (c .before .before .before .before .before .before .before .before .before .args .price) (c .given .result .quantity)
+    ++ eachFills (c .before .before .before .before .before .before .before .before .before .args .price) (c .before .before .before .before .before .before .before .before .before .args .turns) (c .before .before .before .before .before .before .before .before .before .args .amount) (c .before .before .before .before .before .before .before .before .before .args .total) (c .given .result .left)
+    (inSequence (liveIn (withoutBit (c .before .before .before .before .loop .rest) (c .before .before .before .before .loop .best)) (c .before .before .before .before .before .before .before .before .before .args .t1)))
 step c =
     let l = c .before .before .before .before in
-    let a = c .before .before .before .before .before .before .before .before .before .before .args in
+    let a = c .before .before .before .before .before .before .before .before .before .args in
     each-pick (a .price) (a .turns) (a .amount) (a .total) (l .loop .left) (a .t1) (l .loop .rest) (l .loop .best) (c .given .result) (pick (c .before .before)) (c .given .ensures)
 
 loop-holds : tie.Need-loop-holds Inv-loop μ-loop
 loop-holds c =
-    let s = c .before .before .before .before .before in
+    let s = c .before .before .before .before in
     let a = s .args in
     let f : a .word < 2 ^ 64 = search needs in
-    let i = c .before .before .before .first-set in
-    let o = c .before .in-order in
+    let i = c .before .before .first-set in
+    let o = c .before .rising in
     let rises : o .result ≡ true → RisingFrom 0 (liveIn (a .word) (a .t1)) = λ t. rising-is 0 (liveIn (a .word) (a .t1)) (sym (o .ensures) ∙ t) in
     let e = c .unseen-of .ensures in (
       f,
@@ -99,10 +96,10 @@ cast-i : tie.Need-cast-i Inv-loop μ-loop
 cast-i c = omega (arith, look c .low)
 
 mul-sooner : tie.Need-mul-sooner Inv-loop μ-loop
-mul-sooner c = let l = c .before .before .before in omega (arith, l .loop .inv .4 (omega arith) .place, len (c .before .before .before .before .before .before .before .before .before))
+mul-sooner c = let l = c .before .before .before in omega (arith, l .loop .inv .4 (omega arith) .place, len (c .before .before .before .before .before .before .before .before))
 
 element-copy-out-sooner : tie.Need-element-copy-out-sooner Inv-loop μ-loop
-element-copy-out-sooner c = let l = c .before .before .before in omega (arith, l .loop .inv .4 (omega arith) .place, len (c .before .before .before .before .before .before .before .before .before))
+element-copy-out-sooner c = let l = c .before .before .before in omega (arith, l .loop .inv .4 (omega arith) .place, len (c .before .before .before .before .before .before .before .before))
 
 mul-sooner-2 : tie.Need-mul-sooner-2 Inv-loop μ-loop
 mul-sooner-2 c = omega (arith, look c .low)
@@ -113,19 +110,19 @@ element-copy-out-sooner-2 c = look c .low
 sooner-requires : tie.Need-sooner-requires Inv-loop μ-loop
 sooner-requires c κs = search needs
 
-without-bit-requires-2 : tie.Need-without-bit-requires-2 Inv-loop μ-loop
-without-bit-requires-2 c κs = search needs
+without-bit-requires : tie.Need-without-bit-requires Inv-loop μ-loop
+without-bit-requires c κs = search needs
 
 loop-less : tie.Need-loop-less Inv-loop μ-loop
-loop-less c = rw (c .without-bit2 .ensures) (omega (arith, look (c .before .before) .less))
+loop-less c = rw (c .without-bit .ensures) (omega (arith, look (c .before .before) .less))
 
 loop-again : tie.Need-loop-again Inv-loop μ-loop
 loop-again c =
     let d = c .before .before in
     let l = d .before .before .before in
-    let s = l .before .before .before .before .before .before in
+    let s = l .before .before .before .before .before in
     let a = s .args in
-    let e = c .without-bit2 .ensures in (
+    let e = c .without-bit .ensures in (
       l .loop .inv .0,
       rw e (omega (arith, without-le (l .loop .unseen) (d .first-set2 .result), l .loop .inv .1)),
       l .loop .inv .2,
@@ -144,24 +141,24 @@ array-copy-out-r c = pick c .low
 given-requires : tie.Need-given-requires Inv-loop μ-loop
 given-requires c κs =
     let l = c .before .before .before in
-    let s = l .before .before .before .before .before .before in
+    let s = l .before .before .before .before .before in
     (s .pre .0 .0, l .loop .inv .2, s .pre .0 .2)
 
 put-fill-requires : tie.Need-put-fill-requires Inv-loop μ-loop
 put-fill-requires c κs =
     let g = c .before in
     let l = g .before .before .before .before in
-    let s = l .before .before .before .before .before .before in
+    let s = l .before .before .before .before .before in
     (g .given .ensures .small, omega (arith, l .loop .inv .3, l .loop .inv .6 .place, s .pre .1, simp length-append at (ap length (step g))))
 
-without-bit-requires-3 : tie.Need-without-bit-requires-3 Inv-loop μ-loop
-without-bit-requires-3 c κs = search needs
+without-bit-requires-2 : tie.Need-without-bit-requires-2 Inv-loop μ-loop
+without-bit-requires-2 c κs = search needs
 
 first-set-requires-3 : tie.Need-first-set-requires-3 Inv-loop μ-loop
 first-set-requires-3 c κs = search needs
 
 cast-best-2 : tie.Need-cast-best-2 Inv-loop μ-loop
-cast-best-2 c = omega (arith, c .first-set3 .ensures, set-le 64 (c .before .without-bit3 .result))
+cast-best-2 c = omega (arith, c .first-set3 .ensures, set-le 64 (c .before .without-bit2 .result))
 
 unseen-of-requires-2 : tie.Need-unseen-of-requires-2 Inv-loop μ-loop
 unseen-of-requires-2 c κs = search needs
@@ -169,18 +166,18 @@ unseen-of-requires-2 c κs = search needs
 loop-less-2 : tie.Need-loop-less-2 Inv-loop μ-loop
 loop-less-2 c =
     let d = c .before .before .before .before .before .before .before .before .before in
-    let r = c .before .before .without-bit3 in
-    omega (arith, rw (← r .ensures) at (pick d .less), c .unseen-of2 .ensures, unseen-le (d .before .before .before .before .in-order .result) (r .result) (c .before .first-set3 .result), d .before .before .loop .inv .0)
+    let r = c .before .before .without-bit2 in
+    omega (arith, rw (← r .ensures) at (pick d .less), c .unseen-of2 .ensures, unseen-le (d .before .before .before .before .rising .result) (r .result) (c .before .first-set3 .result), d .before .before .loop .inv .0)
 
 loop-again-2 : tie.Need-loop-again-2 Inv-loop μ-loop
 loop-again-2 c =
     let g = c .before .before .before .before .before .before .before in
     let d = g .before .before in
     let l = d .before .before in
-    let s = l .before .before .before .before .before .before in
+    let s = l .before .before .before .before .before in
     let a = s .args in
-    let o = l .before .before .in-order .result in
-    let r = c .before .before .without-bit3 in
+    let o = l .before .before .rising .result in
+    let r = c .before .before .without-bit2 in
     let f = c .before .before .before .before .before .put-fill in
     let e = c .unseen-of2 .ensures in
     let best = l .loop .inv .4 (omega arith) in
@@ -212,8 +209,7 @@ write-each-spec =
     μ-loop
     first-set-requires
     cast-best
-    without-bit-requires
-    in-order-requires
+    rising-requires
     unseen-of-requires
     loop-holds
     first-set-requires-2
@@ -223,14 +219,14 @@ write-each-spec =
     mul-sooner-2
     element-copy-out-sooner-2
     sooner-requires
-    without-bit-requires-2
+    without-bit-requires
     loop-less
     loop-again
     mul-r
     array-copy-out-r
     given-requires
     put-fill-requires
-    without-bit-requires-3
+    without-bit-requires-2
     first-set-requires-3
     cast-best-2
     unseen-of-requires-2
