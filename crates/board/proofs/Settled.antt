@@ -26,3 +26,9 @@ find-gtx κs a = (tt, λ y z v w p q. (p ∙ sym q, refl))
 
 pub sooner : Settled contracts.sooner.ended contracts.sooner.Reads.Asked contracts.sooner.Reads.Learnt
 sooner κs a = (tt, λ y z v w p q. (p ∙ sym q, refl))
+
+pub response-at : Settled contracts.response_at.ended contracts.response_at.Reads.Asked contracts.response_at.Reads.Learnt
+response-at κs a = (tt, λ y z v w p q. (p ∙ sym q, refl))
+
+pub seated : Settled contracts.seated.ended contracts.seated.Reads.Asked contracts.seated.Reads.Learnt
+seated κs a = (tt, λ y z v w p q. (p ∙ sym q, refl))

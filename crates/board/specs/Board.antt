@@ -58,6 +58,10 @@ placed b r =
     (record { places = set (b .places) (firstFree b) r; live = withBit (b .live) (firstFree b) })
     b
 
+-- r at place i, which is live then; there is no place from 64 on
+unfoldable pub seatedAt : Board → ℕ → Response → Board
+seatedAt b i r = cond (ltb i 64) (record { places = set (b .places) i r; live = withBit (b .live) i }) b
+
 -- place i is free, and what stands there stays
 abbrev pub cleared : Board → ℕ → Board
 cleared b i = record { places = b .places; live = withoutBit (b .live) i }

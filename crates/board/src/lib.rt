@@ -2,7 +2,7 @@
 ghost use mathlib.Core.Path.{_≡_};
 ghost use mathlib.Core.Bool.{cond};
 ghost use lib.Dec.{ltb};
-ghost use Rattle.board.specs.Board.{emptyBoard, isLive, liveCount, firstFree, placed, cleared, isGtx, findGtx};
+ghost use Rattle.board.specs.Board.{emptyBoard, isLive, liveCount, firstFree, placed, cleared, isGtx, findGtx, responseAt, seatedAt};
 use words::bits;
 
 // A response that stands on the board: a GTX response, or a limit order.
@@ -106,4 +106,33 @@ pub fn sooner(s: u32, i: usize, t: u32, j: usize) -> usize
     ensures { λ r. ⌜ r ≡ cond (ltb t s) j i ⌝ }
 {
     if t < s { j } else { i }
+}
+
+// What stands at place i; past the last place, what stands where no response was ever placed.
+pub fn response_at(b: Board, i: usize) -> Response
+    ensures { λ r. ⌜ r ≡ responseAt (b .places) i ⌝ }
+{
+    if i < 64 {
+        return b.places[i];
+    }
+    Response {
+        sequence: 0,
+        size: 0,
+        price: 0,
+        customer: false,
+        gtx: false,
+    }
+}
+
+// A response takes place i, which is live then. There is no place from 64 on.
+pub fn seated(b: Board, i: usize, r: Response) -> Board
+    ensures { λ n. ⌜ n ≡ seatedAt b i r ⌝ }
+{
+    if 64 <= i {
+        return b;
+    }
+    let mut n = b;
+    n.places[i] = r;
+    n.live = bits::with_bit(n.live, i);
+    n
 }

@@ -1,0 +1,19 @@
+use Rattle.auction.specs.Mirror.{mirrored}
+use native.Mathlib.Omega.{arith}
+use borrow.Author.Needs.{needs}
+use Rattle.auction.proofs.sides.mirror.Statement.{statement}
+use Rattle.auction.proofs.sides.mirror.Tie as tie
+
+sub-result : tie.Need-sub-result
+sub-result c = search needs
+
+returns : tie.Need-returns
+unfolding mirrored
+returns c = search needs
+
+returns-2 : tie.Need-returns-2
+unfolding mirrored
+returns-2 c = omega arith
+
+pub mirror-spec : {M : Type 1} → statement M
+mirror-spec = tie.close (tie.spec sub-result returns returns-2)
