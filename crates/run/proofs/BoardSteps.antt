@@ -1,30 +1,38 @@
--- What placing and clearing keep of the live responses. Assumes nothing.
+-- What seating and clearing keep of the live responses, and what an event sees of a board. Assumes nothing.
 use mathlib.Core.Path.{_≡_, refl, sym, subst}
-use mathlib.Core.Bool.{Bool, true, false}
+use mathlib.Core.Bool.{Bool, true, false, cond}
 use mathlib.Core.List.{List, [], _∷_}
 use mathlib.Core.Logic.{_≢_}
 use Prim.Native.Nat.{ℕ, _≤_, _<_}
 use native.Mathlib.Omega.{arith}
-use lib.Dec.{eqb}
-use borrow.Author.Tests.{eqb-false}
-use Rattle.words.proofs.BitLaws.{clear-le}
-use Rattle.board.specs.Lists.{Every, Inserts}
-use Rattle.board.specs.Lists.Inserts.{here, there}
-use Rattle.board.specs.Board.{responseAt, isLive, firstFree, liveOf, placed, cleared}
-use Rattle.board.specs.Theorems.{Good}
+use Rattle.base.specs.Lists.{Every, Inserts}
+use Rattle.base.specs.Lists.Inserts.{here, there}
+use Rattle.base.proofs.ListLaws.{inserts-every, every-inserts}
+use Rattle.base.proofs.Bools.{by}
+use Rattle.board.specs.Board.{responseAt, isLive, firstFree, liveOf, seatedAt, cleared, findGtx}
+use Rattle.board.specs.Theorems.{Good, GtxAt}
 use Rattle.board.specs.declared.Board.{Board}
 use Rattle.board.specs.declared.Response.{Response}
-use Rattle.board.proofs.ListLaws.{inserts-every, every-inserts}
-use Rattle.board.proofs.BoardLaws.{placing, clearing, cleared-dead}
+use Rattle.board.proofs.BoardLaws.{seating, clearing, cleared-dead, find-gtx}
+use Rattle.words.proofs.BitLaws.{clear-is}
+use Rattle.tape.specs.declared.Event.{Event}
 use Rattle.trade.specs.Demands.{Absent, Distinct}
-use Rattle.events.specs.rules.Step.{isFull}
+use Rattle.events.specs.rules.Step.{nameOf, isCancel, sightOf}
+use Rattle.run.specs.promises.Demands.{Fits}
 
-pub has-room : (b : Board) → isFull b ≡ false → firstFree b < 64
-has-room b z = let n : firstFree b ≡ 64 → ⊥ = eqb-false _ _ z in omega (arith, clear-le 64 (b .live), n)
+-- what an event sees of a board fits it
+pub sees : (b : Board) (e : Event) → Good b → Fits b (sightOf b e)
+unfolding sightOf
+sees b e g =
+    record {
+      free = λ h. clear-is 64 (b .live) h;
+      found = by (λ (i : ℕ). i < 64 → isLive b i ≡ true) (isCancel e) (findGtx b (nameOf e)) 64 (λ _ h. find-gtx b (nameOf e) g h .live) (λ _ h. absurd (omega arith));
+      old = refl;
+    }
 
 module _ (b : Board) (g : Good b) where
-  pub place-every : (P : Response → Type 0) (r : Response) → isFull b ≡ false → P r → Every P (liveOf b) → Every P (liveOf (placed b r))
-  place-every P r z p h = inserts-every P (placing b r g (has-room b z) .adds) p h
+  pub seat-every : (P : Response → Type 0) (i : ℕ) (r : Response) → i < 64 → isLive b i ≡ false → P r → Every P (liveOf b) → Every P (liveOf (seatedAt b i r))
+  seat-every P i r l z p h = inserts-every P (seating b i r g l z .adds) p h
 
   pub clear-every : (P : Response → Type 0) (i : ℕ) → Every P (liveOf b) → Every P (liveOf (cleared b i))
   clear-every P i h = go (isLive b i) refl
@@ -42,8 +50,8 @@ distinct-less here d = d .1
 distinct-less (there {x} i) d = (every-inserts (λ y. y .sequence ≢ x .sequence) i (d .0) .1, distinct-less i (d .1))
 
 module _ (b : Board) (g : Good b) where
-  pub place-distinct : (r : Response) → isFull b ≡ false → Absent (r .sequence) (liveOf b) → Distinct (liveOf b) → Distinct (liveOf (placed b r))
-  place-distinct r z a d = distinct-more (placing b r g (has-room b z) .adds) a d
+  pub seat-distinct : (i : ℕ) (r : Response) → i < 64 → isLive b i ≡ false → Absent (r .sequence) (liveOf b) → Distinct (liveOf b) → Distinct (liveOf (seatedAt b i r))
+  seat-distinct i r l z a d = distinct-more (seating b i r g l z .adds) a d
 
   pub clear-distinct : (i : ℕ) → Distinct (liveOf b) → Distinct (liveOf (cleared b i))
   clear-distinct i d = go (isLive b i) refl

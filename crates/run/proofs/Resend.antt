@@ -9,17 +9,16 @@ use native.Mathlib.Omega.{arith}
 use lib.Dec.{leb, ltb, eqb}
 use borrow.Author.Tests.{le-leb, eqb-false}
 use Rattle.words.specs.Bits.{bitAt}
-use Rattle.board.specs.Lists.{Every, keep}
-use Rattle.board.specs.Board.{findGtx}
+use Rattle.base.specs.Lists.{In, Every, keep}
 use Rattle.tape.specs.declared.Event.{Event}
 use Rattle.tape.specs.declared.Order.{Order}
 use Rattle.tape.specs.Form.{orderFormed, eventFormed}
-use Rattle.trade.specs.Demands.{In}
-use Rattle.trade.proofs.Lists.{all-in, all-map}
+use Rattle.base.proofs.Bools.{by, no}
+use Rattle.base.proofs.ListLaws.{every-in, every-map}
 use Rattle.auction.specs.Mirror.{buyOrder, buyEvent}
 use Rattle.auction.specs.rules.Accept.{initiatingOf, firstBound, guaranteedOf, rangeRefusal, buyRefusal, orderRefusal, acceptOf}
 use Rattle.auction.specs.rules.Range.{isOpen}
-use Rattle.events.specs.rules.Step.{eventRefusal, after, endedByTime, gives, carried, isFull, stepOf, closeOf}
+use Rattle.events.specs.rules.Step.{sightOf, eventRefusal, headAfter, endedByTime, turnOf, closeTurn, gives, seatedOn, stepBy, stepOf, closeOf}
 use Rattle.run.specs.rules.Run.{run, isTaken, takenOf}
 use Rattle.run.specs.promises.Demands.{RefusedAgain, Keeps}
 use Rattle.auction.specs.declared.Auction.{Auction}
@@ -29,23 +28,24 @@ use Rattle.auction.specs.declared.Ending.{Ending}
 use Rattle.events.specs.declared.Answer.{Answer}
 use Rattle.events.specs.declared.Answer.the-variants.{Taken, Ended, Late, Refused}
 use Rattle.events.specs.declared.Stepped.{Stepped}
+use Rattle.events.specs.declared.Sight.{Sight}
+use Rattle.events.specs.declared.Turn.{Turn}
 use Rattle.auction.specs.declared.Opening.{Opening}
 use Rattle.auction.specs.declared.Entry.the-variants.{Refused as NotAccepted}
 use Rattle.events.specs.declared.Change.{Change}
 use Rattle.events.specs.declared.Change.the-variants.{Nothing, Seat, Free, Quote, Sell}
 use Rattle.events.specs.declared.Outcome.{Outcome}
 use Rattle.events.specs.declared.Outcome.the-variants.{Refuses, Does}
-use Rattle.auction.proofs.Choice.{by, no}
 use Rattle.run.proofs.StepLaws.{EventNumber, Outcomes, Ordinary, Cases, cases}
 
 -- where only refusing or not matters: any change, any ending
-pub any-change : (t : Terms) (q : Quotes) (full : Bool) (found : ℕ) (m : Event) (P : Outcome → Type 0) → ((n : ℕ) → EventNumber n → P (Refuses n)) → ((c : Change) (g : Ending) → P (Does c g)) → Outcomes t q full found m P
-any-change t q full found m P r d =
+pub any-change : (t : Terms) (q : Quotes) (s : Sight) (m : Event) (P : Outcome → Type 0) → ((n : ℕ) → EventNumber n → P (Refuses n)) → ((c : Change) (g : Ending) → P (Does c g)) → Outcomes t q s m P
+any-change t q s m P r d =
     record {
       refuses = r;
       nothing = λ g. d Nothing g;
-      gtx = λ _ _ _. d (Seat _) _;
-      limit = λ g _ _ _. d (Seat _) g;
+      gtx = λ _ _ _. d (Seat _ _) _;
+      limit = λ g _ _ _. d (Seat _ _) g;
       clear = λ _ _. d (Free _) _;
       quote = λ n _. d (Quote n) _;
       sell = d (Sell _) _;
@@ -60,79 +60,91 @@ pub taken-any : (b : Bool) → isTaken (cond b Taken Ended) ≡ true
 taken-any true = refl
 taken-any false = refl
 
-module _ (a : Auction) (e : Event) where
-  refused-stays : (n : ℕ) → stepOf a e .answer ≡ Refused n → stepOf a e .auction ≡ a
+module _ (s : Sight) (a : Auction) (e : Event) where
+  -- P of the step, by cases of the turn
+  abbrev by-cases : (P : Stepped → Type 0) → Cases (a .head) e s (λ t. P (seatedOn (a .board) t)) → P (stepBy s a e)
+  by-cases P k = cases (a .head) e s (λ t. P (seatedOn (a .board) t)) k
+
+  refused-stays : (n : ℕ) → stepBy s a e .answer ≡ Refused n → stepBy s a e .auction ≡ a
   refused-stays n =
-      cases a e (λ s. s .answer ≡ Refused n → s .auction ≡ a)
+      by-cases (λ p. p .answer ≡ Refused n → p .auction ≡ a)
       (record {
         refused = λ k _ z. refl;
         late = λ o z. no cc;
-        does = λ o. any-change _ _ _ _ _ _ (λ k _ z. refl) (λ c g z. not-refused (isOpen g) n z);
+        does = λ o. any-change _ _ _ _ _ (λ k _ z. refl) (λ c g z. not-refused (isOpen g) n z);
       })
 
-  pub rises : a .sequence ≤ stepOf a e .auction .sequence
-  unfolding after endedByTime
+  pub rises : a .head .sequence ≤ stepBy s a e .auction .head .sequence
+  unfolding headAfter endedByTime
   rises =
-      cases a e (λ s. a .sequence ≤ s .auction .sequence)
+      by-cases (λ p. a .head .sequence ≤ p .auction .head .sequence)
       (record {
         refused = λ k _. le-refl _;
         late = λ o. le-refl _;
-        does = λ o. any-change _ _ _ _ _ _ (λ k _. le-refl _) (λ c g. le-of-lt (o .newer));
+        does = λ o. any-change _ _ _ _ _ (λ k _. le-refl _) (λ c g. le-of-lt (o .newer));
       })
 
-  ended-refuses : isOpen (a .ending) ≡ false → stepOf a e ≡ gives (Refused 31) a
-  unfolding stepOf eventRefusal
+  ended-refuses : isOpen (a .head .ending) ≡ false → stepBy s a e ≡ gives (Refused 31) a
+  unfolding turnOf eventRefusal
   ended-refuses z = simp z
 
   -- what is known of an event that was taken
-  pub taken-is : isTaken (stepOf a e .answer) ≡ true → (eventFormed e ≡ true) × (a .sequence < e .sequence) × (stepOf a e .auction .sequence ≡ e .sequence)
-  unfolding after
+  pub taken-is : isTaken (stepBy s a e .answer) ≡ true → (eventFormed e ≡ true) × (a .head .sequence < e .sequence) × (stepBy s a e .auction .head .sequence ≡ e .sequence)
+  unfolding headAfter
   taken-is =
-      cases a e (λ s. isTaken (s .answer) ≡ true → (eventFormed e ≡ true) × (a .sequence < e .sequence) × (s .auction .sequence ≡ e .sequence))
+      by-cases (λ p. isTaken (p .answer) ≡ true → (eventFormed e ≡ true) × (a .head .sequence < e .sequence) × (p .auction .head .sequence ≡ e .sequence))
       (record {
         refused = λ k _ z. no (sym z);
         late = λ o z. no (sym z);
-        does = λ o. any-change _ _ _ _ _ _ (λ k _ z. no (sym z)) (λ c g z. (o .formed, o .newer, refl));
+        does = λ o. any-change _ _ _ _ _ (λ k _ z. no (sym z)) (λ c g z. (o .formed, o .newer, refl));
       })
 
   -- an event in form whose sequence is not above the highest taken is refused
-  old-refused : eventFormed e ≡ true → e .sequence ≤ a .sequence → RefusedAgain a e
-  unfolding stepOf eventRefusal
-  old-refused f h = go (isOpen (a .ending)) refl
+  old-refused : eventFormed e ≡ true → e .sequence ≤ a .head .sequence → stepBy s a e ≡ gives (Refused (cond (isOpen (a .head .ending)) 33 31)) a
+  unfolding turnOf eventRefusal
+  old-refused f h = go (isOpen (a .head .ending)) refl
     where
-      go : (b : Bool) → isOpen (a .ending) ≡ b → RefusedAgain a e
+      go : (b : Bool) → isOpen (a .head .ending) ≡ b → stepBy s a e ≡ gives (Refused (cond (isOpen (a .head .ending)) 33 31)) a
       go true z = simp (z, f, le-leb _ _ h)
       go false z = simp z
 
   -- only 31 to 38 refuse an event
-  event-numbers : (n : ℕ) → stepOf a e .answer ≡ Refused n → (31 ≤ n) × (n ≤ 38)
+  event-numbers : (n : ℕ) → stepBy s a e .answer ≡ Refused n → (31 ≤ n) × (n ≤ 38)
   event-numbers n =
-      cases a e (λ s. s .answer ≡ Refused n → (31 ≤ n) × (n ≤ 38))
+      by-cases (λ p. p .answer ≡ Refused n → (31 ≤ n) × (n ≤ 38))
       (record {
         refused = λ k h z. same k h z;
         late = λ o z. no cc;
-        does = λ o. any-change _ _ _ _ _ _ (λ k h z. same k h z) (λ c g z. not-refused (isOpen g) n z);
+        does = λ o. any-change _ _ _ _ _ (λ k h z. same k h z) (λ c g z. not-refused (isOpen g) n z);
       })
     where
       same : (k : ℕ) → EventNumber k → Refused k ≡ Refused n → (31 ≤ n) × (n ≤ 38)
       same k h z = let q : k ≡ n = cc in (omega (arith, h .0), omega (arith, h .1))
 
-pub run-rises : (es : List Event) (a : Auction) → a .sequence ≤ run a es .sequence
+-- what the auction itself sees
+abbrev seen : Auction → Event → Sight
+seen a e = sightOf (a .board) e
+
+pub run-rises : (es : List Event) (a : Auction) → a .head .sequence ≤ run a es .head .sequence
 run-rises [] a = le-refl _
-run-rises (e ∷ es) a = le-trans (rises a e) (run-rises es (stepOf a e .auction))
+run-rises (e ∷ es) a = le-trans (rises (seen a e) a e) (run-rises es (stepOf a e .auction))
+
+pub older : (a : Auction) (e f : Event) (es : List Event) → isTaken (stepOf a e .answer) ≡ true → eventFormed f ≡ true → f .sequence ≤ e .sequence → RefusedAgain (run (stepOf a e .auction) es) f
+older a e f es z formed h =
+    let k = taken-is (seen a e) a e z in
+    let b : Auction = run (stepOf a e .auction) es in
+    let n : stepOf a e .auction .head .sequence ≤ b .head .sequence = run-rises es (stepOf a e .auction) in
+    old-refused (seen b f) b f formed (omega (arith, k .2))
 
 pub again : (a : Auction) (e : Event) (es : List Event) → isTaken (stepOf a e .answer) ≡ true → RefusedAgain (run (stepOf a e .auction) es) e
-again a e es z =
-    let k = taken-is a e z in
-    let n : stepOf a e .auction .sequence ≤ run (stepOf a e .auction) es .sequence = run-rises es (stepOf a e .auction) in
-    old-refused (run (stepOf a e .auction) es) e (k .0) (omega (arith, k .2))
+again a e es z = older a e e es z (taken-is (seen a e) a e z .0) (le-refl _)
 
 closed-stays : (a : Auction) (n : ℕ) → closeOf a .answer ≡ Refused n → closeOf a .auction ≡ a
-unfolding closeOf
-closed-stays a n = by (λ (s : Stepped). s .answer ≡ Refused n → s .auction ≡ a) (isOpen (a .ending)) _ _ (λ _ z. no cc) (λ _ z. refl)
+unfolding closeTurn
+closed-stays a n = by (λ (t : Turn). t .answer ≡ Refused n → seatedOn (a .board) t .auction ≡ a) (isOpen (a .head .ending)) _ _ (λ _ z. no cc) (λ _ z. refl)
 
-ended-stays : (a : Auction) → isOpen (a .ending) ≡ false → closeOf a ≡ gives (Refused 31) a
-unfolding closeOf
+ended-stays : (a : Auction) → isOpen (a .head .ending) ≡ false → closeOf a ≡ gives (Refused 31) a
+unfolding closeTurn
 ended-stays a z = simp z
 
 -- ---- orders
@@ -174,14 +186,14 @@ keeps = record { refused = refused-stays; not-closed = closed-stays; order-numbe
 
 -- ---- the sequences of the events taken rise, so no two are the same
 
-above : (es : List Event) (a : Auction) → Every (λ e. a .sequence < e .sequence) (takenOf a es)
+above : (es : List Event) (a : Auction) → Every (λ e. a .head .sequence < e .sequence) (takenOf a es)
 above [] a = tt
 above (e ∷ es) a =
     go (isTaken (stepOf a e .answer)) refl
-    (all-map (λ f. stepOf a e .auction .sequence < f .sequence) (λ f. a .sequence < f .sequence) (takenOf (stepOf a e .auction) es) (λ f h. omega (arith, rises a e)) (above es (stepOf a e .auction)))
+    (every-map (λ f. stepOf a e .auction .head .sequence < f .sequence) (λ f. a .head .sequence < f .sequence) (takenOf (stepOf a e .auction) es) (λ f h. omega (arith, rises (seen a e) a e)) (above es (stepOf a e .auction)))
   where
-    go : (b : Bool) → isTaken (stepOf a e .answer) ≡ b → Every (λ f. a .sequence < f .sequence) (takenOf (stepOf a e .auction) es) → Every (λ f. a .sequence < f .sequence) (keep b e (takenOf (stepOf a e .auction) es))
-    go true z rest = (taken-is a e z .1, rest)
+    go : (b : Bool) → isTaken (stepOf a e .answer) ≡ b → Every (λ f. a .head .sequence < f .sequence) (takenOf (stepOf a e .auction) es) → Every (λ f. a .head .sequence < f .sequence) (keep b e (takenOf (stepOf a e .auction) es))
+    go true z rest = (taken-is (seen a e) a e z .1, rest)
     go false z rest = rest
 
 pub one : (a : Auction) (es : List Event) (e f : Event) → In e (takenOf a es) → In f (takenOf a es) → e .sequence ≡ f .sequence → e ≡ f
@@ -189,7 +201,7 @@ one a [] e f i j h = absurd i
 one a (x ∷ es) e f i j h = go (isTaken (stepOf a x .answer)) refl i j (λ i j. one (stepOf a x .auction) es e f i j h)
   where
     later : (g : Event) → isTaken (stepOf a x .answer) ≡ true → In g (takenOf (stepOf a x .auction) es) → x .sequence < g .sequence
-    later g z k = omega (arith, all-in (λ f. stepOf a x .auction .sequence < f .sequence) (takenOf (stepOf a x .auction) es) g (above es (stepOf a x .auction)) k, taken-is a x z .2)
+    later g z k = omega (arith, every-in (λ f. stepOf a x .auction .head .sequence < f .sequence) (takenOf (stepOf a x .auction) es) g (above es (stepOf a x .auction)) k, taken-is (seen a x) a x z .2)
 
     go : (b : Bool) → isTaken (stepOf a x .answer) ≡ b → In e (keep b x (takenOf (stepOf a x .auction) es)) → In f (keep b x (takenOf (stepOf a x .auction) es))
         → (In e (takenOf (stepOf a x .auction) es) → In f (takenOf (stepOf a x .auction) es) → e ≡ f) → e ≡ f

@@ -8,12 +8,14 @@ use native.Mathlib.Nat.{le-refl, le-of-lt}
 use native.Mathlib.Omega.{arith}
 use lib.Dec.{leb, ltb, eqb}
 use borrow.Author.Tests.{eqb-true}
-use Rattle.board.specs.Lists.{Every}
-use Rattle.board.specs.Board.{emptyBoard, liveOf, placed, cleared, findGtx}
+use Rattle.base.specs.Lists.{Every}
+use Rattle.base.proofs.Bools.{by, no}
+use Rattle.base.proofs.ListLaws.{every-map}
+use Rattle.board.specs.Board.{emptyBoard, liveOf, seatedAt, cleared}
 use Rattle.board.specs.Theorems.{Good}
 use Rattle.board.specs.declared.Board.{Board}
 use Rattle.board.specs.declared.Response.{Response}
-use Rattle.board.proofs.BoardLaws.{empty-good, empty-live, placed-good, cleared-good}
+use Rattle.board.proofs.BoardLaws.{empty-good, empty-live, seated-good, cleared-good}
 use Rattle.share.specs.Fills.{Fill}
 use Rattle.tape.specs.declared.Event.{Event}
 use Rattle.tape.specs.declared.Order.{Order}
@@ -23,17 +25,16 @@ use Rattle.trade.specs.declared.Deal.{Deal}
 use Rattle.trade.specs.Trade.{offers, fills, total}
 use Rattle.trade.specs.Write.{shown, reported, fillsOf}
 use Rattle.trade.specs.Demands.{Absent, Distinct, InRange, Demand3, Sound as SoundDeal}
-use Rattle.trade.proofs.Lists.{all-map}
 use Rattle.trade.proofs.Theorems.{demand3}
 use Rattle.trade.proofs.Plans.{plans}
 use Rattle.auction.specs.Mirror.{mirrored, mirroredOrder, buyOrder, buyEvent}
 use Rattle.auction.specs.rules.Accept.{initiatingOf, boundOf, firstBound, termsOf, quotesOf, openedBy, acceptOf}
 use Rattle.auction.specs.rules.Range.{isOpen, boundBy}
-use Rattle.events.specs.rules.Step.{responseOf, boardAfter, quotesAfter, marketAfter, after, endedByTime, gives, carried, isFull, stepOf, closeOf}
+use Rattle.events.specs.rules.Step.{sizeOf, sightOf, responseOf, boardAfter, quotesAfter, marketAfter, headAfter, endedByTime, carried, closeTurn, seatedOn, stepBy, stepOf, closeOf}
 use Rattle.auction.specs.rules.Range.{word, boundNow, rangeOf}
 use Rattle.fills.specs.rules.Fills.{dealOf, auctionFills}
 use Rattle.run.specs.rules.Run.{run, played}
-use Rattle.run.specs.promises.Demands.{Stands, Sound, Within, Trades, Demanded}
+use Rattle.run.specs.promises.Demands.{Fits, Stands, Sound, Within, Trades, Demanded}
 use Rattle.auction.specs.declared.Auction.{Auction}
 use Rattle.auction.specs.declared.Range.{Range}
 use Rattle.auction.specs.declared.Ending.{Ending}
@@ -41,11 +42,12 @@ use Rattle.auction.specs.declared.Ending.the-variants.{Open, Opposite}
 use Rattle.events.specs.declared.Change.{Change}
 use Rattle.events.specs.declared.Change.the-variants.{Nothing, Seat, Free, Quote, Sell}
 use Rattle.events.specs.declared.Stepped.{Stepped}
+use Rattle.events.specs.declared.Sight.{Sight}
+use Rattle.events.specs.declared.Turn.{Turn}
 use Rattle.auction.specs.declared.Entry.the-variants.{Accepted}
-use Rattle.auction.proofs.Choice.{by, no}
 use Rattle.run.proofs.StepLaws.{Outcomes, Ordinary, Cases, cases}
 use Rattle.auction.proofs.EventLaws.{buy-sequence, buy-kind, mirror-one, mirror-three, priced-size}
-use Rattle.run.proofs.BoardSteps.{place-every, clear-every, place-distinct, clear-distinct}
+use Rattle.run.proofs.BoardSteps.{sees, seat-every, clear-every, seat-distinct, clear-distinct}
 use Rattle.run.proofs.Accepted.{Passed, bound-fits, Opened, opened, price-fits}
 use Rattle.run.proofs.Resend.{keeps}
 
@@ -80,26 +82,30 @@ sound-opened o h = let k = opened o h in subst Sound (sym (k .auction)) (opened-
 -- ---- a step
 
 -- the size of a GTX response or a limit order in form
-size-some : (e : Event) → eventFormed e ≡ true → shapeOf (e .kind) .f12 .low ≤ e .f12
+size-some : (e : Event) → eventFormed e ≡ true → shapeOf (e .kind) .f12 .low ≤ sizeOf e
 unfolding eventFormed shapeTests
-size-some e h = within-ge (e .f12) (shapeOf (e .kind) .f12 .low) (shapeOf (e .kind) .f12 .high) (each (shapeTests (shapeOf (e .kind)) e) true h 4)
+size-some e h = within-ge (sizeOf e) (shapeOf (e .kind) .f12 .low) (shapeOf (e .kind) .f12 .high) (each (shapeTests (shapeOf (e .kind)) e) true h 4)
 
-size-one : (e : Event) → e .kind ≡ 1 → eventFormed e ≡ true → 1 ≤ e .f12
+size-one : (e : Event) → e .kind ≡ 1 → eventFormed e ≡ true → 1 ≤ sizeOf e
 unfolding shapeOf
 size-one e k h = let z : shapeOf (e .kind) .f12 .low ≡ 1 = ap (λ (n : ℕ). shapeOf n .f12 .low) k in omega (arith, size-some e h, z)
 
-size-three : (e : Event) → e .kind ≡ 3 → eventFormed e ≡ true → 1 ≤ e .f12
+size-three : (e : Event) → e .kind ≡ 3 → eventFormed e ≡ true → 1 ≤ sizeOf e
 unfolding shapeOf
 size-three e k h = let z : shapeOf (e .kind) .f12 .low ≡ 1 = ap (λ (n : ℕ). shapeOf n .f12 .low) k in omega (arith, size-some e h, z)
 
+-- the auction after an event that changed it
+abbrev after : Auction → Event → Change → Ending → Auction
+after a e c g = record { head = headAfter (a .head) e c g; board = boardAfter (a .board) c }
+
 -- a change that leaves the range, the live responses and the market order sound
 after-sound : (a : Auction) (e : Event) (c : Change) (g : Ending) → Sound a
-    → boundBy (a .terms) (quotesAfter (a .quotes) c) ≤ a .terms .initiating → Good (boardAfter (a .board) c)
-    → Every (Stands (e .sequence) (a .terms .initiating)) (liveOf (boardAfter (a .board) c)) → Distinct (liveOf (boardAfter (a .board) c))
-    → (isOpen g ≡ true → marketAfter (a .market) c .size ≡ 0)
-    → (0 < marketAfter (a .market) c .size → (0 < marketAfter (a .market) c .sequence) × Absent (marketAfter (a .market) c .sequence) (liveOf (boardAfter (a .board) c)))
+    → boundBy (a .head .terms) (quotesAfter (a .head .quotes) c) ≤ a .head .terms .initiating → Good (boardAfter (a .board) c)
+    → Every (Stands (e .sequence) (a .head .terms .initiating)) (liveOf (boardAfter (a .board) c)) → Distinct (liveOf (boardAfter (a .board) c))
+    → (isOpen g ≡ true → marketAfter (a .head .market) c .size ≡ 0)
+    → (0 < marketAfter (a .head .market) c .size → (0 < marketAfter (a .head .market) c .sequence) × Absent (marketAfter (a .head .market) c .sequence) (liveOf (boardAfter (a .board) c)))
     → Sound (after a e c g)
-unfolding after
+unfolding headAfter
 after-sound a e c g s bound good live distinct none apart =
     record {
       bound-below = bound;
@@ -114,55 +120,59 @@ after-sound a e c g s bound good live distinct none apart =
       market-apart = apart;
     }
 
-module _ (a : Auction) (e : Event) (s : Sound a) (o : Ordinary a e) where
-  no-size : a .market .size ≡ 0
+module _ (v : Sight) (a : Auction) (e : Event) (fits : Fits (a .board) v) (s : Sound a) (o : Ordinary (a .head) e) where
+  no-size : a .head .market .size ≡ 0
   no-size = s .no-market (o .opened)
 
-  no-more : {X : Type 0} → 0 < a .market .size → X
+  no-more : {X : Type 0} → 0 < a .head .market .size → X
   no-more z = absurd (omega (arith, no-size))
 
   -- those that were live stand under the new highest sequence, and none of them bears it
-  stand : Every (Stands (e .sequence) (a .terms .initiating)) (liveOf (a .board))
-  stand = all-map (Stands (a .sequence) (a .terms .initiating)) (Stands (e .sequence) (a .terms .initiating)) (liveOf (a .board)) (λ r h. (h .0, omega (arith, h .1, o .newer), h .2, h .3)) (s .live)
+  stand : Every (Stands (e .sequence) (a .head .terms .initiating)) (liveOf (a .board))
+  stand = every-map (Stands (a .head .sequence) (a .head .terms .initiating)) (Stands (e .sequence) (a .head .terms .initiating)) (liveOf (a .board)) (λ r h. (h .0, omega (arith, h .1, o .newer), h .2, h .3)) (s .live)
 
   fresh : (k : ℕ) → k ≡ e .sequence → Absent k (liveOf (a .board))
-  fresh k z = all-map (Stands (a .sequence) (a .terms .initiating)) (λ r. r .sequence ≢ k) (liveOf (a .board)) (λ r h q. omega (arith, h .1, o .newer)) (s .live)
+  fresh k z = every-map (Stands (a .head .sequence) (a .head .terms .initiating)) (λ r. r .sequence ≢ k) (liveOf (a .board)) (λ r h q. omega (arith, h .1, o .newer)) (s .live)
 
-  -- a response of the event is placed
-  placed-sound : (r : Response) (g : Ending) → isFull (a .board) ≡ false → r .sequence ≡ e .sequence → 1 ≤ r .size → r .price ≤ a .terms .initiating → Sound (after a e (Seat r) g)
-  placed-sound r g f q n p =
-      after-sound a e (Seat r) g s (s .bound-below) (placed-good (a .board) r (s .board))
-      (place-every (a .board) (s .board) (Stands (e .sequence) (a .terms .initiating)) r f (omega (arith, q, o .newer), omega (arith, q), n, p) stand)
-      (place-distinct (a .board) (s .board) r f (fresh (r .sequence) q) (s .distinct))
+  -- a response of the event is seated
+  seated-sound : (r : Response) (g : Ending) → v .at < 64 → r .sequence ≡ e .sequence → 1 ≤ r .size → r .price ≤ a .head .terms .initiating → Sound (after a e (Seat (v .at) r) g)
+  seated-sound r g f q n p =
+      after-sound a e (Seat (v .at) r) g s (s .bound-below) (seated-good (a .board) (v .at) r (s .board))
+      (seat-every (a .board) (s .board) (Stands (e .sequence) (a .head .terms .initiating)) (v .at) r f (fits .free f) (omega (arith, q, o .newer), omega (arith, q), n, p) stand)
+      (seat-distinct (a .board) (s .board) (v .at) r f (fits .free f) (fresh (r .sequence) q) (s .distinct))
       (λ _. no-size) no-more
 
-  pub does-sound : Outcomes (a .terms) (a .quotes) (isFull (a .board)) (findGtx (a .board) (e .f12)) (buyEvent (a .terms .sell) e) (λ u. Sound (carried a e u .auction))
+  does-sound : Outcomes (a .head .terms) (a .head .quotes) v (buyEvent (a .head .terms .sell) e) (λ u. Sound (seatedOn (a .board) (carried (a .head) e u) .auction))
   does-sound =
-      let sell = a .terms .sell in
+      let sell = a .head .terms .sell in
       record {
         refuses = λ n _. s;
         nothing = λ g. after-sound a e Nothing g s (s .bound-below) (s .board) stand (s .distinct) (λ _. no-size) no-more;
         gtx = λ k f p.
             let k1 : e .kind ≡ 1 = sym (buy-kind e sell) ∙ k in
-            placed-sound (responseOf true (min (buyEvent sell e .f12) (a .terms .size)) (buyEvent sell e)) Open f (buy-sequence e sell)
+            seated-sound (responseOf true (min (sizeOf (buyEvent sell e)) (a .head .terms .size)) (buyEvent sell e)) Open f (buy-sequence e sell)
             (omega (arith, priced-size e sell (mirror-one e k1), size-one e k1 (o .formed), s .size)) p;
         limit = λ g k f p.
             let k3 : e .kind ≡ 3 = sym (buy-kind e sell) ∙ k in
-            placed-sound (responseOf false (buyEvent sell e .f12) (buyEvent sell e)) g f (buy-sequence e sell)
+            seated-sound (responseOf false (sizeOf (buyEvent sell e)) (buyEvent sell e)) g f (buy-sequence e sell)
             (omega (arith, priced-size e sell (mirror-three e k3), size-three e k3 (o .formed))) p;
         clear = λ k f.
-            after-sound a e (Free (findGtx (a .board) (e .f12))) Open s (s .bound-below) (cleared-good (a .board) (findGtx (a .board) (e .f12)) (s .board))
-            (clear-every (a .board) (s .board) (Stands (e .sequence) (a .terms .initiating)) (findGtx (a .board) (e .f12)) stand)
-            (clear-distinct (a .board) (s .board) (findGtx (a .board) (e .f12)) (s .distinct))
+            after-sound a e (Free (v .found)) Open s (s .bound-below) (cleared-good (a .board) (v .found) (s .board))
+            (clear-every (a .board) (s .board) (Stands (e .sequence) (a .head .terms .initiating)) (v .found) stand)
+            (clear-distinct (a .board) (s .board) (v .found) (s .distinct))
             (λ _. no-size) no-more;
         quote = λ n f. after-sound a e (Quote n) Open s (f (s .bound-below)) (s .board) stand (s .distinct) (λ _. no-size) no-more;
         sell =
-            after-sound a e (Sell (record { sequence = buyEvent sell e .sequence; size = buyEvent sell e .f12 })) Opposite s (s .bound-below) (s .board) stand (s .distinct)
+            after-sound a e (Sell (record { sequence = buyEvent sell e .sequence; size = sizeOf (buyEvent sell e) })) Opposite s (s .bound-below) (s .board) stand (s .distinct)
             (λ z. no (sym z))
             (λ _. (omega (arith, buy-sequence e sell, o .newer), fresh (buyEvent sell e .sequence) (buy-sequence e sell)));
       }
 
-time-sound : (a : Auction) → Sound a → Sound (endedByTime a)
+-- the auction that ends by time
+abbrev timed : Auction → Auction
+timed a = record { head = endedByTime (a .head); board = a .board }
+
+time-sound : (a : Auction) → Sound a → Sound (timed a)
 unfolding endedByTime
 time-sound a s =
     record {
@@ -178,12 +188,16 @@ time-sound a s =
       market-apart = s .market-apart;
     }
 
+pub sound-by : (v : Sight) (a : Auction) (e : Event) → Fits (a .board) v → Sound a → Sound (stepBy v a e .auction)
+sound-by v a e f s =
+    cases (a .head) e v (λ t. Sound (seatedOn (a .board) t .auction)) (record { refused = λ _ _. s; late = λ _. time-sound a s; does = does-sound v a e f s })
+
 pub sound-step : (a : Auction) (e : Event) → Sound a → Sound (stepOf a e .auction)
-sound-step a e s = cases a e (λ p. Sound (p .auction)) (record { refused = λ _ _. s; late = λ _. time-sound a s; does = does-sound a e s })
+sound-step a e s = sound-by (sightOf (a .board) e) a e (sees (a .board) e (s .board)) s
 
 pub sound-close : (a : Auction) → Sound a → Sound (closeOf a .auction)
-unfolding closeOf
-sound-close a s = by (λ (p : Stepped). Sound (p .auction)) (isOpen (a .ending)) _ _ (λ _. time-sound a s) (λ _. s)
+unfolding closeTurn
+sound-close a s = by (λ (t : Turn). Sound (seatedOn (a .board) t .auction)) (isOpen (a .head .ending)) _ _ (λ _. time-sound a s) (λ _. s)
 
 pub sound-run : (es : List Event) (a : Auction) → Sound a → Sound (run a es)
 sound-run [] a s = s
@@ -192,19 +206,19 @@ sound-run (e ∷ es) a s = sound-run es (stepOf a e .auction) (sound-step a e s)
 -- ---- demand 3
 
 -- the bound as a word is the bound
-bound-is : (a : Auction) → Sound a → boundNow a ≡ boundBy (a .terms) (a .quotes)
+bound-is : (a : Auction) → Sound a → boundNow (a .head) ≡ boundBy (a .head .terms) (a .head .quotes)
 unfolding boundNow
 bound-is a s = omega (arith, s .bound-below, s .price)
 
-sound-deal : (a : Auction) → Sound a → SoundDeal (dealOf a) (a .board)
+sound-deal : (a : Auction) → Sound a → SoundDeal (dealOf (a .head)) (a .board)
 unfolding dealOf
 sound-deal a s =
     record {
       bound-below = omega (arith, bound-is a s, s .bound-below);
       stop-below = s .stop-below;
-      prices = all-map (Stands (a .sequence) (a .terms .initiating)) (λ r. r .price ≤ a .terms .initiating) (liveOf (a .board)) (λ r h. h .3) (s .live);
+      prices = every-map (Stands (a .head .sequence) (a .head .terms .initiating)) (λ r. r .price ≤ a .head .terms .initiating) (liveOf (a .board)) (λ r h. h .3) (s .live);
       mode = s .mode;
-      parties = all-map (Stands (a .sequence) (a .terms .initiating)) (λ r. 0 < r .sequence) (liveOf (a .board)) (λ r h. h .0) (s .live);
+      parties = every-map (Stands (a .head .sequence) (a .head .terms .initiating)) (λ r. 0 < r .sequence) (liveOf (a .board)) (λ r h. h .0) (s .live);
       distinct = s .distinct;
       market-apart = s .market-apart;
     }
@@ -214,39 +228,40 @@ reported-total sell [] = refl
 reported-total sell (f ∷ fs) = ap (λ (n : ℕ). f .quantity + n) (reported-total sell fs)
 
 -- a price of the range, as it is shown
-shown-in : (a : Auction) (f : Fill) → InRange (dealOf a) f → Within (rangeOf a) (record { party = f .party; price = shown (a .terms .sell) (f .price); quantity = f .quantity })
+shown-in : (a : Auction) (f : Fill) → InRange (dealOf (a .head)) f → Within (rangeOf (a .head)) (record { party = f .party; price = shown (a .head .terms .sell) (f .price); quantity = f .quantity })
 unfolding rangeOf dealOf mirrored
-shown-in a f h = go (a .terms .sell)
+shown-in a f h = go (a .head .terms .sell)
   where
-    go : (sell : Bool) → Within (cond sell (record { low = 1000000 - a .terms .initiating; high = 1000000 - boundNow a }) (record { low = boundNow a; high = a .terms .initiating })) (record { party = f .party; price = shown sell (f .price); quantity = f .quantity })
+    go : (sell : Bool) → Within (cond sell (record { low = 1000000 - a .head .terms .initiating; high = 1000000 - boundNow (a .head) }) (record { low = boundNow (a .head); high = a .head .terms .initiating })) (record { party = f .party; price = shown sell (f .price); quantity = f .quantity })
     go true = record { low = omega (arith, h .high); high = omega (arith, h .low) }
     go false = record { low = h .low; high = h .high }
 
-reported-in : (a : Auction) (fs : List Fill) → Every (InRange (dealOf a)) fs → Every (Within (rangeOf a)) (reported (a .terms .sell) fs)
+reported-in : (a : Auction) (fs : List Fill) → Every (InRange (dealOf (a .head))) fs → Every (Within (rangeOf (a .head))) (reported (a .head .terms .sell) fs)
 reported-in a [] h = tt
 reported-in a (f ∷ fs) h = (shown-in a f (h .0), reported-in a fs (h .1))
 
-pub trades : (a : Auction) → Sound a → isOpen (a .ending) ≡ false → Trades a
+pub trades : (a : Auction) → Sound a → isOpen (a .head .ending) ≡ false → Trades a
 unfolding fillsOf dealOf
 trades a s z =
-    let d = demand3 (dealOf a) (a .board) (sound-deal a s) in
+    let d = demand3 (dealOf (a .head)) (a .board) (sound-deal a s) in
     record {
       ended = z;
       clauses = d;
-      plans = plans (dealOf a) (a .board) (sound-deal a s);
-      adds-up = reported-total (a .terms .sell) (fills (dealOf a) (offers (a .board))) ∙ d .adds-up;
-      in-range = reported-in a (fills (dealOf a) (offers (a .board))) (d .in-range);
+      plans = plans (dealOf (a .head)) (a .board) (sound-deal a s);
+      adds-up = reported-total (a .head .terms .sell) (fills (dealOf (a .head)) (offers (a .board))) ∙ d .adds-up;
+      in-range = reported-in a (fills (dealOf (a .head)) (offers (a .board))) (d .in-range);
     }
 
-closed-ended : (a : Auction) → isOpen (closeOf a .auction .ending) ≡ false
-unfolding closeOf endedByTime
-closed-ended a = by (λ (p : Stepped). isOpen (p .auction .ending) ≡ false) (isOpen (a .ending)) _ _ (λ _. refl) (λ z. z)
+pub closed-ended : (a : Auction) → isOpen (closeOf a .auction .head .ending) ≡ false
+unfolding closeTurn endedByTime
+closed-ended a = by (λ (t : Turn). isOpen (t .head .ending) ≡ false) (isOpen (a .head .ending)) _ _ (λ _. refl) (λ z. z)
 
 pub demanded : Demanded
 demanded =
     record {
       opened = sound-opened;
-      stepped = sound-step;
+      sees = sees;
+      stepped = sound-by;
       closed = sound-close;
       demand-3 = λ o es h. trades (played o es) (sound-close (run (acceptOf o .auction) es) (sound-run es (acceptOf o .auction) (sound-opened o h))) (closed-ended (run (acceptOf o .auction) es));
       by-event = λ o es z. ap (λ (p : Stepped). p .auction) (keeps .ended-close (run (acceptOf o .auction) es) z);

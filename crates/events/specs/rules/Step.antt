@@ -209,8 +209,12 @@ gives answer a = record { answer = answer; auction = a }
 abbrev pub seatedOn : Board → Turn → Stepped
 seatedOn b t = gives (t .answer) (record { head = t .head; board = boardAfter b (t .change) })
 
+-- an event under some sight of the board, and under the auction's own
+abbrev pub stepBy : Sight → Auction → Event → Stepped
+stepBy s a e = seatedOn (a .board) (turnOf (a .head) s e)
+
 abbrev pub stepOf : Auction → Event → Stepped
-stepOf a e = seatedOn (a .board) (turnOf (a .head) (sightOf (a .board) e) e)
+stepOf a e = stepBy (sightOf (a .board) e) a e
 
 abbrev pub closeOf : Auction → Stepped
 closeOf a = seatedOn (a .board) (closeTurn (a .head))

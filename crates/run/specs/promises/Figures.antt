@@ -26,14 +26,14 @@ pub data Result : Type 0 where
 
 -- one who is open stands with a range; one who has ended has fills
 abbrev pub shownBy : Ending → Auction → Result
-shownBy Open a = standing (rangeOf a .low) (rangeOf a .high)
-shownBy Time a = ended Time (rangeOf a .low) (rangeOf a .high) (auctionFills a)
-shownBy Same a = ended Same (rangeOf a .low) (rangeOf a .high) (auctionFills a)
-shownBy Opposite a = ended Opposite (rangeOf a .low) (rangeOf a .high) (auctionFills a)
-shownBy Improve a = ended Improve (rangeOf a .low) (rangeOf a .high) (auctionFills a)
+shownBy Open a = standing (rangeOf (a .head) .low) (rangeOf (a .head) .high)
+shownBy Time a = ended Time (rangeOf (a .head) .low) (rangeOf (a .head) .high) (auctionFills a)
+shownBy Same a = ended Same (rangeOf (a .head) .low) (rangeOf (a .head) .high) (auctionFills a)
+shownBy Opposite a = ended Opposite (rangeOf (a .head) .low) (rangeOf (a .head) .high) (auctionFills a)
+shownBy Improve a = ended Improve (rangeOf (a .head) .low) (rangeOf (a .head) .high) (auctionFills a)
 
 abbrev pub shown : Auction → Result
-shown a = shownBy (a .ending) a
+shown a = shownBy (a .head .ending) a
 
 pub record Case : Type 0 where
   pub order : Order
