@@ -96,7 +96,7 @@ pub fn find_gtx(b: Board, sequence: u32) -> usize
         if is_gtx(b.places[i], sequence) {
             return i;
         }
-        rest = bits::without_bit(rest, i);
+        rest = bits::without_lowest(rest);
     }
     64
 }

@@ -1,7 +1,7 @@
 -- Worked examples, by computation. Assumes nothing.
 use mathlib.Core.Path.{_≡_, refl}
 use mathlib.Core.Bool.{true, false}
-use Rattle.words.specs.Bits.{bitAt, withBit, withoutBit, onesIn, clearIn, setIn}
+use Rattle.words.specs.Bits.{bitAt, withBit, withoutBit, onesIn, clearIn, setIn, withoutLowest}
 
 -- bits 0, 2 and 63, of 0x8000_0000_0000_0005
 top : bitAt 0x8000_0000_0000_0005 63 ≡ true
@@ -49,3 +49,15 @@ first-set = refl
 none-set : setIn 64 0 ≡ 64
 unfolding setIn
 none-set = refl
+
+clears-lowest : withoutLowest 0x8000_0000_0000_0028 ≡ 0x8000_0000_0000_0020
+unfolding withoutLowest withoutBit setIn
+clears-lowest = refl
+
+clears-top : withoutLowest 0x8000_0000_0000_0000 ≡ 0
+unfolding withoutLowest withoutBit setIn
+clears-top = refl
+
+clears-none : withoutLowest 0 ≡ 0
+unfolding withoutLowest withoutBit setIn
+clears-none = refl

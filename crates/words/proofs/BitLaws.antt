@@ -8,7 +8,7 @@ use native.Mathlib.Omega.{arith}
 use lib.Dec.{leb, eqb}
 use lib.Pow.{pow-pos, pow-mono, split, high}
 use borrow.Author.Tests.{leb-true, leb-false, lt-ltb, le-ltb, eqb-true, eqb-false, eq-eqb, ne-eqb}
-use Rattle.words.specs.Bits.{bitAt, withBit, withoutBit, onesIn, clearIn, setIn}
+use Rattle.words.specs.Bits.{bitAt, withBit, withoutBit, onesIn, clearIn, setIn, withoutLowest}
 
 -- ---- tests
 pub bool-or : (t : Bool) → (t ≡ true) ⊎ (t ≡ false)
@@ -320,3 +320,8 @@ pub lowest-set : (w i : ℕ) → 0 < w → w < 2 ^ 64 → i ≡ setIn 64 w → L
 lowest-set w i p h e =
     let l = some-set 64 w p h in
     record { place = omega arith; set = rw e (set-is 64 w l); none = λ j m. set-least 64 w j (omega arith) }
+
+-- and what it has left after that
+pub without-lowest : (w i : ℕ) → i ≡ setIn 64 w → withoutLowest w ≡ withoutBit w i
+unfolding withoutLowest
+without-lowest w i e = ap (withoutBit w) (sym e)

@@ -9,9 +9,9 @@ use native.Mathlib.Omega.{arith}
 use lib.Dec.{lit<}
 use lib.Pow.{pow-lt, shl-exact}
 use lib.Count.{ones, ones-step, trailingZeros}
-use lib.Bits.{bitAnd, bitOr, and-step, and-high, or-add-and}
-use Rattle.words.specs.Bits.{bitAt, withBit, withoutBit, onesIn, clearIn, setIn}
-use Rattle.words.proofs.BitLaws.{bool-or, bit-or, bit-one, bit-zero, with-clear, with-set, without-set, without-clear, clear-even, clear-odd}
+use lib.Bits.{bitAnd, bitOr, and-step, and-self, and-high, or-add-and}
+use Rattle.words.specs.Bits.{bitAt, withBit, withoutBit, onesIn, clearIn, setIn, withoutLowest}
+use Rattle.words.proofs.BitLaws.{bool-or, bit-or, bit-one, bit-zero, with-clear, with-set, without-set, without-clear, clear-even, clear-odd, set-even, set-odd, some-set, set-is}
 
 -- ---- one bit
 and-bit : (w i : ℕ) → bitAnd w (2 ^ i) ≡ (w / 2 ^ i % 2) * 2 ^ i
@@ -84,3 +84,33 @@ inverted-is (suc k) w h =
     (λ e. let f : (2 ^ suc k - 1 - w) % 2 ≡ 1 = omega arith in rw f (sym (clear-even k w e)))
     (λ e. let f : (2 ^ suc k - 1 - w) % 2 ≡ 0 = omega arith in rw (f, half) (ap suc ih ∙ sym (clear-odd k w e)))
     (bit-or w)
+
+-- ---- the lowest set bit: a word and one less than it share all but that one
+less-even : (w i : ℕ) → w % 2 ≡ 0 → (w / 2 - 2 ^ i) * 2 + min (w % 2) 1 ≡ w - 2 ^ suc i
+less-even w i e = omega (arith, pow-suc 2 i)
+
+less-odd : (w : ℕ) → w % 2 ≡ 1 → w / 2 * 2 + min (w % 2) 0 ≡ w - 1
+less-odd w e = omega arith
+
+and-less : (k w : ℕ) → 0 < w → w < 2 ^ k → bitAnd w (w - 1) ≡ w - 2 ^ setIn k w
+and-less zero w p h = absurd (omega arith)
+and-less (suc k) w p h =
+    ⊎-elim
+    (λ e.
+    let half : (w - 1) / 2 ≡ w / 2 - 1 = omega arith in
+    let odd : (w - 1) % 2 ≡ 1 = omega arith in
+    let ih = and-less k (w / 2) (omega arith) (omega (arith, pow-suc 2 k)) in
+    and-step w (w - 1) ∙ rw (half, odd, set-even k w e, ih) (less-even w (setIn k (w / 2)) e))
+    (λ e.
+    let half : (w - 1) / 2 ≡ w / 2 = omega arith in
+    let odd : (w - 1) % 2 ≡ 0 = omega arith in
+    and-step w (w - 1) ∙ rw (half, odd, set-odd k w e, and-self (w / 2)) (less-odd w e))
+    (bit-or w)
+
+pub and-less-is : (w : ℕ) → 0 < w → w < 2 ^ 64 → bitAnd w (w - 1) ≡ withoutLowest w
+unfolding withoutLowest
+and-less-is w p h = and-less 64 w p h ∙ sym (without-set w (setIn 64 w) (set-is 64 w (some-set 64 w p h)))
+
+pub none-less : withoutLowest 0 ≡ 0
+unfolding withoutLowest withoutBit setIn
+none-less = refl

@@ -21,6 +21,9 @@ first-clear κs a = (tt, λ y z v w p q. (p ∙ sym q, refl))
 pub first-set : Settled contracts.bits.first_set.ended contracts.bits.first_set.Reads.Asked contracts.bits.first_set.Reads.Learnt
 first-set κs a = (tt, λ y z v w p q. (p ∙ sym q, refl))
 
+pub without-lowest : Settled contracts.bits.without_lowest.ended contracts.bits.without_lowest.Reads.Asked contracts.bits.without_lowest.Reads.Learnt
+without-lowest κs a = (tt, λ y z v w p q. (p ∙ sym q, refl))
+
 pub join : Settled contracts.bytes.join.ended contracts.bytes.join.Reads.Asked contracts.bytes.join.Reads.Learnt
 join κs a = (tt, λ y z v w p q. (p ∙ sym q, refl))
 

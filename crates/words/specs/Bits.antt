@@ -29,3 +29,7 @@ clearIn (suc k) w = cond (eqb (w % 2) 1) (suc (clearIn k (w / 2))) 0
 unfoldable pub setIn : ℕ → ℕ → ℕ
 setIn zero w = 0
 setIn (suc k) w = cond (eqb (w % 2) 1) 0 (suc (setIn k (w / 2)))
+
+-- w with its lowest set bit clear, and 0 where w is 0
+unfoldable pub withoutLowest : ℕ → ℕ
+withoutLowest w = withoutBit w (setIn 64 w)
