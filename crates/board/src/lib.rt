@@ -2,7 +2,7 @@
 ghost use mathlib.Core.Path.{_≡_};
 ghost use mathlib.Core.Bool.{cond};
 ghost use lib.Dec.{ltb};
-ghost use Rattle.board.specs.Board.{emptyBoard, isLive, liveCount, firstFree, placed, cleared, isGtx, findGtx};
+ghost use Rattle.board.specs.rules.Board.{emptyBoard, isLive, liveCount, firstFree, placed, cleared, isGtx, findGtx};
 use words::bits;
 
 // A response that stands on the board: a GTX response, or a limit order.

@@ -1,6 +1,6 @@
 -- Each public function's contract settles it. What is cited is made from the code's own clauses, so a clause that says less is refused here.
 use mathlib.Core.Path.{refl, sym, _∙_, ap}
-use Rattle.words.specs.Settled.{Settled}
+use Rattle.base.specs.Settled.{Settled}
 use Rattle.words.proofs as contracts
 
 pub test : Settled contracts.bits.test.ended contracts.bits.test.Reads.Asked contracts.bits.test.Reads.Learnt

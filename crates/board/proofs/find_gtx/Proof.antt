@@ -4,10 +4,10 @@ use mathlib.Core.Path.{_≡_, sym, ap, _∙_}
 use native.Mathlib.Omega.{arith}
 use borrow.Author.Needs.{needs}
 use lib.ListN.{length}
-use Rattle.words.specs.Bits.{withoutBit}
-use Rattle.words.proofs.BitLaws.{without-le, without-lt, without-lowest, Lowest, lowest-set}
-use Rattle.board.specs.Board.{noResponse, findIn, isGtx, findGtx}
-use Rattle.board.proofs.Facts.{length-mapped}
+use Rattle.words.specs.rules.Bits.{withoutBit}
+use Rattle.words.proofs.BitLaws.{without-le, without-lt, without-lowest, LowestBit, lowest-set}
+use Rattle.board.specs.rules.Board.{noResponse, findIn, isGtx, findGtx}
+use Rattle.base.proofs.ListLaws.{length-mapped}
 use Rattle.board.proofs.FindLaws.{find-low, find-rest, find-none}
 use Rattle.board.proofs.find_gtx.Statement.{statement}
 use Rattle.board.proofs.find_gtx.Tie as tie
@@ -23,7 +23,7 @@ len : (c : tie.Start Inv-loop μ-loop) → length (c .args .t1 .places) ≡ 64
 len c = search (needs, length-mapped)
 
 -- the place that a turn looks at
-low : (c : tie.After-first-set Inv-loop μ-loop) → Lowest (c .before .before .loop .rest) (c .first-set .result)
+low : (c : tie.After-first-set Inv-loop μ-loop) → LowestBit (c .before .before .loop .rest) (c .first-set .result)
 low c = lowest-set _ _ (omega arith) (c .before .before .loop .inv .0) (c .first-set .ensures)
 
 loop-holds : tie.Need-loop-holds Inv-loop μ-loop
