@@ -15,8 +15,8 @@ live-count κs a = (tt, λ y z v w p q. (p ∙ sym q, refl))
 pub first-free : Settled contracts.first_free.ended contracts.first_free.Reads.Asked contracts.first_free.Reads.Learnt
 first-free κs a = (tt, λ y z v w p q. (p ∙ sym q, refl))
 
-pub place : Settled contracts.place.ended contracts.place.Reads.Asked contracts.place.Reads.Learnt
-place κs a = (tt, λ y z v w p q. (p ∙ sym q, refl))
+pub seated : Settled contracts.seated.ended contracts.seated.Reads.Asked contracts.seated.Reads.Learnt
+seated κs a = (tt, λ y z v w p q. (p ∙ sym q, refl))
 
 pub clear : Settled contracts.clear.ended contracts.clear.Reads.Asked contracts.clear.Reads.Learnt
 clear κs a = (tt, λ y z v w p q. (p ∙ sym q, refl))

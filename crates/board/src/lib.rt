@@ -2,7 +2,7 @@
 ghost use mathlib.Core.Path.{_≡_};
 ghost use mathlib.Core.Bool.{cond};
 ghost use lib.Dec.{ltb};
-ghost use Rattle.board.specs.rules.Board.{emptyBoard, isLive, liveCount, firstFree, placed, cleared, isGtx, findGtx};
+ghost use Rattle.board.specs.rules.Board.{emptyBoard, isLive, liveCount, firstFree, seatedAt, cleared, isGtx, findGtx};
 use words::bits;
 
 // A response that stands on the board: a GTX response, or a limit order.
@@ -56,17 +56,16 @@ pub fn first_free(b: Board) -> u32
     bits::first_clear(b.live)
 }
 
-// A response takes the lowest free place. Where none is free the board stays.
-pub fn place(b: Board, r: Response) -> Board
-    ensures { λ n. ⌜ n ≡ placed b r ⌝ }
+// A response at a place, live. Where there is no such place the board stays.
+pub fn seated(b: Board, at: usize, r: Response) -> Board
+    ensures { λ n. ⌜ n ≡ seatedAt b at r ⌝ }
 {
-    let i = first_free(b) as usize;
-    if 64 <= i {
+    if 64 <= at {
         return b;
     }
     let mut n = b;
-    n.places[i] = r;
-    n.live = bits::with_bit(n.live, i);
+    n.places[at] = r;
+    n.live = bits::with_bit(n.live, at);
     n
 }
 
