@@ -7,7 +7,7 @@ use lib.Dec.{eqb}
 use borrow.Author.Tests.{eq-eqb, ne-eqb, eqb-true}
 use Rattle.tape.specs.declared.Event.{Event}
 use Rattle.auction.specs.Mirror.{mirroredPriced, mirroredMarket, mirroredQuotes, mirroredEvent, buyEvent}
-use Rattle.auction.proofs.Choice.{by}
+use Rattle.base.proofs.Bools.{by}
 
 -- what each kind's mirror keeps, the mirror keeps
 mirror-keeps : {A : Type 0} (f : Event → A) (e : Event) → f (mirroredPriced e) ≡ f e → f (mirroredMarket e) ≡ f e → f (mirroredQuotes e) ≡ f e → f (mirroredEvent e) ≡ f e

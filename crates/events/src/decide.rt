@@ -5,7 +5,7 @@ ghost use Prim.Native.Nat.{max};
 ghost use lib.Dec.{ltb};
 ghost use Rattle.events.specs.rules.Step.{seats, gtxOutcome, cancelOutcome, sellLimitOutcome, bidQuotes, moves, buyLimitOutcome, limitOutcome, marketOutcome, newQuotes, quotesOutcome, outcomeOf, responseOf, isNonRoutable};
 ghost use Rattle.auction.specs.rules.Range.{boundBy};
-ghost use Rattle.words.specs.Bits.{bitAt};
+ghost use Rattle.words.specs.rules.Bits.{bitAt};
 ghost use Prim.Native.Nat.{_≤_, min};
 use crate::Change;
 use crate::Outcome;

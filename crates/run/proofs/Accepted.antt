@@ -7,7 +7,7 @@ use native.Mathlib.Omega.{arith}
 use lib.Dec.{leb, ltb, eqb}
 use lib.ListN.{getD}
 use borrow.Author.Tests.{ltb-true, ltb-false, leb-true, leb-false, eqb-true, eqb-false, le-ltb, lt-ltb, eq-eqb, not-false}
-use Rattle.words.specs.Bits.{bitAt}
+use Rattle.words.specs.rules.Bits.{bitAt}
 use Rattle.tape.specs.declared.Order.{Order}
 use Rattle.tape.specs.Form.{orderTests, orderFormed}
 use Rattle.tape.proofs.RecordLaws.{or-left, or-right}
@@ -16,7 +16,7 @@ use Rattle.auction.specs.Mirror.{mirrored, mirroredOrder, buyOrder}
 use Rattle.auction.specs.rules.Accept.{initiatingOf, tickOf, boundOf, firstBound, guaranteedOf, rangeRefusal, buyRefusal, orderRefusal, openedBy, acceptOf, bidMark}
 use Rattle.auction.specs.declared.Opening.{Opening}
 use Rattle.auction.specs.declared.Entry.the-variants.{Accepted, Refused}
-use Rattle.auction.proofs.Choice.{by, no}
+use Rattle.base.proofs.Bools.{by, no}
 
 -- what no refusal of a buy says of it
 pub record Passed (b : Order) : Type 0 where

@@ -9,8 +9,8 @@ use Rattle.base.specs.Lists.{Every, Inserts}
 use Rattle.base.specs.Lists.Inserts.{here, there}
 use Rattle.base.proofs.ListLaws.{inserts-every, every-inserts}
 use Rattle.base.proofs.Bools.{by}
-use Rattle.board.specs.Board.{responseAt, isLive, firstFree, liveOf, seatedAt, cleared, findGtx}
-use Rattle.board.specs.Theorems.{Good, GtxAt}
+use Rattle.board.specs.rules.Board.{responseAt, isLive, firstFree, liveOf, seatedAt, cleared, findGtx}
+use Rattle.board.specs.promises.Board.{Good, GtxAt}
 use Rattle.board.specs.declared.Board.{Board}
 use Rattle.board.specs.declared.Response.{Response}
 use Rattle.board.proofs.BoardLaws.{seating, clearing, cleared-dead, find-gtx}

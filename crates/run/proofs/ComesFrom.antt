@@ -10,7 +10,7 @@ use borrow.Author.Tests.{eq-eqb, ne-eqb}
 use Rattle.base.specs.Lists.{In, Every, keep}
 use Rattle.base.proofs.Bools.{by, no}
 use Rattle.base.proofs.ListLaws.{every-map}
-use Rattle.board.specs.Board.{liveOf}
+use Rattle.board.specs.rules.Board.{liveOf}
 use Rattle.board.specs.declared.Response.{Response}
 use Rattle.board.proofs.BoardLaws.{empty-live}
 use Rattle.tape.specs.declared.Order.{Order}

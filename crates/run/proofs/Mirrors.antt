@@ -7,10 +7,10 @@ use native.Mathlib.Omega.{arith}
 use lib.Dec.{leb, ltb, eqb}
 use borrow.Author.Tests.{eqb-true, eqb-false, eq-eqb, ne-eqb}
 use Rattle.base.proofs.Bools.{by, no}
-use Rattle.board.specs.Board.{responseAt, firstFree, findGtx}
+use Rattle.board.specs.rules.Board.{responseAt, firstFree, findGtx}
 use Rattle.board.specs.declared.Board.{Board}
 use Rattle.board.specs.declared.Response.{Response}
-use Rattle.share.specs.Fills.{Fill, fillOf}
+use Rattle.share.specs.rules.Fills.{Fill, fillOf}
 use Rattle.tape.specs.declared.Order.{Order}
 use Rattle.tape.specs.declared.Event.{Event}
 use Rattle.tape.specs.Form.{orderFormed, eventFormed}

@@ -8,7 +8,7 @@ use native.Mathlib.Nat.{le-refl, le-trans, le-of-lt}
 use native.Mathlib.Omega.{arith}
 use lib.Dec.{leb, ltb, eqb}
 use borrow.Author.Tests.{le-leb, eqb-false}
-use Rattle.words.specs.Bits.{bitAt}
+use Rattle.words.specs.rules.Bits.{bitAt}
 use Rattle.base.specs.Lists.{In, Every, keep}
 use Rattle.tape.specs.declared.Event.{Event}
 use Rattle.tape.specs.declared.Order.{Order}

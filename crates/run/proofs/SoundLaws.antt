@@ -11,12 +11,12 @@ use borrow.Author.Tests.{eqb-true}
 use Rattle.base.specs.Lists.{Every}
 use Rattle.base.proofs.Bools.{by, no}
 use Rattle.base.proofs.ListLaws.{every-map}
-use Rattle.board.specs.Board.{emptyBoard, liveOf, seatedAt, cleared}
-use Rattle.board.specs.Theorems.{Good}
+use Rattle.board.specs.rules.Board.{emptyBoard, liveOf, seatedAt, cleared}
+use Rattle.board.specs.promises.Board.{Good}
 use Rattle.board.specs.declared.Board.{Board}
 use Rattle.board.specs.declared.Response.{Response}
 use Rattle.board.proofs.BoardLaws.{empty-good, empty-live, seated-good, cleared-good}
-use Rattle.share.specs.Fills.{Fill}
+use Rattle.share.specs.rules.Fills.{Fill}
 use Rattle.tape.specs.declared.Event.{Event}
 use Rattle.tape.specs.declared.Order.{Order}
 use Rattle.tape.specs.Form.{eventFormed, shapeOf, shapeTests, orderFormed}

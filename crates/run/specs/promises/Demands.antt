@@ -6,18 +6,18 @@ use mathlib.Core.Logic.{_⊎_}
 use Prim.Native.Nat.{ℕ, _+_, _≤_, _<_, min}
 use lib.Dec.{eqb}
 use Rattle.base.specs.Lists.{In, Every}
-use Rattle.board.specs.Board.{responseAt, isLive, liveOf}
-use Rattle.board.specs.Theorems.{Good}
+use Rattle.board.specs.rules.Board.{responseAt, isLive, liveOf}
+use Rattle.board.specs.promises.Board.{Good}
 use Rattle.board.specs.declared.Board.{Board}
 use Rattle.board.specs.declared.Response.{Response}
-use Rattle.share.specs.Fills.{Fill}
+use Rattle.share.specs.rules.Fills.{Fill}
 use Rattle.tape.specs.declared.Order.{Order}
 use Rattle.tape.specs.declared.Event.{Event}
 use Rattle.tape.specs.Form.{orderFormed, eventFormed}
 use Rattle.trade.specs.Trade.{offers, fills, total}
 use Rattle.trade.specs.Demands.{Absent, Distinct, Demand3}
 use Rattle.trade.specs.Plan.{Planned}
-use Rattle.words.specs.Bits.{bitAt}
+use Rattle.words.specs.rules.Bits.{bitAt}
 use Rattle.auction.specs.Mirror.{mirrored, mirroredMarks, mirroredOrder, mirroredEvent, buyEvent}
 use Rattle.auction.specs.rules.Accept.{acceptOf}
 use Rattle.auction.specs.rules.Range.{isOpen, boundBy}
