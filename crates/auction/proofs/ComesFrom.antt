@@ -11,8 +11,8 @@ use Rattle.board.specs.Lists.{Every, keep}
 use Rattle.board.specs.Board.{liveOf, findGtx}
 use Rattle.board.specs.declared.Response.{Response}
 use Rattle.board.proofs.BoardLaws.{empty-live}
-use Rattle.tape.specs.declared.Order.{Order}
-use Rattle.tape.specs.declared.Event.{Event}
+use Rattle.tape.specs.declared.order.Order.{Order}
+use Rattle.tape.specs.declared.event.Event.{Event}
 use Rattle.trade.specs.Demands.{In, Distinct}
 use Rattle.trade.proofs.Lists.{all-map}
 use Rattle.auction.specs.Mirror.{buyOrder, buyEvent}

@@ -10,8 +10,8 @@ use Rattle.words.specs.Bits.{bitAt, withBit, clearIn}
 use Rattle.board.specs.declared.Response.{Response}
 use Rattle.board.specs.declared.Board.{Board}
 use Rattle.board.specs.Board.{findGtx, placed}
-use Rattle.tape.specs.declared.Event.{Event}
-use Rattle.tape.specs.Form.{eventFormed}
+use Rattle.tape.specs.declared.event.Event.{Event}
+use Rattle.tape.specs.rules.Form.{eventFormed}
 use Rattle.auction.specs.Mirror.{buyEvent}
 use Rattle.auction.specs.Step.{isOpen, eventRefusal, outcomeOf, after, endedByTime, gives, carried, stepOf, closeOf}
 use Rattle.auction.specs.Head.{headOf, wholeOf, headRefusal, headByTime, turnBy, stays, turnOf, outOfFormOf, turned, Heads, closeTurn, foundFor, turnIn}

@@ -6,8 +6,8 @@ use Prim.Native.Nat.{ℕ, _<_, _^_}
 use native.Mathlib.Omega.{arith}
 use lib.Dec.{leb}
 use borrow.Author.Tests.{le-leb}
-use Rattle.tape.specs.Form.{eventFormed, shapeTests, shapeOf, allFrom, inside, anyNumber}
-use Rattle.tape.specs.declared.Event.{Event}
+use Rattle.tape.specs.rules.Form.{eventFormed, shapeTests, shapeOf, allFrom, inside, anyNumber}
+use Rattle.tape.specs.declared.event.Event.{Event}
 use Rattle.auction.specs.Step.{stepOf}
 use Rattle.auction.specs.Run.{run}
 use Rattle.auction.specs.Lent.{cancelEvent, Applies, none, more, answers, InPlace}

@@ -11,9 +11,9 @@ use Rattle.board.specs.Board.{findGtx}
 use Rattle.board.specs.declared.Board.{Board}
 use Rattle.board.specs.declared.Response.{Response}
 use Rattle.share.specs.Fills.{Fill, fillOf}
-use Rattle.tape.specs.declared.Order.{Order}
-use Rattle.tape.specs.declared.Event.{Event}
-use Rattle.tape.specs.Form.{orderFormed, eventFormed}
+use Rattle.tape.specs.declared.order.Order.{Order}
+use Rattle.tape.specs.declared.event.Event.{Event}
+use Rattle.tape.specs.rules.Form.{orderFormed, eventFormed}
 use Rattle.trade.specs.declared.Deal.{Deal}
 use Rattle.trade.specs.Trade.{Level, offers, fills, top, entry, next, offersAt, matches, isFinal, wants, levelAt, walk, marketPrice, levels, flat, total, levelFills, contra}
 use Rattle.trade.specs.Write.{shown, reported, fillsOf}

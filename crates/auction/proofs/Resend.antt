@@ -11,9 +11,9 @@ use borrow.Author.Tests.{le-leb, eqb-false}
 use Rattle.words.specs.Bits.{bitAt}
 use Rattle.board.specs.Lists.{Every, keep}
 use Rattle.board.specs.Board.{findGtx}
-use Rattle.tape.specs.declared.Event.{Event}
-use Rattle.tape.specs.declared.Order.{Order}
-use Rattle.tape.specs.Form.{orderFormed, eventFormed}
+use Rattle.tape.specs.declared.event.Event.{Event}
+use Rattle.tape.specs.declared.order.Order.{Order}
+use Rattle.tape.specs.rules.Form.{orderFormed, eventFormed}
 use Rattle.trade.specs.Demands.{In}
 use Rattle.trade.proofs.Lists.{all-in, all-map}
 use Rattle.auction.specs.Mirror.{buyOrder, buyEvent}

@@ -15,9 +15,9 @@ use Rattle.board.specs.declared.Board.{Board}
 use Rattle.board.specs.declared.Response.{Response}
 use Rattle.board.proofs.BoardLaws.{empty-good, empty-live, placed-good, cleared-good}
 use Rattle.share.specs.Fills.{Fill}
-use Rattle.tape.specs.declared.Event.{Event}
-use Rattle.tape.specs.declared.Order.{Order}
-use Rattle.tape.specs.Form.{eventFormed, shapeOf, shapeTests, orderFormed}
+use Rattle.tape.specs.declared.event.Event.{Event}
+use Rattle.tape.specs.declared.order.Order.{Order}
+use Rattle.tape.specs.rules.Form.{eventFormed, shapeOf, shapeTests, orderFormed}
 use Rattle.tape.proofs.FormLaws.{each, within-ge, order-bounds}
 use Rattle.trade.specs.declared.Deal.{Deal}
 use Rattle.trade.specs.Trade.{offers, fills, total}

@@ -7,8 +7,8 @@ use lib.Dec.{leb, ltb, eqb}
 use borrow.Author.Tests.{ltb-true, ltb-false, leb-true, leb-false, eqb-true, eqb-false, le-ltb, eq-eqb, not-false}
 use Rattle.words.specs.Bits.{bitAt}
 use Rattle.board.specs.Board.{firstFree, findGtx}
-use Rattle.tape.specs.declared.Event.{Event}
-use Rattle.tape.specs.Form.{eventFormed}
+use Rattle.tape.specs.declared.event.Event.{Event}
+use Rattle.tape.specs.rules.Form.{eventFormed}
 use Rattle.auction.specs.Mirror.{buyEvent}
 use Rattle.auction.specs.Accept.{tickOf, boundOf}
 use Rattle.auction.specs.Step.{isOpen, eventRefusal, isCustomer, isNonRoutable, responseOf, gtxOutcome, cancelOutcome, sellLimitOutcome, bidQuotes, moves, boundBy, buyLimitOutcome, limitOutcome, marketOutcome, newQuotes, quotesOutcome, outcomeOf, after, endedByTime, gives, carried, isFull, stepOf, closeOf}

@@ -2,8 +2,8 @@
 use mathlib.Core.Bool.{cond}
 use mathlib.Core.List.{List}
 use Rattle.board.specs.declared.Response.{Response}
-use Rattle.tape.specs.declared.Event.{Event}
-use Rattle.tape.specs.Form.{eventFormed}
+use Rattle.tape.specs.declared.event.Event.{Event}
+use Rattle.tape.specs.rules.Form.{eventFormed}
 use Rattle.auction.specs.Head.{turnIn, outOfFormOf}
 use Rattle.auction.specs.declared.Head.{Head}
 use Rattle.auction.specs.declared.Turn.{Turn}

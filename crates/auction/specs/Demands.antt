@@ -10,9 +10,9 @@ use Rattle.board.specs.Board.{liveOf}
 use Rattle.board.specs.Theorems.{Good}
 use Rattle.board.specs.declared.Response.{Response}
 use Rattle.share.specs.Fills.{Fill}
-use Rattle.tape.specs.declared.Order.{Order}
-use Rattle.tape.specs.declared.Event.{Event}
-use Rattle.tape.specs.Form.{orderFormed, eventFormed}
+use Rattle.tape.specs.declared.order.Order.{Order}
+use Rattle.tape.specs.declared.event.Event.{Event}
+use Rattle.tape.specs.rules.Form.{orderFormed, eventFormed}
 use Rattle.trade.specs.Trade.{offers, fills, total}
 use Rattle.trade.specs.Demands.{In, Absent, Distinct, Demand3}
 use Rattle.trade.specs.Plan.{Planned}

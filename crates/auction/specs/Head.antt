@@ -8,8 +8,8 @@ use lib.ListN.{set}
 use Rattle.words.specs.Bits.{withBit, withoutBit, clearIn}
 use Rattle.board.specs.declared.Response.{Response}
 use Rattle.board.specs.Board.{noResponse, findGtx}
-use Rattle.tape.specs.declared.Event.{Event}
-use Rattle.tape.specs.Form.{eventFormed}
+use Rattle.tape.specs.declared.event.Event.{Event}
+use Rattle.tape.specs.rules.Form.{eventFormed}
 use Rattle.auction.specs.Mirror.{buyEvent}
 use Rattle.auction.specs.Step.{isOpen, outcomeOf, gives, stepOf, closeOf}
 use Rattle.auction.specs.declared.Auction.{Auction}

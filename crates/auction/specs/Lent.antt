@@ -3,8 +3,8 @@ use mathlib.Core.Path.{_≡_}
 use mathlib.Core.List.{List, [], _∷_}
 use Prim.Native.Nat.{ℕ, _<_, _^_}
 use lib.Dec.{leb}
-use Rattle.tape.specs.Form.{eventFormed}
-use Rattle.tape.specs.declared.Event.{Event}
+use Rattle.tape.specs.rules.Form.{eventFormed}
+use Rattle.tape.specs.declared.event.Event.{Event}
 use Rattle.auction.specs.Step.{stepOf}
 use Rattle.auction.specs.Run.{run}
 use Rattle.auction.specs.declared.Auction.{Auction}

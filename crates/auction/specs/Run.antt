@@ -2,8 +2,8 @@
 use mathlib.Core.Bool.{Bool, true, false}
 use mathlib.Core.List.{List, [], _∷_}
 use Rattle.board.specs.Lists.{keep}
-use Rattle.tape.specs.declared.Order.{Order}
-use Rattle.tape.specs.declared.Event.{Event}
+use Rattle.tape.specs.declared.order.Order.{Order}
+use Rattle.tape.specs.declared.event.Event.{Event}
 use Rattle.auction.specs.Accept.{acceptOf}
 use Rattle.auction.specs.Step.{stepOf, closeOf}
 use Rattle.auction.specs.declared.Auction.{Auction}

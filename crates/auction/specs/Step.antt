@@ -6,8 +6,8 @@ use Rattle.words.specs.Bits.{bitAt}
 use Rattle.board.specs.declared.Response.{Response}
 use Rattle.board.specs.declared.Board.{Board}
 use Rattle.board.specs.Board.{firstFree, placed, cleared, findGtx}
-use Rattle.tape.specs.declared.Event.{Event}
-use Rattle.tape.specs.Form.{eventFormed}
+use Rattle.tape.specs.declared.event.Event.{Event}
+use Rattle.tape.specs.rules.Form.{eventFormed}
 use Rattle.auction.specs.Mirror.{buyEvent}
 use Rattle.auction.specs.Accept.{boundOf, bidMark, offerMark}
 use Rattle.auction.specs.declared.Auction.{Auction}

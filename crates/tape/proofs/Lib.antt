@@ -1,8 +1,6 @@
--- Laws and theorems of `tape`.
+-- Laws of `tape`.
 pub mod Parts
 pub mod RecordLaws
 pub mod FormLaws
-pub mod RoundTrip
-pub mod TapeBack
-pub mod ReaderLaws
+pub mod HoldsLaws
 pub mod Settled

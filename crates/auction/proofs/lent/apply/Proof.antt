@@ -40,15 +40,15 @@ use denote.Triple.Clauses.{ensured, lasts}
 use denote.Exit.{yes}
 use Rattle.auction.specs.Step.{stepOf}
 use Rattle.auction.specs.declared.Auction.{Auction}
-use Rattle.tape.specs.declared.Event.{Event}
+use Rattle.tape.specs.declared.event.Event.{Event}
 use Rattle.auction.specs.declared.Answer.{Answer}
 use Rattle.auction.proofs.Answer as N
 use Rattle.auction.proofs.Answer.Laws as N′
 use Rattle.auction.specs.declared.Stepped.{Stepped}
 use Rattle.auction.proofs.Auction as T
 use Rattle.auction.proofs.Auction.Laws as T′
-use Rattle.tape.proofs.Event as E
-use Rattle.tape.proofs.Event.Laws as E′
+use Rattle.tape.proofs.event.Event as E
+use Rattle.tape.proofs.event.Event.Laws as E′
 use Rattle.auction.proofs.Stepped as S
 use Rattle.auction.proofs.Stepped.Laws as S′
 use Rattle.auction.proofs.events.step as step
