@@ -1,50 +1,45 @@
-// A tape that is held: the lent bytes with the place of the order and of an event. Each function over it is thin, over code on plain slices.
+// A tape that is held: the lent bytes with the trailer, which has the order's offset, and the place of an event. Each function over it is thin, over code on plain slices.
 ghost use mathlib.Core.Path.{_≡_};
-ghost use lib.ListN.{drop};
-ghost use Rattle.tape.specs.Records.{readOrder};
-ghost use Rattle.tape.specs.Reader.{held, nextPlace, nextOf, currentOf};
-use crate::Event;
-use crate::ReadEvent;
-use crate::ReadOrder;
-use crate::Trailer;
-use crate::event_at;
-use crate::order_at;
+ghost use Rattle.tape.specs.rules.Tape.{orderIn};
+ghost use Rattle.reader.specs.rules.Reader.{currentOf, nextPlace, held, nextOf};
+use tape::ReadOrder;
+use tape::Record;
+use tape::Trailer;
 
-// The bytes of a tape, the order's offset, how many events there are, and the place of an event, counted from 0.
+// The bytes of a tape, its trailer, and the place of an event, counted from 0.
 pub struct Tape<'a> {
     pub bytes: &'a [u8],
-    pub order: usize,
-    pub events: usize,
+    pub trailer: Trailer,
     pub place: usize,
 }
 
-// What stands at a place: an event, the number of its refusal, or the end of the events.
+// What stands at a place: an event's record, or the end of the events.
 pub enum Current {
-    Event(Event),
-    Refused(u32),
+    Record(Record),
     End,
 }
 
 // ---- the work, on plain slices and numbers
 
 // What stands at a place of lent bytes.
-fn current_at(s: &[u8], order: usize, events: usize, place: usize) -> Current
-    ensures { λ r. ⌜ r ≡ currentOf (now (s .entry)) order events place ⌝ }
+fn current_at(s: &[u8], t: Trailer, place: usize) -> Current
+    ensures { λ r. ⌜ r ≡ currentOf (now (s .entry)) t place ⌝ }
 {
-    if events <= place {
+    if t.events as usize <= place {
         return Current::End;
     }
-    match event_at(s, order, place) {
-        ReadEvent::Event(e) => Current::Event(e),
-        ReadEvent::Refused(number) => Current::Refused(number),
-    }
+    Current::Record(tape::record_in(s, t, place))
 }
 
 // The place after one; the end is the last.
-fn next_place(events: usize, place: usize) -> usize
-    ensures { λ r. ⌜ r ≡ nextPlace events place ⌝ }
+fn next_place(t: Trailer, place: usize) -> usize
+    ensures { λ r. ⌜ r ≡ nextPlace t place ⌝ }
 {
-    if place < events { place + 1 } else { place }
+    if place < t.events as usize {
+        place + 1
+    } else {
+        place
+    }
 }
 
 // ---- over a tape that is held
@@ -55,35 +50,33 @@ pub fn hold<'a>(bytes: &'a [u8], t: Trailer, place: usize) -> Tape<'a>
 {
     Tape {
         bytes,
-        order: t.order as usize,
-        events: t.events as usize,
+        trailer: t,
         place,
     }
 }
 
 // The order.
 pub fn held_order<'a>(t: Tape<'a>) -> ReadOrder
-    ensures { λ r. ⌜ r ≡ readOrder (drop (t .entry .order) (now (t .entry .bytes))) ⌝ }
+    ensures { λ r. ⌜ r ≡ orderIn (now (t .entry .bytes)) (t .entry .trailer) ⌝ }
 {
-    order_at(t.bytes, t.order)
+    tape::order_in(t.bytes, t.trailer)
 }
 
 // The event at the place, or that there is none.
 pub fn current_event<'a>(t: Tape<'a>) -> Current
-    ensures { λ r. ⌜ r ≡ currentOf (now (t .entry .bytes)) (t .entry .order) (t .entry .events) (t .entry .place) ⌝ }
+    ensures { λ r. ⌜ r ≡ currentOf (now (t .entry .bytes)) (t .entry .trailer) (t .entry .place) ⌝ }
 {
-    current_at(t.bytes, t.order, t.events, t.place)
+    current_at(t.bytes, t.trailer, t.place)
 }
 
 // The tape at the next place.
 pub fn next<'a>(t: Tape<'a>) -> Tape<'a>
     ensures { λ r. ⌜ r ≡ nextOf (t .entry) ⌝ }
 {
-    let place = next_place(t.events, t.place);
+    let place = next_place(t.trailer, t.place);
     Tape {
         bytes: t.bytes,
-        order: t.order,
-        events: t.events,
+        trailer: t.trailer,
         place,
     }
 }
@@ -92,14 +85,21 @@ pub fn next<'a>(t: Tape<'a>) -> Tape<'a>
 
 // The order of lent bytes, by their trailer.
 pub fn tape_order(bytes: &[u8], t: Trailer) -> ReadOrder
-    ensures { λ r. ⌜ r ≡ readOrder (drop (t .order) (now (bytes .entry))) ⌝ }
+    ensures { λ r. ⌜ r ≡ orderIn (now (bytes .entry)) t ⌝ }
 {
     held_order(hold(bytes, t, 0))
 }
 
-// Event `place` of lent bytes, by their trailer.
+// What stands at a place of lent bytes, by their trailer.
 pub fn tape_event(bytes: &[u8], t: Trailer, place: usize) -> Current
-    ensures { λ r. ⌜ r ≡ currentOf (now (bytes .entry)) (t .order) (t .events) place ⌝ }
+    ensures { λ r. ⌜ r ≡ currentOf (now (bytes .entry)) t place ⌝ }
 {
     current_event(hold(bytes, t, place))
+}
+
+// What stands after a place.
+pub fn tape_next(bytes: &[u8], t: Trailer, place: usize) -> Current
+    ensures { λ r. ⌜ r ≡ currentOf (now (bytes .entry)) t (nextPlace t place) ⌝ }
+{
+    current_event(next(hold(bytes, t, place)))
 }

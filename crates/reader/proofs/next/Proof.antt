@@ -1,4 +1,4 @@
--- `tape::reader::next` meets its contract: a walk of its MIR, by hand. `next_place` is called on two fields, and the struct is made anew with what it returned. Assumes nothing.
+-- `reader::next` meets its contract: a walk of its MIR, by hand. `next_place` is called on two fields, and the struct is made anew with what it returned. Assumes nothing.
 use mathlib.Core.Path.{_≡_, refl, ap}
 use Prim.Native.Nat.{ℕ, _<_, _^_}
 use mathlib.Core.List.{[], _∷_}
@@ -36,22 +36,29 @@ use denote.Triple.Table.{entered, cited}
 use denote.Triple.Walked.{says, Stays, stay-none, walkOf, goes-none, Walks, ends-at, walked, walk-meets}
 use denote.Triple.Clauses.{ensured, lasts}
 use denote.Exit.{yes}
-use Rattle.tape.specs.Reader.{nextPlace}
-use Rattle.tape.specs.declared.reader.Tape.{Tape}
-use Rattle.tape.proofs.reader.Tape as T
-use Rattle.tape.proofs.reader.Tape.Laws as T′
-use Rattle.tape.proofs.reader.next_place as after
-use Rattle.tape.proofs.reader.next_place.Symbol as after-def
-use Rattle.tape.proofs.reader.next_place.Symbol.{name as #next-place}
-use Rattle.tape.proofs.reader.next_place.Met as after-thm
-use Rattle.tape.proofs.reader.next.Key.{name as #next}
-use Rattle.tape.proofs.reader.next as next
-use Rattle.tape.proofs.reader.next.Statement as stated
-use Rattle.tape.proofs.reader.next.Code as code
+use Rattle.reader.specs.rules.Reader.{nextPlace}
+use Rattle.reader.specs.declared.Tape.{Tape}
+use Rattle.tape.specs.declared.trailer.Trailer.{Trailer}
+use Rattle.reader.proofs.Tape as T
+use Rattle.reader.proofs.Tape.Laws as T′
+use Rattle.tape.proofs.trailer.Trailer as R
+use Rattle.tape.proofs.trailer.Trailer.Laws as R′
+use Rattle.reader.proofs.next_place as after
+use Rattle.reader.proofs.next_place.Symbol as after-def
+use Rattle.reader.proofs.next_place.Symbol.{name as #next-place}
+use Rattle.reader.proofs.next_place.Met as after-thm
+use Rattle.reader.proofs.next.Key.{name as #next}
+use Rattle.reader.proofs.next as next
+use Rattle.reader.proofs.next.Statement as stated
+use Rattle.reader.proofs.next.Code as code
 
 -- the struct's type, over the signature's lifetimes
 abbrev B : Lfts 1 → RattleType
 B κs = T.the-row (namedLft 1 0 tt κs)
+
+-- the machine value of a trailer
+abbrev trailer : Trailer → Val
+trailer = LL.val R.the-type R′.the-laws
 
 abbrev stayed : Stays (next.ended .signature .params) (next.ended .kept)
 stayed = (stay-none B yes, tt)
@@ -67,7 +74,7 @@ module _ {M : Type 1} (𝓤 : URA M) (H : Heap 𝓤) (A : Atoms 𝓤) (W : Given
 
   -- the result, at the number r
   abbrev made : ℕ → Tape
-  made r = record { bytes = d .bytes; order = d .order; events = d .events; place = r }
+  made r = record { bytes = d .bytes; trailer = d .trailer; place = r }
 
   abbrev at : Vals next.signature (κ, tt)
   at = (mach ∷ [], tt)
@@ -80,48 +87,47 @@ module _ {M : Type 1} (𝓤 : URA M) (H : Heap 𝓤) (A : Atoms 𝓤) (W : Given
 
   -- the call: what it is passed, what it asks, and what is known of its result
   abbrev to : After 𝓤 H A mem run .Ghost
-  to = ((tt, tt, tt, (d .events, (d .place, tt)), (vint w64 (d .events) ∷ [], (vint w64 (d .place) ∷ [], tt))), tt)
+  to = ((tt, tt, tt, (d .trailer, (d .place, tt)), (trailer (d .trailer) ∷ [], (vint w64 (d .place) ∷ [], tt))), tt)
 
-  goes : ent 𝓤 (sep 𝓤 (sem 𝓤 H A ftrue) (sem 𝓤 H A (owns (usize ∷ usize ∷ []) (d .events, (d .place, tt)) (vint w64 (d .events) ∷ [], (vint w64 (d .place) ∷ [], tt))))) (After 𝓤 H A mem run .pre to)
-  goes = qed W (‵ ftrue ∷ ‵ (owns (usize ∷ usize ∷ []) (d .events, (d .place, tt)) (vint w64 (d .events) ∷ [], (vint w64 (d .place) ∷ [], tt))) ∷ []) ∵ join ! $ frame ! $ done !
+  goes : ent 𝓤 (sep 𝓤 (sem 𝓤 H A ftrue) (sem 𝓤 H A (owns (R.the-row ∷ usize ∷ []) (d .trailer, (d .place, tt)) (trailer (d .trailer) ∷ [], (vint w64 (d .place) ∷ [], tt))))) (After 𝓤 H A mem run .pre to)
+  goes = qed W (‵ ftrue ∷ ‵ (owns (R.the-row ∷ usize ∷ []) (d .trailer, (d .place, tt)) (trailer (d .trailer) ∷ [], (vint w64 (d .place) ∷ [], tt))) ∷ []) ∵ join ! $ frame ! $ done !
 
-  said : (r : ℕ) → ent 𝓤 (ensured 𝓤 H A after.ended (after.clauses 𝓤 H A mem run) tt (d .events, (d .place, tt)) tt r) (fact 𝓤 (r ≡ nextPlace (d .events) (d .place)))
-  said r = exE 𝓤 _ (λ ws. snd∗ 𝓤 (sem 𝓤 H A (lasts after.ended tt (d .events, (d .place, tt)) ws)) (fact 𝓤 (r ≡ nextPlace (d .events) (d .place))))
+  said : (r : ℕ) → ent 𝓤 (ensured 𝓤 H A after.ended (after.clauses 𝓤 H A mem run) tt (d .trailer, (d .place, tt)) tt r) (fact 𝓤 (r ≡ nextPlace (d .trailer) (d .place)))
+  said r = exE 𝓤 _ (λ ws. snd∗ 𝓤 (sem 𝓤 H A (lasts after.ended tt (d .trailer, (d .place, tt)) ws)) (fact 𝓤 (r ≡ nextPlace (d .trailer) (d .place))))
 
-  exits : (r : ℕ) → r < 2 ^ 64 → r ≡ nextPlace (d .events) (d .place) → ent 𝓤 (onEntry 𝓤 H A next.signature (κ, tt) (q, tt) (d, tt) at) (Post (T′.lowered (made r)))
+  exits : (r : ℕ) → r < 2 ^ 64 → r ≡ nextPlace (d .trailer) (d .place) → ent 𝓤 (onEntry 𝓤 H A next.signature (κ, tt) (q, tt) (d, tt) at) (Post (T′.lowered (made r)))
   exits r ok e =
       qed W ((‵ (flft κ q) ⊛ ‵ ftrue) ∷ ‵ (owns (B (κ, tt) ∷ []) (d, tt) at) ∷ []) ∵
       suffices ! _ (ends-at 𝓤 H A next.ended stayed (next.clauses 𝓤 H A mem run) W (((κ, tt), (q, tt), tt, (d, tt), at), tt) (T′.lowered (made r)) (made r) (tt, tt) (tt, tt)) $ says ! (ap made e) $
       frame ! $ fsplit ! $ use1 W (‵ Own ⊛ ‵ Own) (LL.copy (T.the-type (namedLft 1 0 tt (κ, tt))) (T′.the-copy (namedLft 1 0 tt (κ, tt))) 𝓤 H A W .twice d (mach ∷ [])) $ split ! $ move ! (0 ∷ 2 ∷ []) $ fjoin ! $ frame ! $
       -- [what the struct owns]: the number's facts take the place of `place`'s
-      owned ! usize (Is usize) (uint-makes 𝓤 H A W w64) r _ (refl, ok) $ move ! (1 ∷ 0 ∷ []) $ by ! (own-put 𝓤 H A W (T.the-type (namedLft 1 0 tt (κ, tt))) (T′.the-laws (namedLft 1 0 tt (κ, tt))) 3 (d .bytes, (d .order, (d .events, (d .place, tt)))) r mach)
+      owned ! usize (Is usize) (uint-makes 𝓤 H A W w64) r _ (refl, ok) $ move ! (1 ∷ 0 ∷ []) $ by ! (own-put 𝓤 H A W (T.the-type (namedLft 1 0 tt (κ, tt))) (T′.the-laws (namedLft 1 0 tt (κ, tt))) 2 (d .bytes, (d .trailer, (d .place, tt))) r mach)
 
   module _ (C : Calls 𝓤 H) (Λ : Loops 𝓤 H) (fm : FmC 𝓤 H (W .laws) C) (known : Triple 𝓤 (C #next-place) (After 𝓤 H A mem run)) where
-    walk : Holds (hasTy (T′.mir (named 0)) mach) × WT mach → ent 𝓤 (onEntry 𝓤 H A next.signature (κ, tt) (q, tt) (d, tt) at) (WpFn 𝓤 H C Λ code.function (mach ∷ []) Post)
-    walk wt =
+    walk : Holds (hasTy (T′.mir (named 0)) mach) × WT mach → Is R.the-row (d .trailer) (trailer (d .trailer) ∷ []) → ent 𝓤 (onEntry 𝓤 H A next.signature (κ, tt) (q, tt) (d, tt) at) (WpFn 𝓤 H C Λ code.function (mach ∷ []) Post)
+    walk wt is-t =
         qed W ((‵ (flft κ q) ⊛ ‵ ftrue) ∷ ‵ (owns (B (κ, tt) ∷ []) (d, tt) at) ∷ []) ∵ enter ! C Λ code.function (mach ∷ []) _ $
-        -- [_7; …; _6; …; _5; …; _4; …; _3; …; _2; …; _1; …; _0; …; the token; what the struct owns]
-        alloc1 ! (λ l₀. alloc1 ! (λ l₁. alloc1 ! (λ l₂. alloc1 ! (λ l₃. alloc1 ! (λ l₄. alloc1 ! (λ l₅. alloc1 ! (λ l₆. alloc1 ! (λ l₇. alloc0 ! $ params1 ! $ pass1 ! (init ! 12 refl wt) $ pass0 ! $
-        assigns ! (of-opd ! (load ! (from ! (fld ! refl (stop !))) (look-in ! 12 (sub ! 2 refl (whole !))))) (from ! (stop !)) (init ! 8 refl (tt, wt .1 .1 .1 .0)) $
-        assigns ! (of-opd ! (load ! (from ! (fld ! refl (stop !))) (look-in ! 12 (sub ! 3 refl (whole !))))) (from ! (stop !)) (init ! 6 refl (tt, wt .1 .1 .1 .1 .0)) $
-        nothing ! $ owned ! usize (Is usize) (uint-makes 𝓤 H A W w64) (d .place) _ (refl, wt .1 .1 .1 .1 .0 .fits) $ fjoin ! $ owned ! usize (Is usize) (uint-makes 𝓤 H A W w64) (d .events) _ (refl, wt .1 .1 .1 .0 .fits) $ fjoin ! $ nothing ! $ use2 W (raw (After 𝓤 H A mem run .pre to)) goes $
-        calls-at ! fm (After 𝓤 H A mem run) known to (and-then ! (load ! (from ! (stop !)) (look ! 9 refl)) (and-then ! (load ! (from ! (stop !)) (look ! 7 refl)) (no-more !))) (λ u.
-        use1 W (later (some (λ (r : ℕ). (‵ ftrue ⊛ ‵ (usize .own r (u ∷ []))) ⊛ raw (ensured 𝓤 H A after.ended (after.clauses 𝓤 H A mem run) tt (d .events, (d .place, tt)) tt r)))) (id⊢ 𝓤 _) $ await ! tt $ pick ! (λ r.
-        split ! $ move ! (1 ∷ []) $ use1 W (raw (fact 𝓤 (r ≡ nextPlace (d .events) (d .place)))) (said r) $ heard ! (r ≡ nextPlace (d .events) (d .place)) (λ e. split ! $ drop ! $
+        -- [_6; …; _5; …; _4; …; _3; …; _2; …; _1; …; _0; …; the token; what the struct owns]
+        alloc1 ! (λ l₀. alloc1 ! (λ l₁. alloc1 ! (λ l₂. alloc1 ! (λ l₃. alloc1 ! (λ l₄. alloc1 ! (λ l₅. alloc1 ! (λ l₆. alloc0 ! $ params1 ! $ pass1 ! (init ! 10 refl wt) $ pass0 ! $
+        assigns ! (of-opd ! (load ! (from ! (fld ! refl (stop !))) (look-in ! 10 (sub ! 1 refl (whole !))))) (from ! (stop !)) (init ! 6 refl (tt, wt .1 .1 .0)) $
+        assigns ! (of-opd ! (load ! (from ! (fld ! refl (stop !))) (look-in ! 10 (sub ! 2 refl (whole !))))) (from ! (stop !)) (init ! 4 refl (tt, wt .1 .1 .1 .0)) $
+        nothing ! $ owned ! usize (Is usize) (uint-makes 𝓤 H A W w64) (d .place) _ (refl, wt .1 .1 .1 .0 .fits) $ fjoin ! $ owned ! R.the-row (Is R.the-row) (LL.makes R.the-type R′.the-plain 𝓤 H A) (d .trailer) _ is-t $ fjoin ! $ nothing ! $ use2 W (raw (After 𝓤 H A mem run .pre to)) goes $
+        calls-at ! fm (After 𝓤 H A mem run) known to (and-then ! (load ! (from ! (stop !)) (look ! 7 refl)) (and-then ! (load ! (from ! (stop !)) (look ! 5 refl)) (no-more !))) (λ u.
+        use1 W (later (some (λ (r : ℕ). (‵ ftrue ⊛ ‵ (usize .own r (u ∷ []))) ⊛ raw (ensured 𝓤 H A after.ended (after.clauses 𝓤 H A mem run) tt (d .trailer, (d .place, tt)) tt r)))) (id⊢ 𝓤 _) $ await ! tt $ pick ! (λ r.
+        split ! $ move ! (1 ∷ []) $ use1 W (raw (fact 𝓤 (r ≡ nextPlace (d .trailer) (d .place)))) (said r) $ heard ! (r ≡ nextPlace (d .trailer) (d .place)) (λ e. split ! $ drop ! $
         peeks ! usize (Is usize) (shows 𝓤 H A usize) r (u ∷ []) (λ is. drop ! $
-        land ! (from ! (stop !)) (init ! 10 refl (uint-lawful 𝓤 H A W w64 .typed r _ is .0)) $ rewrite ! 10 (λ (v : Val). ‵ (fat fullShare (tyInt w64) l₂ 0 v)) (ap only (is .0)) refl $
-        assigns ! (of-opd ! (load ! (from ! (fld ! refl (stop !))) (look-in ! 12 (sub ! 0 refl (whole !))))) (from ! (stop !)) (init ! 4 refl (tt, wt .1 .0)) $
-        assigns ! (of-opd ! (load ! (from ! (fld ! refl (stop !))) (look-in ! 12 (sub ! 1 refl (whole !))))) (from ! (stop !)) (init ! 2 refl (tt, wt .1 .1 .0)) $
-        assigns ! (of-opd ! (load ! (from ! (fld ! refl (stop !))) (look-in ! 12 (sub ! 2 refl (whole !))))) (from ! (stop !)) (init ! 0 refl (tt, wt .1 .1 .1 .0)) $
-        assigns ! (agg ! (and-then ! (load ! (from ! (stop !)) (look ! 4 refl)) (and-then ! (load ! (from ! (stop !)) (look ! 2 refl)) (and-then ! (load ! (from ! (stop !)) (look ! 0 refl)) (and-then ! (load ! (from ! (stop !)) (look ! 10 refl)) (no-more !)))))) (from ! (stop !)) (init ! 14 refl (tt, (wt .1 .0, (wt .1 .1 .0, (wt .1 .1 .1 .0, (record { fits = is .1 }, tt)))))) $
-        returns ! (look ! 14 refl) $ forget ! 0 refl $ forget ! 2 refl $ forget ! 4 refl $ forget ! 6 refl $ forget ! 8 refl $ forget ! 10 refl $ forget ! 12 refl $ forget ! 14 refl $
-        move ! (14 ∷ 15 ∷ []) $ free1 ! $ move ! (12 ∷ 13 ∷ []) $ free1 ! $ move ! (10 ∷ 11 ∷ []) $ free1 ! $ move ! (8 ∷ 9 ∷ []) $ free1 ! $ move ! (6 ∷ 7 ∷ []) $ free1 ! $ move ! (4 ∷ 5 ∷ []) $ free1 ! $ move ! (2 ∷ 3 ∷ []) $ free1 ! $ free1 ! $ free0 ! $ by ! (exits r (is .1) e)))))))))))))
+        land ! (from ! (stop !)) (init ! 8 refl (uint-lawful 𝓤 H A W w64 .typed r _ is .0)) $ rewrite ! 8 (λ (v : Val). ‵ (fat fullShare (tyInt w64) l₂ 0 v)) (ap only (is .0)) refl $
+        assigns ! (of-opd ! (load ! (from ! (fld ! refl (stop !))) (look-in ! 10 (sub ! 0 refl (whole !))))) (from ! (stop !)) (init ! 2 refl (tt, wt .1 .0)) $
+        assigns ! (of-opd ! (load ! (from ! (fld ! refl (stop !))) (look-in ! 10 (sub ! 1 refl (whole !))))) (from ! (stop !)) (init ! 0 refl (tt, wt .1 .1 .0)) $
+        assigns ! (agg ! (and-then ! (load ! (from ! (stop !)) (look ! 2 refl)) (and-then ! (load ! (from ! (stop !)) (look ! 0 refl)) (and-then ! (load ! (from ! (stop !)) (look ! 8 refl)) (no-more !))))) (from ! (stop !)) (init ! 12 refl (tt, (wt .1 .0, (wt .1 .1 .0, (record { fits = is .1 }, tt))))) $
+        returns ! (look ! 12 refl) $ forget ! 0 refl $ forget ! 2 refl $ forget ! 4 refl $ forget ! 6 refl $ forget ! 8 refl $ forget ! 10 refl $ forget ! 12 refl $
+        move ! (12 ∷ 13 ∷ []) $ free1 ! $ move ! (10 ∷ 11 ∷ []) $ free1 ! $ move ! (8 ∷ 9 ∷ []) $ free1 ! $ move ! (6 ∷ 7 ∷ []) $ free1 ! $ move ! (4 ∷ 5 ∷ []) $ free1 ! $ move ! (2 ∷ 3 ∷ []) $ free1 ! $ free1 ! $ free0 ! $ by ! (exits r (is .1) e))))))))))))
 
 module _ {M : Type 1} (𝓤 : URA M) (H : Heap 𝓤) (A : Atoms 𝓤) (W : Given 𝓤 H A) (mem : Memory → SProp 𝓤) (run : Routine → Fun 𝓤) where
   next-walks : (C : Calls 𝓤 H) (Λ : Loops 𝓤 H) → FmC 𝓤 H (W .laws) C → Triple 𝓤 (C #next-place) (After 𝓤 H A mem run)
       → Walks 𝓤 H A next.ended stayed (WpFn 𝓤 H C Λ code.function) (next.clauses 𝓤 H A mem run)
   next-walks C Λ fm known = walked 𝓤 H A next.ended stayed (next.clauses 𝓤 H A mem run) (WpFn 𝓤 H C Λ code.function) (λ κs. (LL.vals (T.the-type (namedLft 1 0 tt κs)) (T′.the-laws (namedLft 1 0 tt κs)), tt)) (λ κs. (LL.tells (T.the-type (namedLft 1 0 tt κs)) (T′.the-laws (namedLft 1 0 tt κs)), tt))
-      (λ κs qs bounds a g are. via 𝓤 _ (fst∗ 𝓤 _ (emp 𝓤)) (walk 𝓤 H A W mem run (κs .0) (qs .0) (a .0) C Λ fm known (LL.lawful (T.the-type (namedLft 1 0 tt κs)) (T′.the-laws (namedLft 1 0 tt κs)) 𝓤 H A W .typed (a .0) _ (are .0) .0)))
+      (λ κs qs bounds a g are. via 𝓤 _ (fst∗ 𝓤 _ (emp 𝓤)) (walk 𝓤 H A W mem run (κs .0) (qs .0) (a .0) C Λ fm known (LL.lawful (T.the-type (namedLft 1 0 tt κs)) (T′.the-laws (namedLft 1 0 tt κs)) 𝓤 H A W .typed (a .0) _ (are .0) .0) (LL.owed (T.the-type (namedLft 1 0 tt κs)) (T′.the-laws (namedLft 1 0 tt κs)) (a .0) _ (are .0) .1 .0)))
 
 next-meets : {M : Type 1} (𝓤 : URA M) (H : Heap 𝓤) (A : Atoms 𝓤) (W : Given 𝓤 H A) (mem : Memory → SProp 𝓤) (run : Routine → Fun 𝓤) (𝓣 : Tables 𝓤 H)
     → Triple 𝓤 (𝓣 .C #next-place) (After 𝓤 H A mem run)
@@ -135,4 +141,4 @@ next-spec 𝓤 H 𝓜 𝓖 𝓡 =
     entered 𝓤 H (tripleOf 𝓤 H (𝓖 .A) next.signature (next.spec 𝓤 H (𝓖 .A) (𝓜 .mem) (𝓡 .run)))
     (tables 𝓤 H 𝓜 𝓡 code.env .C) (tables 𝓤 H 𝓜 𝓡 code.env .Λ) #next code.function (code.unfolded 𝓤 H 𝓜 𝓡)
     (next-meets 𝓤 H (𝓖 .A) (givenOf 𝓤 H 𝓜 𝓖) (𝓜 .mem) (𝓡 .run) (tablesOf 𝓤 H 𝓜 (tables 𝓤 H 𝓜 𝓡 code.env))
-    (cited 𝓤 H (After 𝓤 H (𝓖 .A) (𝓜 .mem) (𝓡 .run)) 𝓜 𝓡 code.env #next-place after-def.routine code.calls-tape·reader·next-place (after-thm.met 𝓤 H 𝓜 𝓖 𝓡)))
+    (cited 𝓤 H (After 𝓤 H (𝓖 .A) (𝓜 .mem) (𝓡 .run)) 𝓜 𝓡 code.env #next-place after-def.routine code.calls-reader·next-place (after-thm.met 𝓤 H 𝓜 𝓖 𝓡)))

@@ -1,8 +1,11 @@
 use borrow.Author.Tests.{lt-ltb, le-ltb}
-use Rattle.tape.specs.Reader.{nextPlace}
+use Rattle.reader.specs.rules.Reader.{nextPlace}
 use borrow.Author.Needs.{needs}
-use Rattle.tape.proofs.reader.next_place.Statement.{statement}
-use Rattle.tape.proofs.reader.next_place.Tie as tie
+use Rattle.reader.proofs.next_place.Statement.{statement}
+use Rattle.reader.proofs.next_place.Tie as tie
+
+cast-if1 : tie.Need-cast-if1
+cast-if1 c = search needs
 
 add-result : tie.Need-add-result
 add-result c = search needs
@@ -16,4 +19,4 @@ unfolding nextPlace
 returns-2 c = simp (le-ltb _ _ (c .if1 .left))
 
 pub next-place-spec : {M : Type 1} → statement M
-next-place-spec = tie.close (tie.spec add-result returns returns-2)
+next-place-spec = tie.close (tie.spec cast-if1 add-result returns returns-2)

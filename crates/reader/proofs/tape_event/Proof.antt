@@ -1,4 +1,4 @@
--- `tape::reader::tape_event` meets its contract: a walk of its MIR, by hand. A `Tape` is made by `hold` in a local and passed on to `current_event`. Assumes nothing.
+-- `reader::tape_event` meets its contract: a walk of its MIR, by hand. A `Tape` is made by `hold` in a local and passed on to `current_event`. Assumes nothing.
 use mathlib.Core.Path.{_≡_, refl, ap, _∙_}
 use Prim.Native.Nat.{ℕ, _<_, _^_}
 use mathlib.Core.List.{List, [], _∷_}
@@ -36,28 +36,28 @@ use denote.Triple.Table.{entered, cited}
 use denote.Triple.Walked.{says, Stays, stay-none, stay-none-slice, walkOf, goes-none, goes-none-slice, Walks, ends-at, walked, walk-meets}
 use denote.Exit.{yes}
 use denote.Triple.Clauses.{ensured, lasts}
-use Rattle.tape.specs.Reader.{held, currentOf}
-use Rattle.tape.specs.declared.reader.Tape.{Tape}
-use Rattle.tape.specs.declared.reader.Current.{Current}
+use Rattle.reader.specs.rules.Reader.{held, currentOf}
+use Rattle.reader.specs.declared.Tape.{Tape}
+use Rattle.reader.specs.declared.Current.{Current}
 use Rattle.tape.specs.declared.trailer.Trailer.{Trailer}
-use Rattle.tape.proofs.reader.Tape as T
-use Rattle.tape.proofs.reader.Tape.Laws as T′
+use Rattle.reader.proofs.Tape as T
+use Rattle.reader.proofs.Tape.Laws as T′
 use Rattle.tape.proofs.trailer.Trailer as R
 use Rattle.tape.proofs.trailer.Trailer.Laws as R′
-use Rattle.tape.proofs.reader.Current as S
-use Rattle.tape.proofs.reader.Current.Laws as S′
-use Rattle.tape.proofs.reader.hold as new
-use Rattle.tape.proofs.reader.hold.Symbol as new-def
-use Rattle.tape.proofs.reader.hold.Symbol.{name as #hold}
-use Rattle.tape.proofs.reader.hold.Met as new-thm
-use Rattle.tape.proofs.reader.current_event as next
-use Rattle.tape.proofs.reader.current_event.Symbol as next-def
-use Rattle.tape.proofs.reader.current_event.Symbol.{name as #current-event}
-use Rattle.tape.proofs.reader.current_event.Met as next-thm
-use Rattle.tape.proofs.reader.tape_event.Key.{name as #tape-event}
-use Rattle.tape.proofs.reader.tape_event as this
-use Rattle.tape.proofs.reader.tape_event.Statement as stated
-use Rattle.tape.proofs.reader.tape_event.Code as code
+use Rattle.reader.proofs.Current as S
+use Rattle.reader.proofs.Current.Laws as S′
+use Rattle.reader.proofs.hold as new
+use Rattle.reader.proofs.hold.Symbol as new-def
+use Rattle.reader.proofs.hold.Symbol.{name as #hold}
+use Rattle.reader.proofs.hold.Met as new-thm
+use Rattle.reader.proofs.current_event as next
+use Rattle.reader.proofs.current_event.Symbol as next-def
+use Rattle.reader.proofs.current_event.Symbol.{name as #current-event}
+use Rattle.reader.proofs.current_event.Met as next-thm
+use Rattle.reader.proofs.tape_event.Key.{name as #tape-event}
+use Rattle.reader.proofs.tape_event as this
+use Rattle.reader.proofs.tape_event.Statement as stated
+use Rattle.reader.proofs.tape_event.Code as code
 
 -- the struct's type, over the signature's lifetimes
 abbrev B : Lfts 1 → RattleType
@@ -72,7 +72,7 @@ trailer = LL.val R.the-type R′.the-laws
 
 -- what a held tape gives
 abbrev read : Tape → Current
-read r = currentOf (now (r .bytes)) (r .order) (r .events) (r .place)
+read r = currentOf (now (r .bytes)) (r .trailer) (r .place)
 
 module _ {M : Type 1} (𝓤 : URA M) (H : Heap 𝓤) (A : Atoms 𝓤) (mem : Memory → SProp 𝓤) (run : Routine → Fun 𝓤) where
   -- the contracts that the proof cites
@@ -91,7 +91,7 @@ module _ {M : Type 1} (𝓤 : URA M) (H : Heap 𝓤) (A : Atoms 𝓤) (W : Given
   at = (v ∷ [], (trailer t ∷ [], (vint w64 n ∷ [], tt)))
 
   abbrev found : Current
-  found = currentOf (now s) (t .order) (t .events) n
+  found = currentOf (now s) t n
 
   -- the struct's type as a local of a body has it
   abbrev αᵉ : NamedLft
@@ -173,5 +173,5 @@ tape-event-spec 𝓤 H 𝓜 𝓖 𝓡 =
     entered 𝓤 H (tripleOf 𝓤 H (𝓖 .A) this.signature (this.spec 𝓤 H (𝓖 .A) (𝓜 .mem) (𝓡 .run)))
     (tables 𝓤 H 𝓜 𝓡 code.env .C) (tables 𝓤 H 𝓜 𝓡 code.env .Λ) #tape-event code.function (code.unfolded 𝓤 H 𝓜 𝓡)
     (event-meets 𝓤 H (𝓖 .A) (givenOf 𝓤 H 𝓜 𝓖) (𝓜 .mem) (𝓡 .run) (tablesOf 𝓤 H 𝓜 (tables 𝓤 H 𝓜 𝓡 code.env))
-    (cited 𝓤 H (New 𝓤 H (𝓖 .A) (𝓜 .mem) (𝓡 .run)) 𝓜 𝓡 code.env #hold new-def.routine code.calls-tape·reader·hold (new-thm.met 𝓤 H 𝓜 𝓖 𝓡))
-    (cited 𝓤 H (Next 𝓤 H (𝓖 .A) (𝓜 .mem) (𝓡 .run)) 𝓜 𝓡 code.env #current-event next-def.routine code.calls-tape·reader·current-event (next-thm.met 𝓤 H 𝓜 𝓖 𝓡)))
+    (cited 𝓤 H (New 𝓤 H (𝓖 .A) (𝓜 .mem) (𝓡 .run)) 𝓜 𝓡 code.env #hold new-def.routine code.calls-reader·hold (new-thm.met 𝓤 H 𝓜 𝓖 𝓡))
+    (cited 𝓤 H (Next 𝓤 H (𝓖 .A) (𝓜 .mem) (𝓡 .run)) 𝓜 𝓡 code.env #current-event next-def.routine code.calls-reader·current-event (next-thm.met 𝓤 H 𝓜 𝓖 𝓡)))
