@@ -7,8 +7,8 @@ use Prim.Native.Nat.{ℕ, _≤_, _<_, min}
 use lib.Dec.{eqb}
 use native.Mathlib.Omega.{arith}
 use borrow.Author.Tests.{eq-eqb, ne-eqb}
-use Rattle.board.specs.Lists.{Every, keep}
-use Rattle.board.specs.Board.{liveOf, findGtx}
+use Rattle.base.specs.Lists.{Every, keep}
+use Rattle.board.specs.rules.Board.{liveOf, findGtx}
 use Rattle.board.specs.declared.Response.{Response}
 use Rattle.board.proofs.BoardLaws.{empty-live}
 use Rattle.tape.specs.declared.order.Order.{Order}

@@ -8,9 +8,9 @@ use native.Mathlib.Nat.{le-refl, le-trans, le-of-lt}
 use native.Mathlib.Omega.{arith}
 use lib.Dec.{leb, ltb, eqb}
 use borrow.Author.Tests.{le-leb, eqb-false}
-use Rattle.words.specs.Bits.{bitAt}
-use Rattle.board.specs.Lists.{Every, keep}
-use Rattle.board.specs.Board.{findGtx}
+use Rattle.words.specs.rules.Bits.{bitAt}
+use Rattle.base.specs.Lists.{Every, keep}
+use Rattle.board.specs.rules.Board.{findGtx}
 use Rattle.tape.specs.declared.event.Event.{Event}
 use Rattle.tape.specs.declared.order.Order.{Order}
 use Rattle.tape.specs.rules.Form.{orderFormed, eventFormed}

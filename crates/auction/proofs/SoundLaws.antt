@@ -8,13 +8,13 @@ use native.Mathlib.Nat.{le-refl, le-of-lt}
 use native.Mathlib.Omega.{arith}
 use lib.Dec.{leb, ltb, eqb}
 use borrow.Author.Tests.{eqb-true}
-use Rattle.board.specs.Lists.{Every}
-use Rattle.board.specs.Board.{emptyBoard, liveOf, placed, cleared, findGtx}
-use Rattle.board.specs.Theorems.{Good}
+use Rattle.base.specs.Lists.{Every}
+use Rattle.board.specs.rules.Board.{emptyBoard, liveOf, placed, cleared, findGtx}
+use Rattle.board.specs.promises.Board.{Good}
 use Rattle.board.specs.declared.Board.{Board}
 use Rattle.board.specs.declared.Response.{Response}
 use Rattle.board.proofs.BoardLaws.{empty-good, empty-live, placed-good, cleared-good}
-use Rattle.share.specs.Fills.{Fill}
+use Rattle.share.specs.rules.Fills.{Fill}
 use Rattle.tape.specs.declared.event.Event.{Event}
 use Rattle.tape.specs.declared.order.Order.{Order}
 use Rattle.tape.specs.rules.Form.{eventFormed, shapeOf, shapeTests, orderFormed}

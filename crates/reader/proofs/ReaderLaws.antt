@@ -7,7 +7,7 @@ use Prim.Native.Nat.{ℕ, zero, suc, _+_, _≤_, _<_, min}
 use native.Mathlib.Omega.{arith}
 use borrow.Author.Tests.{lt-ltb, le-ltb, le-leb, lt-leb}
 use denote.Ref.{RefT, now}
-use Rattle.words.proofs.BitLaws.{le-or-lt}
+use Rattle.base.proofs.Numbers.{le-or-lt}
 use Rattle.tape.specs.rules.Tape.{recordIn, recordsFrom, recordsOf}
 use Rattle.tape.specs.declared.trailer.Trailer.{Trailer}
 use Rattle.tape.specs.declared.records.Record.{Record}

@@ -8,7 +8,7 @@ use lib.ListN.{length, getD, take, drop, length-append}
 use lib.Seq.{take-at, getD-drop}
 use lib.Dec.{ltb, eqb}
 use borrow.Author.Tests.{le-ltb, ltb-false, leb-true, eqb-true}
-use Rattle.words.specs.Bytes.{AllBytes, joined, wordBytes, wordAt, wordsFrom}
+use Rattle.words.specs.rules.Bytes.{AllBytes, joined, wordBytes, wordAt, wordsFrom}
 use Rattle.words.proofs.ByteLaws.{Fit, bytes-joined, length-wordBytes, row-read, row-back, word-in}
 use Rattle.tape.specs.declared.order.Order.{Order}
 use Rattle.tape.specs.declared.event.Event.{Event}
@@ -20,7 +20,7 @@ use Rattle.tape.specs.declared.Written.the-variants.{Done, Refused}
 use Rattle.tape.specs.rules.Form.{orderFormed, shapeOf, shapeTests, eventFormed}
 use Rattle.tape.specs.rules.Records.{withRecord, wroteBytes, orderWords, orderOf, orderSpare, readOrder, orderAnswer, orderWrote, eventWords, eventOf, eventSpare, readEvent, eventAnswer, eventWrote, cubt, trailerWords, trailerOf, readTrailer, trailerAnswer, trailerWrote}
 use Rattle.roundtrip.specs.promises.Demands.{Word, ValuesBack, BytesBack, RefusalsKeep}
-use Rattle.tape.proofs.RecordLaws.{and-left, and-right}
+use Rattle.base.proofs.Bools.{and-left, and-right}
 use Rattle.tape.proofs.FormLaws.{each, within-le, OrderBounds, order-bounds, RowBounds, row-bounds}
 use Rattle.tape.proofs.HoldsLaws.{event-took, event-formed}
 

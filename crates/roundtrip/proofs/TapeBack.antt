@@ -7,7 +7,7 @@ use native.Mathlib.Omega.{arith}
 use lib.ListN.{length, take, drop, length-append, length-drop, drop-of-length-le}
 use lib.Seq.{take-at, drop-at}
 use borrow.Author.Tests.{le-ltb, eq-eqb}
-use Rattle.words.specs.Bytes.{wordBytes}
+use Rattle.words.specs.rules.Bytes.{wordBytes}
 use Rattle.words.proofs.ByteLaws.{length-wordBytes}
 use Rattle.tape.specs.declared.order.Order.{Order}
 use Rattle.tape.specs.declared.event.Event.{Event}

@@ -11,7 +11,7 @@ use Rattle.tape.specs.declared.order.Order.{Order}
 use Rattle.tape.specs.declared.form.Shape.{Shape}
 use Rattle.tape.specs.declared.form.Range.{Range}
 use Rattle.tape.specs.rules.Form.{allFrom, within, orderTests, orderFormed, range, inside, unused, sides, sizes, prices, anyNumber, bids, offers, row, shapeOf}
-use Rattle.tape.proofs.RecordLaws.{and-left, and-right}
+use Rattle.base.proofs.Bools.{and-left, and-right}
 
 all-start : (ts : List Bool) (b : Bool) → allFrom b ts ≡ true → b ≡ true
 all-start [] b h = h

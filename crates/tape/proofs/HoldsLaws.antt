@@ -7,7 +7,7 @@ use native.Mathlib.Omega.{arith}
 use lib.Dec.{ltb, eqb}
 use lib.ListN.{length, drop}
 use borrow.Author.Tests.{ltb-false, eqb-true}
-use Rattle.words.specs.Bytes.{wordAt}
+use Rattle.words.specs.rules.Bytes.{wordAt}
 use Rattle.tape.specs.declared.event.Event.{Event}
 use Rattle.tape.specs.declared.event.ReadEvent.the-variants.{Event as GotEvent, Refused as NoEvent}
 use Rattle.tape.specs.declared.trailer.Trailer.{Trailer}
@@ -18,7 +18,7 @@ use Rattle.tape.specs.rules.Form.{eventFormed}
 use Rattle.tape.specs.rules.Records.{eventOf, eventSpare, readEvent, readTrailer}
 use Rattle.tape.specs.rules.Tape.{lengthOf, openedBy, openTape, eventPlace, recordIn, recordsFrom, recordsOf}
 use Rattle.tape.specs.promises.Holds.{Holds, Recorded}
-use Rattle.tape.proofs.RecordLaws.{and-right, or-right}
+use Rattle.base.proofs.Bools.{and-right, or-right}
 
 -- ---- an event that is read
 

@@ -1,5 +1,4 @@
 -- Laws of `tape`.
-pub mod Parts
 pub mod RecordLaws
 pub mod FormLaws
 pub mod HoldsLaws

@@ -4,9 +4,9 @@ use mathlib.Core.Bool.{Bool, true, false, _&&_, _||_}
 use mathlib.Core.List.{List}
 use Prim.Native.Nat.{ℕ, _+_, _*_, _-_, _≤_, _<_}
 use native.Mathlib.Omega.{arith}
-use lib.ListN.{length, take, drop, length-drop}
+use lib.ListN.{length, take, drop, length-drop, drop-of-length-le}
 use borrow.Author.Tests.{le-ltb, lt-ltb}
-use Rattle.words.specs.Bytes.{wordAt, withWords}
+use Rattle.words.specs.rules.Bytes.{wordAt, withWords}
 use Rattle.words.proofs.ByteLaws.{row-front}
 use Rattle.tape.specs.rules.Tape.{eventPlace, orderIn, recordAt, recordIn}
 use Rattle.tape.specs.rules.Records.{wroteAnswer, wroteBytes, readOrder, readEvent}
@@ -16,23 +16,7 @@ use Rattle.tape.specs.declared.event.ReadEvent.the-variants.{Refused as 
 use Rattle.tape.specs.declared.records.Record.{Record}
 use Rattle.tape.specs.declared.trailer.Trailer.{Trailer}
 use Rattle.tape.specs.declared.Written.the-variants.{Done, Refused}
-use Rattle.tape.proofs.Parts.{rest-is, past}
-
-pub and-left : (a b : Bool) → (a && b) ≡ true → a ≡ true
-and-left true b h = refl
-and-left false b h = h
-
-pub and-right : (a b : Bool) → (a && b) ≡ true → b ≡ true
-and-right true b h = h
-and-right false b h = cc
-
-pub or-left : (a b : Bool) → (a || b) ≡ false → a ≡ false
-or-left true b h = h
-or-left false b h = refl
-
-pub or-right : (a b : Bool) → (a || b) ≡ false → b ≡ false
-or-right true b h = cc
-or-right false b h = h
+use Rattle.base.proofs.SetsLaws.{rest-is}
 
 -- ---- writers: the answer, and the bytes
 
@@ -76,7 +60,7 @@ module _ (s : List ℕ) (t : Trailer) where
   -- nothing is left to read
   pub record-past : (k : ℕ) → length s < eventPlace (t .order) k → record { sequence = 0; event = NoEvent 24 } ≡ recordIn s t k
   unfolding recordIn readEvent wordAt
-  record-past k h = ap recordAt (sym (past s (eventPlace (t .order) k) (omega arith)))
+  record-past k h = let past : length s ≤ eventPlace (t .order) k = omega arith in ap recordAt (sym (drop-of-length-le s past))
 
   pub record-there : (k : ℕ) {r : Record} → r ≡ recordAt (take (length s - eventPlace (t .order) k) (drop (eventPlace (t .order) k) s)) → r ≡ recordIn s t k
   unfolding recordIn

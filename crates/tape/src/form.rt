@@ -2,7 +2,7 @@
 ghost use mathlib.Core.Path.{_≡_};
 ghost use mathlib.Core.Bool.{true};
 ghost use Rattle.tape.specs.rules.Form.{allFrom, orderFormed, inside, shapeOf, shapeTests, eventFormed};
-ghost use Rattle.words.specs.Bits.{bitAt};
+ghost use Rattle.words.specs.rules.Bits.{bitAt};
 use crate::event::Event;
 use crate::order::Order;
 

@@ -9,9 +9,9 @@ use borrow.Author.Tests.{leb-true, leb-false, eqb-true, eqb-false, ne-eqb}
 use lib.Dec.{leb, ltb, eqb}
 use lib.ListN.{length, length-append}
 use Rattle.board.specs.declared.Response.{Response}
-use Rattle.board.specs.Lists.{Every, keep, filter}
-use Rattle.share.specs.Share.{inTurn}
-use Rattle.share.specs.Fills.{Fill, fillOf, fillsBy, sizes}
+use Rattle.base.specs.Lists.{Every, keep, filter}
+use Rattle.share.specs.rules.Share.{inTurn}
+use Rattle.share.specs.rules.Fills.{Fill, fillOf, fillsBy, sizes}
 use Rattle.trade.specs.declared.Deal.{Deal}
 use Rattle.trade.specs.Trade.{isCustomer, isOther, Level, customers, others, given, contra, levelFills, total, flat, working, top, next, offersAt, levelAt, walk, marketPrice, marketTakes, marketFill, levels, fills}
 use Rattle.trade.specs.Demands.{Absent, Distinct, times}

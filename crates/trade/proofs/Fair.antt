@@ -9,9 +9,10 @@ use native.Mathlib.Omega.{arith}
 use borrow.Author.Tests.{leb-true, leb-false, eqb-true, eqb-false, lt-ltb}
 use lib.Dec.{leb, ltb, eqb}
 use Rattle.board.specs.declared.Response.{Response}
-use Rattle.board.specs.Lists.{filter, sum}
-use Rattle.share.specs.Share.{shares, Near}
-use Rattle.share.specs.Fills.{Fill, sizes}
+use Rattle.base.specs.Lists.{filter, sum}
+use Rattle.share.specs.rules.Share.{shares}
+use Rattle.share.specs.promises.Share.{Near}
+use Rattle.share.specs.rules.Fills.{Fill, sizes}
 use Rattle.trade.specs.declared.Deal.{Deal}
 use Rattle.trade.specs.Trade.{isOther, Level, others, first, shared, given, rest, contra, levelFills, total, flat, working, entry, guarantee, offersAt, wants, walk, fills}
 use Rattle.trade.specs.Demands.{In, Distinct, got, gotBelow, gots, soldAbove, othersAt, sizeHere}

@@ -9,12 +9,12 @@ use borrow.Author.Tests.{le-leb}
 use lib.Dec.{leb, ltb}
 use lib.ListN.{length, length-append}
 use Rattle.board.specs.declared.Response.{Response}
-use Rattle.board.specs.Lists.{keep, filter, sum}
-use Rattle.board.specs.Board.{liveIn, wordOf, inSequence}
+use Rattle.base.specs.Lists.{keep, filter, sum}
+use Rattle.board.specs.rules.Board.{liveIn, wordOf, inSequence}
 use Rattle.board.proofs.LiveLaws.{word-filters}
 use Rattle.board.proofs.SequenceLaws.{sequence-filter}
-use Rattle.share.specs.Share.{inTurn}
-use Rattle.share.specs.Fills.{Fill, fillOf, fillsBy, sizes}
+use Rattle.share.specs.rules.Share.{inTurn}
+use Rattle.share.specs.rules.Fills.{Fill, fillOf, fillsBy, sizes}
 use Rattle.trade.specs.declared.Deal.{Deal}
 use Rattle.trade.specs.declared.Found.{Found}
 use Rattle.trade.specs.declared.Price.{Price}

@@ -9,10 +9,11 @@ use borrow.Author.Tests.{not-true}
 use lib.Dec.{eqb}
 use lib.ListN.{length}
 use Rattle.board.specs.declared.Response.{Response}
-use Rattle.board.specs.Lists.{Every, sum}
-use Rattle.share.specs.Share.{inTurn, Each, Near}
+use Rattle.base.specs.Lists.{Every, sum}
+use Rattle.share.specs.rules.Share.{inTurn}
+use Rattle.share.specs.promises.Share.{Each, Near}
 use Rattle.share.proofs.ShareLaws.{shares-sum, shares-fit, shares-near, each-flip, turn-sum, turn-fit, turn-full, turn-length, shares-full, shares-length}
-use Rattle.share.specs.Fills.{Fill, fillOf, fillsBy, sizes}
+use Rattle.share.specs.rules.Fills.{Fill, fillOf, fillsBy, sizes}
 use Rattle.trade.specs.Trade.{isCustomer, isOther, Level, customers, others, first, shared, given, rest, contra, levelFills, total, wants}
 use Rattle.trade.specs.Demands.{In, Absent, Distinct, got, gots, sizeHere}
 use Rattle.trade.proofs.Lists.{all-append, all-any, all-in, all-keep, in-keep, keep-in, keep-test, distinct-keep, absent-keep, sizes-split, total-append, tally-append, got-none, total-fill, got-fill, all-fill, all-by, absent-by, total-by, got-by, gots-same, gots-by, pairs-of}

@@ -9,7 +9,7 @@ use borrow.Author.Tests.{leb-true, leb-false, ltb-true, ltb-false, eq-eqb}
 use lib.Dec.{leb, ltb, eqb}
 use lib.ListN.{length}
 use Rattle.board.specs.declared.Response.{Response}
-use Rattle.board.specs.Lists.{Every, sum}
+use Rattle.base.specs.Lists.{Every, sum}
 use Rattle.trade.specs.declared.Deal.{Deal}
 use Rattle.trade.specs.Trade.{Level, shared, given, rest, contra, levelFills, total, flat, top, entry, offersAt}
 use Rattle.trade.specs.Demands.{In, soldAt}

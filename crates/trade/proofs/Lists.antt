@@ -9,9 +9,9 @@ use borrow.Author.Tests.{ltb-true, ltb-false, eqb-false, eq-eqb, ne-eqb}
 use lib.Dec.{ltb, eqb}
 use lib.ListN.{length}
 use Rattle.board.specs.declared.Response.{Response}
-use Rattle.board.specs.Lists.{Every, keep, filter, sum}
-use Rattle.share.specs.Share.{Each}
-use Rattle.share.specs.Fills.{Fill, fillOf, fillsBy, sizes}
+use Rattle.base.specs.Lists.{Every, keep, filter, sum}
+use Rattle.share.specs.promises.Share.{Each}
+use Rattle.share.specs.rules.Fills.{Fill, fillOf, fillsBy, sizes}
 use Rattle.trade.specs.Trade.{isCustomer, isOther, others, total, fills}
 use Rattle.trade.specs.Demands.{In, Absent, Distinct, tally, got, gots, soldAt}
 

@@ -9,7 +9,7 @@ use borrow.Author.Tests.{eqb-true, eqb-false}
 use lib.Dec.{eqb}
 use lib.ListN.{length}
 use Rattle.board.specs.declared.Response.{Response}
-use Rattle.board.specs.Lists.{Every}
+use Rattle.base.specs.Lists.{Every}
 use Rattle.trade.specs.declared.Deal.{Deal}
 use Rattle.trade.specs.Trade.{working, workingStop, top, next, marketPrice}
 use Rattle.trade.specs.Demands.{In}

@@ -3,11 +3,11 @@ use mathlib.Core.Path.{_≡_, sym}
 use mathlib.Core.List.{List, _∷_}
 use mathlib.Core.Logic.{inl, inr}
 use Rattle.board.specs.declared.Response.{Response}
-use Rattle.board.specs.Lists.{Every, Inserts, Shuffles}
-use Rattle.board.specs.Lists.Inserts.{here, there}
-use Rattle.board.specs.Lists.Shuffles.{none, more}
-use Rattle.board.specs.Board.{inSequence}
-use Rattle.board.proofs.ListLaws.{inserts-every, shuffles-every}
+use Rattle.base.specs.Lists.{Every, Inserts, Shuffles}
+use Rattle.base.specs.Lists.Inserts.{here, there}
+use Rattle.base.specs.Lists.Shuffles.{none, more}
+use Rattle.board.specs.rules.Board.{inSequence}
+use Rattle.base.proofs.ListLaws.{inserts-every, shuffles-every}
 use Rattle.board.proofs.SequenceLaws.{sequence-shuffles}
 use Rattle.trade.specs.Demands.{In, Distinct}
 

@@ -4,10 +4,10 @@ use mathlib.Core.Bool.{Bool, true, false}
 use mathlib.Core.List.{List, [], _∷_, map}
 use Prim.Native.Nat.{ℕ}
 use Rattle.board.specs.declared.Response.{Response}
-use Rattle.board.specs.Lists.{sum, filter}
-use Rattle.board.specs.Board.{liveIn, inserted, inSequence}
-use Rattle.share.specs.Share.{shares}
-use Rattle.share.specs.Fills.{words}
+use Rattle.base.specs.Lists.{sum, filter}
+use Rattle.board.specs.rules.Board.{liveIn, inserted, inSequence}
+use Rattle.share.specs.rules.Share.{shares}
+use Rattle.share.specs.rules.Fills.{words}
 use Rattle.trade.specs.Trade.{levelFills, guaranteeOf, top, entry, next, offersAt, matches, isFinal, wants, levelAt, walk, marketPrice, levels, fills}
 use Rattle.trade.specs.Write.{fillsOf}
 use Rattle.trade.proofs.Examples.{Case, board, deal, ended}

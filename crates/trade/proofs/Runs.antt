@@ -8,8 +8,8 @@ use native.Mathlib.Omega.{arith}
 use borrow.Author.Tests.{eqb-true, eqb-false, eq-eqb, ne-eqb, lt-ltb, le-ltb}
 use lib.Dec.{ltb, eqb}
 use Rattle.board.specs.declared.Response.{Response}
-use Rattle.board.specs.Lists.{Every}
-use Rattle.share.specs.Fills.{Fill}
+use Rattle.base.specs.Lists.{Every}
+use Rattle.share.specs.rules.Fills.{Fill}
 use Rattle.trade.specs.declared.Deal.{Deal}
 use Rattle.trade.specs.Trade.{Level, first, levelFills, total, flat, working, guarantee, offersAt, walk, levels, fills}
 use Rattle.trade.specs.Demands.{In, Absent, Distinct, got, gotBelow, soldAt, soldBelow, sizeHere, InRange}

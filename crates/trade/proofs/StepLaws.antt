@@ -10,8 +10,8 @@ use borrow.Author.Tests.{leb-true, leb-false, ltb-true, ltb-false, eqb-true, eqb
 use lib.Dec.{leb, ltb, eqb}
 use lib.ListN.{length}
 use Rattle.board.specs.declared.Response.{Response}
-use Rattle.board.specs.Lists.{keep, filter}
-use Rattle.board.specs.Board.{liveIn, wordOf, inSequence}
+use Rattle.base.specs.Lists.{keep, filter}
+use Rattle.board.specs.rules.Board.{liveIn, wordOf, inSequence}
 use Rattle.board.proofs.LiveLaws.{word-filters}
 use Rattle.board.proofs.SequenceLaws.{sequence-filter}
 use Rattle.trade.specs.declared.Deal.{Deal}

@@ -10,14 +10,14 @@ use lib.Dec.{ltb, eqb}
 use lib.ListN.{length}
 use Rattle.board.specs.declared.Response.{Response}
 use Rattle.board.specs.declared.Board.{Board}
-use Rattle.board.specs.Lists.{Every, keep, sum}
-use Rattle.board.specs.Board.{liveOf, inSequence}
-use Rattle.share.specs.Share.{Near}
-use Rattle.share.specs.Fills.{Fill, sizes}
+use Rattle.base.specs.Lists.{Every, keep, sum}
+use Rattle.board.specs.rules.Board.{liveOf, inSequence}
+use Rattle.share.specs.promises.Share.{Near}
+use Rattle.share.specs.rules.Fills.{Fill, sizes}
 use Rattle.trade.specs.declared.Deal.{Deal}
 use Rattle.trade.specs.Trade.{offers, Level, others, shared, levelFills, total, flat, working, workingStop, top, entry, guarantee, marketPrice, marketTakes, marketFill, levels, fills}
 use Rattle.trade.specs.Demands.{In, Absent, Distinct, tally, got, gotAt, gotBelow, gots, soldAt, soldAbove, times, isMarket, walked, othersAt, InRange, Sound, Known, theContra, theMarket, aResponse, Lowest, MarketAt, ByLevel, Demand3, Demands, Few}
-use Rattle.board.proofs.ListLaws.{filter-fail, shuffles-length}
+use Rattle.base.proofs.ListLaws.{filter-fail, shuffles-length}
 use Rattle.board.proofs.SequenceLaws.{sequence-shuffles, sequence-rises}
 use Rattle.trade.proofs.CodeLaws.{live-short}
 use Rattle.trade.proofs.Lists.{gots-same, tally-append, tally-and, keep-all, all-any, all-append, all-map, all-in, got-none, soldAt-none, total-append, total-fill, got-fill, all-fill}

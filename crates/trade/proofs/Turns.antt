@@ -8,15 +8,15 @@ use native.Mathlib.Omega.{arith}
 use borrow.Author.Tests.{eqb-true, eqb-false, ne-eqb}
 use lib.Dec.{eqb}
 use Rattle.board.specs.declared.Response.{Response}
-use Rattle.board.specs.Lists.{Every, sum}
-use Rattle.share.specs.Share.{inTurn}
-use Rattle.share.specs.Fills.{Fill, fillOf, fillsBy, sizes}
+use Rattle.base.specs.Lists.{Every, sum}
+use Rattle.share.specs.rules.Share.{inTurn}
+use Rattle.share.specs.rules.Fills.{Fill, fillOf, fillsBy, sizes}
 use Rattle.share.proofs.ShareLaws.{turn-sum, turn-length}
 use Rattle.trade.specs.declared.Deal.{Deal}
 use Rattle.trade.specs.Trade.{isCustomer, Level, customers, shared, given, first, contra, levelFills, flat, working, offersAt}
 use Rattle.trade.specs.Demands.{In, Distinct, got, gotAt}
 use Rattle.trade.proofs.Lists.{all-map, all-in, all-fill, in-keep, distinct-keep, got-none, got-fill, tally-append, tally-none, tally-le, tally-and, absent-by, total-by}
-use Rattle.board.specs.Theorems.{RisingFrom}
+use Rattle.board.specs.promises.Board.{RisingFrom}
 use Rattle.board.proofs.SequenceLaws.{rising-from, rising-filter}
 use Rattle.trade.proofs.Levels.{byCustomers, customer-is, all-level, got-contra, level-served}
 use Rattle.trade.proofs.Walk.{Fit, Good, Run}

@@ -9,7 +9,7 @@ use borrow.Author.Tests.{leb-true, leb-false, eqb-true, eqb-false, eq-eqb, ne-eq
 use lib.Dec.{leb, eqb}
 use lib.ListN.{length}
 use Rattle.board.specs.declared.Response.{Response}
-use Rattle.board.specs.Lists.{Every, keep, filter}
+use Rattle.base.specs.Lists.{Every, keep, filter}
 use Rattle.trade.specs.declared.Deal.{Deal}
 use Rattle.trade.specs.Trade.{Level, contra, levelFills, total, working, workingStop, top, entry, next, guarantee, offersAt, matches, isFinal, wants, levelAt, walk, levels}
 use Rattle.trade.specs.Demands.{In, Absent, Distinct, sizeHere}

@@ -10,14 +10,15 @@ use borrow.Author.Tests.{eq-eqb, ne-eqb, le-leb, lt-leb}
 use borrow.Rule.Slice.PartMut.{putMid}
 use lib.ListN.{length, take, drop, length-drop, drop-of-length-le}
 use lib.Seq.{take-all, drop-drop}
-use Rattle.words.specs.Bits.{setIn, onesIn}
+use Rattle.words.specs.rules.Bits.{trailingZeros, onesIn}
 use Rattle.board.specs.declared.Response.{Response}
 use Rattle.board.specs.declared.Board.{Board}
-use Rattle.board.specs.Board.{liveIn, liveOf, inSequence}
-use Rattle.board.proofs.ListLaws.{shuffles-length}
+use Rattle.board.specs.rules.Board.{liveIn, liveOf, inSequence}
+use Rattle.base.proofs.ListLaws.{shuffles-length}
 use Rattle.board.proofs.LiveLaws.{none-live, count-live}
 use Rattle.board.proofs.SequenceLaws.{sequence-shuffles}
-use Rattle.share.specs.Fills.{Fill, fillOf, words, written}
+use Rattle.share.specs.rules.Fills.{Fill, fillOf, words}
+use Rattle.share.specs.inside.Fills.{written}
 use Rattle.share.proofs.FillsLaws.{written-words}
 use Rattle.trade.specs.declared.Deal.{Deal}
 use Rattle.trade.specs.declared.Filled.the-variants.{Count, Refused}
@@ -47,7 +48,7 @@ module _ (d : Deal) (ps : List Response) (live low : ℕ) (e : low ≡ leastOf (
   pub market-low : d .mode ≡ 2 → length ps ≡ 64 → 0 < live → live < 2 ^ 64 → low ≡ marketPrice d (inSequence (liveIn live ps))
   unfolding marketPrice
   market-low m l z f =
-      let c = count-turn ps live (setIn 64 live) (turn-of ps live (setIn 64 live) l z f refl) in
+      let c = count-turn ps live (trailingZeros 64 live) (turn-of ps live (trailingZeros 64 live) l z f refl) in
       let n : length (inSequence (liveIn live ps)) ≢ 0 = λ q. omega (arith, length-sequence (liveIn live ps)) in
       rw (eq-eqb (d .mode) 2 m, ne-eqb (length (inSequence (liveIn live ps))) 0 n) lowest
 

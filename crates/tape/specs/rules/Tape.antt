@@ -4,7 +4,7 @@ use mathlib.Core.List.{List, [], _∷_, _++_}
 use Prim.Native.Nat.{ℕ, zero, suc, _+_, _*_, _-_}
 use lib.Dec.{ltb, eqb}
 use lib.ListN.{length, take, drop}
-use Rattle.words.specs.Bytes.{wordBytes, wordAt}
+use Rattle.words.specs.rules.Bytes.{wordBytes, wordAt}
 use Rattle.tape.specs.rules.Records.{orderWords, eventWords, trailerWords, orderWrote, eventWrote, trailerWrote, readOrder, readEvent, readTrailer}
 use Rattle.tape.specs.declared.order.Order.{Order}
 use Rattle.tape.specs.declared.event.Event.{Event}

@@ -4,7 +4,7 @@ use denote.Ref.{now}
 use lib.ListN.{drop}
 use Rattle.tape.specs.rules.Records.{readEvent}
 use Rattle.tape.specs.rules.Tape.{eventPlace}
-use Rattle.tape.proofs.Parts.{rest-is}
+use Rattle.base.proofs.SetsLaws.{rest-is}
 use Rattle.tape.proofs.RecordLaws.{event-short, few}
 use borrow.Author.Needs.{needs}
 use Rattle.tape.proofs.records.event_at.Statement.{statement}

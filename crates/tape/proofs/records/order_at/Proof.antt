@@ -3,7 +3,7 @@ use native.Mathlib.Omega.{arith}
 use denote.Ref.{now}
 use lib.ListN.{drop}
 use Rattle.tape.specs.rules.Records.{readOrder}
-use Rattle.tape.proofs.Parts.{rest-is}
+use Rattle.base.proofs.SetsLaws.{rest-is}
 use Rattle.tape.proofs.RecordLaws.{order-short, few}
 use borrow.Author.Needs.{needs}
 use Rattle.tape.proofs.records.order_at.Statement.{statement}

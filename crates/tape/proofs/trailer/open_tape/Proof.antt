@@ -5,8 +5,8 @@ use borrow.Author.Tests.{ltb-false, eq-eqb, ne-eqb}
 use denote.Ref.{now}
 use Rattle.tape.specs.rules.Records.{readTrailer}
 use Rattle.tape.specs.rules.Tape.{openTape}
-use Rattle.tape.proofs.Parts.{rest-is}
-use Rattle.tape.proofs.RecordLaws.{or-left}
+use Rattle.base.proofs.SetsLaws.{rest-is}
+use Rattle.base.proofs.Bools.{or-left}
 use Rattle.tape.specs.declared.trailer.ReadTrailer.the-variants.{Trailer as GotTrailer, Refused as NoTrailer}
 use borrow.Author.Needs.{needs}
 use Rattle.tape.proofs.trailer.open_tape.Statement.{statement}
