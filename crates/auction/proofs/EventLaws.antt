@@ -5,7 +5,7 @@ use Prim.Native.Nat.{ℕ}
 use native.Mathlib.Omega.{arith}
 use lib.Dec.{eqb}
 use borrow.Author.Tests.{eq-eqb, ne-eqb, eqb-true}
-use Rattle.tape.specs.declared.Event.{Event}
+use Rattle.tape.specs.declared.event.Event.{Event}
 use Rattle.auction.specs.Mirror.{mirroredPriced, mirroredMarket, mirroredQuotes, mirroredEvent, buyEvent}
 use Rattle.base.proofs.Bools.{by}
 

@@ -9,9 +9,9 @@ use lib.Dec.{leb, ltb, eqb}
 use lib.ListN.{getD}
 use borrow.Author.Tests.{le-leb, lt-leb, lt-ltb, eq-eqb, ne-eqb, eqb-true, eqb-false, leb-true}
 use Rattle.words.specs.rules.Bits.{bitAt}
-use Rattle.tape.specs.declared.Order.{Order}
-use Rattle.tape.specs.declared.Event.{Event}
-use Rattle.tape.specs.Form.{allFrom, within, inside, sides, prices, orderTests, orderFormed, shapeOf, shapeTests, eventFormed}
+use Rattle.tape.specs.declared.order.Order.{Order}
+use Rattle.tape.specs.declared.event.Event.{Event}
+use Rattle.tape.specs.rules.Form.{allFrom, within, inside, sides, prices, orderTests, orderFormed, shapeOf, shapeTests, eventFormed}
 use Rattle.tape.proofs.FormLaws.{each, within-ge, within-le, OrderBounds, order-bounds, RowBounds, row-bounds}
 use Rattle.auction.specs.Mirror.{mirrored, mirroredMarks, mirroredSide, mirroredOrder, mirroredPriced, mirroredMarket, mirroredQuotes, mirroredEvent, buyOrder, buyEvent}
 use Rattle.base.proofs.Bools.{by, no}

@@ -4,9 +4,9 @@ use mathlib.Core.List.{List, []}
 use Prim.Native.Nat.{ℕ}
 use Rattle.words.specs.rules.Bits.{withBit, withoutBit, onesIn, clearIn, trailingZeros}
 use Rattle.words.specs.rules.Bytes.{wordAt}
-use Rattle.tape.specs.Form.{orderTests, orderFormed, shapeOf, shapeTests, eventFormed}
-use Rattle.tape.specs.Records.{orderWords, orderOf, orderSpare, readOrder, eventWords, eventOf, eventSpare, readEvent, trailerWords, trailerOf, readTrailer}
-use Rattle.tape.specs.Tape.{openTape, tapeOf}
+use Rattle.tape.specs.rules.Form.{orderTests, orderFormed, shapeOf, shapeTests, eventFormed}
+use Rattle.tape.specs.rules.Records.{orderWords, orderOf, orderSpare, readOrder, eventWords, eventOf, eventSpare, readEvent, trailerWords, trailerOf, readTrailer}
+use Rattle.tape.specs.rules.Tape.{openTape, tapeOf}
 use Rattle.base.specs.Lists.{filter, sum}
 use Rattle.board.specs.rules.Board.{emptyBoard, liveIn, placed, findIn, inserted, inSequence}
 use Rattle.share.specs.rules.Share.{shares}

@@ -11,16 +11,16 @@ use Rattle.words.specs.rules.Bits.{withBit}
 use Rattle.board.specs.declared.Board.{Board}
 use Rattle.board.specs.rules.Board.{emptyBoard, firstFree, placed, findGtx}
 use Rattle.share.specs.rules.Fills.{Fill}
-use Rattle.tape.specs.declared.Event.{Event}
-use Rattle.tape.specs.declared.Order.{Order}
-use Rattle.tape.specs.declared.Opened.{Opened}
-use Rattle.tape.specs.declared.Opened.the-variants.{Tape, Refused as NoTape}
-use Rattle.tape.specs.declared.ReadOrder.{ReadOrder}
-use Rattle.tape.specs.declared.ReadOrder.the-variants.{Order as GotOrder, Refused as NoOrder}
-use Rattle.tape.specs.declared.ReadEvent.{ReadEvent}
-use Rattle.tape.specs.declared.ReadEvent.the-variants.{Event as GotEvent, Refused as NoEvent}
-use Rattle.tape.specs.Records.{readEvent, readOrder}
-use Rattle.tape.specs.Tape.{openTape, eventPlace}
+use Rattle.tape.specs.declared.event.Event.{Event}
+use Rattle.tape.specs.declared.order.Order.{Order}
+use Rattle.tape.specs.declared.trailer.Opened.{Opened}
+use Rattle.tape.specs.declared.trailer.Opened.the-variants.{Tape, Refused as NoTape}
+use Rattle.tape.specs.declared.order.ReadOrder.{ReadOrder}
+use Rattle.tape.specs.declared.order.ReadOrder.the-variants.{Order as GotOrder, Refused as NoOrder}
+use Rattle.tape.specs.declared.event.ReadEvent.{ReadEvent}
+use Rattle.tape.specs.declared.event.ReadEvent.the-variants.{Event as GotEvent, Refused as NoEvent}
+use Rattle.tape.specs.rules.Records.{readEvent, readOrder}
+use Rattle.tape.specs.rules.Tape.{openTape, eventPlace}
 use Rattle.trade.specs.Trade.{total}
 use Rattle.trade.proofs.WholeLaws.{fills-few}
 use Rattle.auction.specs.declared.Auction.{Auction}

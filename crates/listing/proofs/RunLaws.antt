@@ -10,16 +10,16 @@ use lib.ListN.{length, set, take, drop, take-append-drop}
 use lib.Seq.{drop-drop, length-take-le}
 use Rattle.words.specs.rules.Bytes.{wordAt}
 use Rattle.words.proofs.ByteLaws.{word-past}
-use Rattle.tape.specs.declared.Trailer.{Trailer}
-use Rattle.tape.specs.declared.Opened.the-variants.{Tape}
+use Rattle.tape.specs.declared.trailer.Trailer.{Trailer}
+use Rattle.tape.specs.declared.trailer.Opened.the-variants.{Tape}
 use Rattle.board.specs.declared.Response.{Response}
-use Rattle.tape.specs.declared.ReadEvent.{ReadEvent}
-use Rattle.tape.specs.declared.ReadEvent.the-variants.{Event as GotEvent, Refused as NoEvent}
-use Rattle.tape.specs.Records.{readEvent}
-use Rattle.tape.specs.Tape.{openTape, eventPlace}
-use Rattle.tape.specs.Demands.{Holds}
-use Rattle.tape.proofs.TapeBack.{holds}
-use Rattle.tape.proofs.RoundTrip.{event-formed}
+use Rattle.tape.specs.declared.event.ReadEvent.{ReadEvent}
+use Rattle.tape.specs.declared.event.ReadEvent.the-variants.{Event as GotEvent, Refused as NoEvent}
+use Rattle.tape.specs.rules.Records.{readEvent}
+use Rattle.tape.specs.rules.Tape.{openTape, eventPlace}
+use Rattle.tape.specs.promises.Holds.{Holds}
+use Rattle.tape.proofs.HoldsLaws.{holds}
+use Rattle.tape.proofs.HoldsLaws.{event-formed}
 use Rattle.auction.specs.declared.Auction.{Auction}
 use Rattle.events.specs.declared.Stepped.{Stepped}
 use Rattle.auction.specs.rules.Range.{isOpen}

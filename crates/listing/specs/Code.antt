@@ -4,8 +4,8 @@ use mathlib.Core.List.{List, [], _∷_}
 use Prim.Native.Nat.{ℕ, zero, suc, _+_}
 use lib.ListN.{length, getD, drop}
 use lib.Seq.{sets}
-use Rattle.tape.specs.declared.ReadEvent.{ReadEvent}
-use Rattle.tape.specs.declared.ReadEvent.the-variants.{Event as GotEvent, Refused as NoEvent}
+use Rattle.tape.specs.declared.event.ReadEvent.{ReadEvent}
+use Rattle.tape.specs.declared.event.ReadEvent.the-variants.{Event as GotEvent, Refused as NoEvent}
 use Rattle.board.specs.declared.Response.{Response}
 use Rattle.share.specs.rules.Fills.{Fill}
 use Rattle.trade.specs.declared.Filled.{Filled}

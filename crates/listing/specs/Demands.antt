@@ -3,9 +3,9 @@ use mathlib.Core.Path.{_≡_}
 use mathlib.Core.List.{List, [], _∷_, _++_}
 use Prim.Native.Nat.{ℕ, _+_, _-_, _*_, _^_, _≤_, _<_}
 use lib.ListN.{length, drop}
-use Rattle.tape.specs.declared.Order.{Order}
-use Rattle.tape.specs.declared.Event.{Event}
-use Rattle.tape.specs.Tape.{tapeOf}
+use Rattle.tape.specs.declared.order.Order.{Order}
+use Rattle.tape.specs.declared.event.Event.{Event}
+use Rattle.tape.specs.rules.Tape.{tapeOf}
 use Rattle.listing.specs.Text.{text, decimal}
 use Rattle.listing.specs.Listing.{listingOf, roomOf, lengthIn, listedOf, bytesOf}
 

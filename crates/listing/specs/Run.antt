@@ -4,14 +4,14 @@ use mathlib.Core.List.{List, [], _∷_}
 use Prim.Native.Nat.{ℕ, zero, suc}
 use lib.ListN.{drop}
 use Rattle.words.specs.rules.Bytes.{wordAt}
-use Rattle.tape.specs.declared.ReadOrder.{ReadOrder}
-use Rattle.tape.specs.declared.ReadOrder.the-variants.{Order as GotOrder, Refused as NoOrder}
-use Rattle.tape.specs.declared.ReadEvent.{ReadEvent}
-use Rattle.tape.specs.declared.ReadEvent.the-variants.{Event as GotEvent, Refused as NoEvent}
-use Rattle.tape.specs.declared.Opened.{Opened}
-use Rattle.tape.specs.declared.Opened.the-variants.{Tape, Refused as NoTape}
-use Rattle.tape.specs.Records.{readOrder, readEvent}
-use Rattle.tape.specs.Tape.{openTape, eventPlace}
+use Rattle.tape.specs.declared.order.ReadOrder.{ReadOrder}
+use Rattle.tape.specs.declared.order.ReadOrder.the-variants.{Order as GotOrder, Refused as NoOrder}
+use Rattle.tape.specs.declared.event.ReadEvent.{ReadEvent}
+use Rattle.tape.specs.declared.event.ReadEvent.the-variants.{Event as GotEvent, Refused as NoEvent}
+use Rattle.tape.specs.declared.trailer.Opened.{Opened}
+use Rattle.tape.specs.declared.trailer.Opened.the-variants.{Tape, Refused as NoTape}
+use Rattle.tape.specs.rules.Records.{readOrder, readEvent}
+use Rattle.tape.specs.rules.Tape.{openTape, eventPlace}
 use Rattle.auction.specs.declared.Auction.{Auction}
 use Rattle.auction.specs.declared.Entry.{Entry}
 use Rattle.auction.specs.declared.Entry.the-variants.{Accepted, Refused as NoEntry}

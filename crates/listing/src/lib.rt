@@ -2,8 +2,8 @@
 ghost use mathlib.Core.Path.{_≡_};
 ghost use Prim.Native.Nat.{_+_, _*_, _≤_};
 ghost use lib.ListN.{length, drop};
-ghost use Rattle.tape.specs.Records.{readOrder};
-ghost use Rattle.tape.specs.Tape.{eventPlace};
+ghost use Rattle.tape.specs.rules.Records.{readOrder};
+ghost use Rattle.tape.specs.rules.Tape.{eventPlace};
 ghost use Rattle.listing.specs.Run.{answers, heardAll, closed, refused, runEntry, runOrder};
 ghost use Rattle.listing.specs.Listing.{eventLines, roomOf, lengthIn, listedOf, bytesOf};
 ghost use Rattle.listing.specs.Code.{heardTurn, Lists, Wrote};

@@ -8,9 +8,9 @@ use lib.Dec.{leb, ltb, eqb}
 use lib.ListN.{getD}
 use borrow.Author.Tests.{ltb-true, ltb-false, leb-true, leb-false, eqb-true, eqb-false, le-ltb, lt-ltb, eq-eqb, not-false}
 use Rattle.words.specs.rules.Bits.{bitAt}
-use Rattle.tape.specs.declared.Order.{Order}
-use Rattle.tape.specs.Form.{orderTests, orderFormed}
-use Rattle.tape.proofs.RecordLaws.{or-left, or-right}
+use Rattle.tape.specs.declared.order.Order.{Order}
+use Rattle.tape.specs.rules.Form.{orderTests, orderFormed}
+use Rattle.base.proofs.Bools.{or-left, or-right}
 use Rattle.tape.proofs.FormLaws.{each, within-ge, within-le, order-bounds}
 use Rattle.auction.specs.Mirror.{mirrored, mirroredOrder, buyOrder}
 use Rattle.auction.specs.rules.Accept.{initiatingOf, tickOf, boundOf, firstBound, guaranteedOf, rangeRefusal, buyRefusal, orderRefusal, openedBy, acceptOf, bidMark}

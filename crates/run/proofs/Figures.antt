@@ -4,7 +4,7 @@ use Rattle.words.specs.rules.Bits.{withBit, withoutBit, onesIn, clearIn}
 use Rattle.base.specs.Lists.{filter, sum}
 use Rattle.board.specs.rules.Board.{emptyBoard, liveIn, placed, findIn, inserted, inSequence}
 use Rattle.share.specs.rules.Share.{shares}
-use Rattle.tape.specs.Form.{orderTests, orderFormed, shapeOf, shapeTests, eventFormed}
+use Rattle.tape.specs.rules.Form.{orderTests, orderFormed, shapeOf, shapeTests, eventFormed}
 use Rattle.trade.specs.Trade.{levelFills, top, entry, next, guaranteeOf, offersAt, matches, isFinal, wants, levelAt, walk, marketPrice, levels, fills}
 use Rattle.trade.specs.Write.{fillsOf}
 use Rattle.auction.specs.Mirror.{mirrored, mirroredMarks, mirroredSide, mirroredOrder, mirroredPriced, mirroredMarket, mirroredQuotes, mirroredEvent, buyOrder, buyEvent}

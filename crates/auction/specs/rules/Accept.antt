@@ -4,8 +4,8 @@ use Prim.Native.Nat.{ℕ, _+_, _-_, min, max}
 use lib.Dec.{leb, ltb, eqb}
 use Rattle.words.specs.rules.Bits.{bitAt}
 use Rattle.board.specs.rules.Board.{emptyBoard}
-use Rattle.tape.specs.declared.Order.{Order}
-use Rattle.tape.specs.Form.{orderFormed}
+use Rattle.tape.specs.declared.order.Order.{Order}
+use Rattle.tape.specs.rules.Form.{orderFormed}
 use Rattle.auction.specs.Mirror.{buyOrder}
 use Rattle.auction.specs.declared.Auction.{Auction}
 use Rattle.auction.specs.declared.Head.{Head}

@@ -2,7 +2,7 @@ use Rattle.auction.specs.declared.Entry.the-variants.{Accepted}
 use mathlib.Core.Path.{sym, ap, _∙_}
 use denote.Ref.{now}
 use lib.ListN.{drop}
-use Rattle.tape.specs.Tape.{eventPlace}
+use Rattle.tape.specs.rules.Tape.{eventPlace}
 use Rattle.auction.specs.declared.Opening.{Opening}
 use Rattle.listing.specs.Run.{refused, runEntry}
 use Rattle.listing.proofs.ListsLaws.{lists-same}

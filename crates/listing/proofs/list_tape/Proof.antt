@@ -1,8 +1,8 @@
-use Rattle.tape.specs.declared.ReadOrder.the-variants.{Order}
+use Rattle.tape.specs.declared.order.ReadOrder.the-variants.{Order}
 use mathlib.Core.Path.{sym, ap, _∙_}
 use denote.Ref.{now}
 use lib.ListN.{drop}
-use Rattle.tape.specs.Tape.{eventPlace}
+use Rattle.tape.specs.rules.Tape.{eventPlace}
 use Rattle.listing.specs.Run.{refused, runOrder}
 use Rattle.listing.proofs.ListsLaws.{lists-same}
 use borrow.Author.Needs.{needs}

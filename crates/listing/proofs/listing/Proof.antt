@@ -1,4 +1,4 @@
-use Rattle.tape.specs.declared.Opened.the-variants.{Tape}
+use Rattle.tape.specs.declared.trailer.Opened.the-variants.{Tape}
 use mathlib.Core.Path.{sym, ap, _∙_}
 use denote.Ref.{now}
 use Rattle.listing.specs.Run.{refused, runTape, runOf}

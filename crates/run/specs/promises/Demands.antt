@@ -11,9 +11,9 @@ use Rattle.board.specs.promises.Board.{Good}
 use Rattle.board.specs.declared.Board.{Board}
 use Rattle.board.specs.declared.Response.{Response}
 use Rattle.share.specs.rules.Fills.{Fill}
-use Rattle.tape.specs.declared.Order.{Order}
-use Rattle.tape.specs.declared.Event.{Event}
-use Rattle.tape.specs.Form.{orderFormed, eventFormed}
+use Rattle.tape.specs.declared.order.Order.{Order}
+use Rattle.tape.specs.declared.event.Event.{Event}
+use Rattle.tape.specs.rules.Form.{orderFormed, eventFormed}
 use Rattle.trade.specs.Trade.{offers, fills, total}
 use Rattle.trade.specs.Demands.{Absent, Distinct, Demand3}
 use Rattle.trade.specs.Plan.{Planned}
