@@ -16,7 +16,7 @@ use Rattle.board.specs.declared.Board.{Board}
 use Rattle.board.specs.declared.Response.{Response}
 use Rattle.board.proofs.ListLaws.{inserts-every, every-inserts}
 use Rattle.board.proofs.BoardLaws.{placing, clearing, cleared-dead}
-use Rattle.trade.specs.Demands.{Absent, Distinct}
+use Rattle.demand.specs.promises.Demands.{Absent, Distinct}
 use Rattle.auction.specs.Step.{isFull}
 
 pub has-room : (b : Board) → isFull b ≡ false → firstFree b < 64

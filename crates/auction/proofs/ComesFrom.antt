@@ -13,8 +13,9 @@ use Rattle.board.specs.declared.Response.{Response}
 use Rattle.board.proofs.BoardLaws.{empty-live}
 use Rattle.tape.specs.declared.Order.{Order}
 use Rattle.tape.specs.declared.Event.{Event}
-use Rattle.trade.specs.Demands.{In, Distinct}
-use Rattle.trade.proofs.Lists.{all-map}
+use Rattle.trade.specs.inside.Lists.{In}
+use Rattle.demand.specs.promises.Demands.{Distinct}
+use Rattle.demand.proofs.Lists.{all-map}
 use Rattle.auction.specs.Mirror.{buyOrder, buyEvent}
 use Rattle.auction.specs.Accept.{openedBy, acceptOf}
 use Rattle.auction.specs.Step.{isOpen, responseOf, after, endedByTime, carried, isFull, stepOf}

@@ -5,8 +5,8 @@ use Rattle.board.specs.Lists.{filter, sum}
 use Rattle.board.specs.Board.{emptyBoard, liveIn, placed, findIn, inserted, inSequence}
 use Rattle.share.specs.Share.{shares}
 use Rattle.tape.specs.Form.{orderTests, orderFormed, shapeOf, shapeTests, eventFormed}
-use Rattle.trade.specs.Trade.{levelFills, top, entry, next, guaranteeOf, offersAt, matches, isFinal, wants, levelAt, walk, marketPrice, levels, fills}
-use Rattle.trade.specs.Write.{fillsOf}
+use Rattle.trade.specs.rules.Trade.{levelFills, top, entry, next, guaranteeOf, offersAt, matches, isFinal, wants, levelAt, walk, marketPrice, levels, fills}
+use Rattle.trade.specs.rules.Write.{fillsOf}
 use Rattle.auction.specs.Mirror.{mirrored, mirroredMarks, mirroredSide, mirroredOrder, mirroredPriced, mirroredMarket, mirroredQuotes, mirroredEvent, buyOrder, buyEvent}
 use Rattle.auction.specs.Accept.{initiatingOf, tickOf, boundOf, guaranteedOf, rangeRefusal, buyRefusal, orderRefusal, termsOf, quotesOf, openedBy, noAuction, acceptOf}
 use Rattle.auction.specs.Step.{eventRefusal, gtxOutcome, cancelOutcome, sellLimitOutcome, bidQuotes, buyLimitOutcome, limitOutcome, marketOutcome, newQuotes, quotesOutcome, outcomeOf, after, endedByTime, stepOf, closeOf}

@@ -15,8 +15,8 @@ use Rattle.tape.specs.declared.Order.{Order}
 use Rattle.tape.specs.declared.Event.{Event}
 use Rattle.tape.specs.Form.{orderFormed, eventFormed}
 use Rattle.trade.specs.declared.Deal.{Deal}
-use Rattle.trade.specs.Trade.{Level, offers, fills, top, entry, next, offersAt, matches, isFinal, wants, levelAt, walk, marketPrice, levels, flat, total, levelFills, contra}
-use Rattle.trade.specs.Write.{shown, reported, fillsOf}
+use Rattle.trade.specs.rules.Trade.{Level, offers, fills, top, entry, next, offersAt, matches, isFinal, wants, levelAt, walk, marketPrice, levels, flat, total, levelFills, contra}
+use Rattle.trade.specs.rules.Write.{shown, reported, fillsOf}
 use Rattle.auction.specs.Mirror.{mirrored, mirroredOrder, mirroredEvent, buyOrder, buyEvent}
 use Rattle.auction.specs.Accept.{orderRefusal, buyRefusal, termsOf, openedBy, noAuction, acceptOf}
 use Rattle.auction.specs.Step.{isOpen, eventRefusal, gtxOutcome, cancelOutcome, sellLimitOutcome, buyLimitOutcome, limitOutcome, marketOutcome, quotesOutcome, outcomeOf, after, endedByTime, gives, carried, isFull, stepOf, closeOf}

@@ -14,8 +14,8 @@ use Rattle.board.specs.Board.{findGtx}
 use Rattle.tape.specs.declared.Event.{Event}
 use Rattle.tape.specs.declared.Order.{Order}
 use Rattle.tape.specs.Form.{orderFormed, eventFormed}
-use Rattle.trade.specs.Demands.{In}
-use Rattle.trade.proofs.Lists.{all-in, all-map}
+use Rattle.trade.specs.inside.Lists.{In}
+use Rattle.demand.proofs.Lists.{all-in, all-map}
 use Rattle.auction.specs.Mirror.{buyOrder, buyEvent}
 use Rattle.auction.specs.Accept.{initiatingOf, firstBound, guaranteedOf, rangeRefusal, buyRefusal, orderRefusal, acceptOf}
 use Rattle.auction.specs.Step.{isOpen, eventRefusal, after, endedByTime, gives, carried, isFull, stepOf, closeOf}

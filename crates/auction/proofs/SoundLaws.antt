@@ -20,12 +20,12 @@ use Rattle.tape.specs.declared.Order.{Order}
 use Rattle.tape.specs.Form.{eventFormed, shapeOf, shapeTests, orderFormed}
 use Rattle.tape.proofs.FormLaws.{each, within-ge, order-bounds}
 use Rattle.trade.specs.declared.Deal.{Deal}
-use Rattle.trade.specs.Trade.{offers, fills, total}
-use Rattle.trade.specs.Write.{shown, reported, fillsOf}
-use Rattle.trade.specs.Demands.{Absent, Distinct, InRange, Demand3, Sound as SoundDeal}
-use Rattle.trade.proofs.Lists.{all-map}
-use Rattle.trade.proofs.Theorems.{demand3}
-use Rattle.trade.proofs.Plans.{plans}
+use Rattle.trade.specs.rules.Trade.{offers, fills, total}
+use Rattle.trade.specs.rules.Write.{shown, reported, fillsOf}
+use Rattle.demand.specs.promises.Demands.{Absent, Distinct, InRange, Demand3, Sound as SoundDeal}
+use Rattle.demand.proofs.Lists.{all-map}
+use Rattle.demand.proofs.Theorems.{demand3}
+use Rattle.demand.proofs.Plans.{plans}
 use Rattle.auction.specs.Mirror.{mirrored, mirroredOrder, buyOrder, buyEvent}
 use Rattle.auction.specs.Accept.{initiatingOf, boundOf, firstBound, termsOf, quotesOf, openedBy, acceptOf}
 use Rattle.auction.specs.Step.{isOpen, boundBy, responseOf, boardAfter, quotesAfter, marketAfter, after, endedByTime, gives, carried, isFull, stepOf, closeOf}

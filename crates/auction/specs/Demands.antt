@@ -13,9 +13,9 @@ use Rattle.share.specs.Fills.{Fill}
 use Rattle.tape.specs.declared.Order.{Order}
 use Rattle.tape.specs.declared.Event.{Event}
 use Rattle.tape.specs.Form.{orderFormed, eventFormed}
-use Rattle.trade.specs.Trade.{offers, fills, total}
-use Rattle.trade.specs.Demands.{In, Absent, Distinct, Demand3}
-use Rattle.trade.specs.Plan.{Planned}
+use Rattle.trade.specs.rules.Trade.{offers, fills, total}
+use Rattle.trade.specs.inside.Lists.{In}
+use Rattle.demand.specs.promises.Demands.{Absent, Distinct, Demand3, Planned}
 use Rattle.words.specs.Bits.{bitAt}
 use Rattle.auction.specs.Mirror.{mirrored, mirroredMarks, mirroredOrder, mirroredEvent, buyEvent}
 use Rattle.auction.specs.Accept.{acceptOf}

@@ -5,7 +5,7 @@ use Prim.Native.Nat.{ℕ, min}
 use Rattle.share.specs.Fills.{Fill}
 use Rattle.trade.specs.declared.Deal.{Deal}
 use Rattle.trade.specs.declared.Filled.{Filled}
-use Rattle.trade.specs.Write.{fillsOf, answer, after}
+use Rattle.trade.specs.rules.Write.{fillsOf, answer, after}
 use Rattle.auction.specs.Mirror.{mirrored}
 use Rattle.auction.specs.Step.{isOpen, boundBy}
 use Rattle.auction.specs.declared.Auction.{Auction}

@@ -10,16 +10,15 @@ use Rattle.tape.specs.Tape.{openTape, tapeOf}
 use Rattle.board.specs.Lists.{filter, sum}
 use Rattle.board.specs.Board.{emptyBoard, liveIn, placed, findIn, inserted, inSequence}
 use Rattle.share.specs.Share.{shares}
-use Rattle.trade.specs.Trade.{levelFills, top, entry, next, guaranteeOf, offersAt, matches, isFinal, wants, levelAt, walk, marketPrice, levels, fills}
-use Rattle.trade.specs.Write.{fillsOf}
+use Rattle.trade.specs.rules.Trade.{levelFills, top, entry, next, guaranteeOf, offersAt, matches, isFinal, wants, levelAt, walk, marketPrice, levels, fills}
+use Rattle.trade.specs.rules.Write.{fillsOf}
 use Rattle.auction.specs.Mirror.{mirrored, mirroredMarks, mirroredSide, mirroredOrder, mirroredPriced, mirroredMarket, mirroredQuotes, mirroredEvent, buyOrder, buyEvent}
 use Rattle.auction.specs.Accept.{initiatingOf, tickOf, boundOf, guaranteedOf, rangeRefusal, buyRefusal, orderRefusal, termsOf, quotesOf, openedBy, noAuction, acceptOf}
 use Rattle.auction.specs.Step.{eventRefusal, gtxOutcome, cancelOutcome, sellLimitOutcome, bidQuotes, buyLimitOutcome, limitOutcome, marketOutcome, newQuotes, quotesOutcome, outcomeOf, after, endedByTime, stepOf, closeOf}
 use Rattle.auction.specs.Fills.{boundNow, rangeOf, dealOf}
-use Rattle.listing.specs.Text.{digits, decimal}
+use Rattle.listing.specs.Text.{digits, decimal, text}
 use Rattle.listing.specs.Run.{answers, heardAll, runOf}
 use Rattle.listing.specs.Listing.{refusedLine, rangeText, auctionLine, answerText, eventLine, endText, endLine, partyText, fillLine, totalLine, endLines, listingOf}
-use Rattle.listing.specs.Text.{text}
 use Rattle.listing.specs.Demands.{tapeC, listingC, tapeE, listingE}
 
 -- a tape and its listing

@@ -21,7 +21,7 @@ use Rattle.tape.specs.declared.ReadEvent.{ReadEvent}
 use Rattle.tape.specs.declared.ReadEvent.the-variants.{Event as GotEvent, Refused as NoEvent}
 use Rattle.tape.specs.Records.{readEvent, readOrder}
 use Rattle.tape.specs.Tape.{openTape, eventPlace}
-use Rattle.trade.specs.Trade.{total}
+use Rattle.trade.specs.rules.Trade.{total}
 use Rattle.trade.proofs.WholeLaws.{fills-few}
 use Rattle.auction.specs.declared.Auction.{Auction}
 use Rattle.auction.specs.declared.Answer.{Answer}

@@ -4,7 +4,7 @@ ghost use mathlib.Core.Bool.{true};
 ghost use Prim.Native.Nat.{_+_, _*_, _≤_};
 ghost use lib.ListN.{length, take};
 ghost use Rattle.share.specs.Fills.{words};
-ghost use Rattle.trade.specs.Trade.{total};
+ghost use Rattle.trade.specs.rules.Trade.{total};
 ghost use Rattle.auction.specs.Fills.{hasEnded, auctionFills};
 ghost use Rattle.listing.specs.Listing.{fillLines, endLines};
 ghost use Rattle.listing.specs.Code.{Wrote, countIn, fillsIn};

@@ -17,8 +17,8 @@ use Rattle.board.specs.Board.{noResponse, liveIn}
 use Rattle.board.proofs.LiveLaws.{none-live, first-live}
 use Rattle.share.specs.Share.{floors}
 use Rattle.share.specs.Fills.{sizes}
-use Rattle.trade.specs.Trade.{guaranteeOf}
-use Rattle.trade.specs.Code.{sharedOf, contraOf, worksAt, leastOf, lastSequence, Adds}
+use Rattle.trade.specs.rules.Trade.{guaranteeOf}
+use Rattle.trade.specs.inside.Code.{sharedOf, contraOf, worksAt, leastOf, lastSequence, Adds}
 use Rattle.trade.specs.declared.Found.{Found}
 
 -- ---- numbers

@@ -19,10 +19,9 @@ use Rattle.trade.specs.declared.Deal.{Deal}
 use Rattle.trade.specs.declared.Found.{Found}
 use Rattle.trade.specs.declared.Price.{Price}
 use Rattle.trade.specs.declared.Walked.{Walked}
-use Rattle.trade.specs.Trade.{isCustomer, isOther, Level, customers, others, shared, given, first, contra, levelFills, total, flat, working, top, entry, next, guarantee}
-use Rattle.trade.specs.Write.{shown, reported}
-use Rattle.trade.specs.Demands.{sizeHere}
-use Rattle.trade.specs.Code.{matchOf, lastOf, wantOf, sharedOf, contraOf, leftOf, worksAt, customerAt, otherAt, lastSequence, FoundAt, leastOf, eachFills, dealt, shareFills, placeFills, levelOf, Looks, Stepped, walkFrom}
+use Rattle.trade.specs.rules.Trade.{isCustomer, isOther, Level, customers, others, shared, given, first, contra, levelFills, total, flat, working, top, entry, next, guarantee, sizeHere}
+use Rattle.trade.specs.rules.Write.{shown, reported}
+use Rattle.trade.specs.inside.Code.{matchOf, lastOf, wantOf, sharedOf, contraOf, leftOf, worksAt, customerAt, otherAt, lastSequence, FoundAt, leastOf, eachFills, dealt, shareFills, placeFills, levelOf, Looks, Stepped, walkFrom}
 use Rattle.trade.proofs.Lists.{sizes-split}
 use Rattle.trade.proofs.Levels.{given-sum, traded-is}
 use Rattle.trade.proofs.WriteLaws.{sizes-sequence}

@@ -16,9 +16,9 @@ use Rattle.board.proofs.LiveLaws.{word-filters}
 use Rattle.board.proofs.SequenceLaws.{sequence-filter}
 use Rattle.trade.specs.declared.Deal.{Deal}
 use Rattle.trade.specs.declared.Walked.{Walked}
-use Rattle.trade.specs.Trade.{Level, contra, levelFills, total, working, top, next, guarantee, offersAt, matches, isFinal, wants, levelAt, walk, marketTakes, levels}
-use Rattle.trade.specs.Demands.{In}
-use Rattle.trade.specs.Code.{matchOf, lastOf, wantOf, worksAt, leastOf, levelOf, walkFrom}
+use Rattle.trade.specs.rules.Trade.{Level, contra, levelFills, total, working, top, next, guarantee, offersAt, matches, isFinal, wants, levelAt, walk, marketTakes, levels}
+use Rattle.trade.specs.inside.Lists.{In}
+use Rattle.trade.specs.inside.Code.{matchOf, lastOf, wantOf, worksAt, leastOf, levelOf, walkFrom}
 use Rattle.trade.proofs.Walk.{next-above, next-top, next-least, walk-none, walk-past, walk-some}
 use Rattle.trade.proofs.WriteLaws.{fold-sequence}
 

@@ -21,9 +21,9 @@ use Rattle.share.specs.Fills.{Fill, fillOf, words, written}
 use Rattle.share.proofs.FillsLaws.{written-words}
 use Rattle.trade.specs.declared.Deal.{Deal}
 use Rattle.trade.specs.declared.Filled.the-variants.{Count, Refused}
-use Rattle.trade.specs.Trade.{offers, Level, flat, workingStop, top, next, guaranteeOf, guarantee, marketPrice, marketTakes, marketFill, levels, fills}
-use Rattle.trade.specs.Write.{shown, reported, fillsOf, roomy, answer, after}
-use Rattle.trade.specs.Code.{leastOf, walkFrom}
+use Rattle.trade.specs.rules.Trade.{offers, Level, flat, workingStop, top, next, guaranteeOf, guarantee, marketPrice, marketTakes, marketFill, levels, fills}
+use Rattle.trade.specs.rules.Write.{shown, reported, fillsOf, roomy, answer, after}
+use Rattle.trade.specs.inside.Code.{leastOf, walkFrom}
 use Rattle.trade.proofs.CodeLaws.{turn-of, count-turn, live-short}
 use Rattle.trade.proofs.StepLaws.{least-next, next-sequence, from-start}
 use Rattle.trade.proofs.LevelLaws.{ahead-all, reported-append, reported-length, reported-fill}

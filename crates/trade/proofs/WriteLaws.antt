@@ -24,7 +24,7 @@ use Rattle.board.proofs.FirstLaws.{some-first, first-earliest, earliest-sequenc
 use Rattle.share.specs.Share.{floors, leftover, shares, inTurn}
 use Rattle.share.specs.Fills.{fillOf, sizes}
 use Rattle.share.proofs.ShareLaws.{room, floors-at-most, shares-sum, shares-length}
-use Rattle.trade.specs.Code.{eachFills, dealt, shareFills, isRising, lastSequence, Known, Gives}
+use Rattle.trade.specs.inside.Code.{eachFills, dealt, shareFills, isRising, lastSequence, Known, Gives}
 use Rattle.trade.specs.declared.Given.{Given}
 use Rattle.trade.proofs.CodeLaws.{cut-less, Turn, turn-of}
 

@@ -3,9 +3,9 @@ ghost use mathlib.Core.Path.{_≡_};
 ghost use mathlib.Core.Bool.{cond, _&&_};
 ghost use Prim.Native.Nat.{_+_, _*_, _/_, _≤_, _<_, min, max};
 ghost use lib.Dec.{leb, ltb, eqb};
-ghost use Rattle.trade.specs.Trade.{top, entry, guaranteeOf};
-ghost use Rattle.trade.specs.Write.{shown};
-ghost use Rattle.trade.specs.Code.{matchOf, lastOf, wantOf, sharedOf, contraOf, leftOf};
+ghost use Rattle.trade.specs.rules.Trade.{top, entry, guaranteeOf};
+ghost use Rattle.trade.specs.rules.Write.{shown};
+ghost use Rattle.trade.specs.inside.Code.{matchOf, lastOf, wantOf, sharedOf, contraOf, leftOf};
 use crate::Deal;
 
 // A u32 in 64 bits, with its range.

@@ -7,7 +7,7 @@ ghost use lib.ListN.{length};
 ghost use Rattle.words.specs.Bits.{withoutBit, setIn};
 ghost use Rattle.board.specs.Board.{liveIn, inSequence};
 ghost use Rattle.share.specs.Fills.{fillOf, Wrote};
-ghost use Rattle.trade.specs.Code.{eachFills, shareFills, isRising, Known, Gives};
+ghost use Rattle.trade.specs.inside.Code.{eachFills, shareFills, isRising, Known, Gives};
 use crate::Given;
 use crate::numbers;
 use crate::scan;

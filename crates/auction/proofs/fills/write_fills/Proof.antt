@@ -1,7 +1,7 @@
 use mathlib.Core.Bool.{Bool}
 use denote.Ref.{now}
 use Rattle.trade.specs.declared.Deal.{Deal}
-use Rattle.trade.specs.Write.{answer, after}
+use Rattle.trade.specs.rules.Write.{answer, after}
 use Rattle.auction.specs.Fills.{hasEnded}
 use mathlib.Core.Path.{ap, _∙_}
 use borrow.Author.Needs.{needs}

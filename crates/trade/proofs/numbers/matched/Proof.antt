@@ -1,6 +1,6 @@
 use native.Mathlib.Omega.{arith}
 use borrow.Author.Tests.{le-leb, lt-leb, eq-eqb, ne-eqb}
-use Rattle.trade.specs.Code.{matchOf}
+use Rattle.trade.specs.inside.Code.{matchOf}
 use Rattle.trade.proofs.numbers.matched.Statement.{statement}
 use Rattle.trade.proofs.numbers.matched.Tie as tie
 

@@ -1,14 +1,11 @@
--- The plan of a price as document 01 tells it, mode by mode; each level of a walk has this plan.
-use mathlib.Core.Path.{_≡_}
+-- The plan of a price as document 01 tells it, mode by mode.
 use mathlib.Core.Bool.{Bool, true, false, cond, not, _&&_}
 use mathlib.Core.List.{List}
 use Prim.Native.Nat.{ℕ, _-_, _*_}
 use lib.Dec.{leb, ltb, eqb}
 use Rattle.board.specs.declared.Response.{Response}
-use Rattle.board.specs.declared.Board.{Board}
 use Rattle.trade.specs.declared.Deal.{Deal}
-use Rattle.trade.specs.Trade.{offers, Level, workingStop, guarantee, levels}
-use Rattle.trade.specs.Demands.{In, sizeHere, Sound}
+use Rattle.trade.specs.rules.Trade.{workingStop, guarantee}
 
 -- what the Contra Order takes after Customers and before the others, and whether all the rest goes to it
 pub record Plan : Type 0 where
@@ -44,14 +41,3 @@ paperPlan d rs p left held A =
     cond (eqb (d .mode) 1) (mode1 (workingStop d) (guarantee d rs) p)
     (cond (eqb (d .mode) 2) (mode2 (d .initiating) (guarantee d rs) p left held A)
     (mode3 (workingStop d) (d .initiating) (guarantee d rs) p left held A))
-
-abbrev pub planOf : Level → Plan
-planOf l = record { want = l .want; final = l .final }
-
--- each price of the walk has document 01's plan
-abbrev pub Planned : Deal → Board → Type 0
-Planned d b = (l : Level) → In l (levels d (offers b)) → planOf l ≡ paperPlan d (offers b) (l .price) (l .left) (l .held) (sizeHere l)
-
--- the theorem
-abbrev pub Plans : Type 0
-Plans = (d : Deal) (b : Board) → Sound d b → Planned d b

@@ -10,11 +10,12 @@ use lib.Dec.{eqb}
 use lib.ListN.{length}
 use Rattle.board.specs.declared.Response.{Response}
 use Rattle.board.specs.Lists.{Every}
 use Rattle.trade.specs.declared.Deal.{Deal}
-use Rattle.trade.specs.Trade.{working, workingStop, top, next, marketPrice}
-use Rattle.trade.specs.Demands.{In}
-use Rattle.trade.proofs.Lists.{all-map}
-use Rattle.trade.proofs.Walk.{Fit, top-above, stop-top, next-bound, next-top, next-least, next-high}
+use Rattle.trade.specs.rules.Trade.{working, workingStop, top, next, marketPrice}
+use Rattle.trade.specs.inside.Lists.{In}
+use Rattle.demand.proofs.Lists.{all-map}
+use Rattle.demand.proofs.Walk.{Fit, top-above, stop-top, next-bound, next-high}
+use Rattle.trade.proofs.Walk.{next-top, next-least}
 
 module _ (d : Deal) (rs : List Response) where
   -- its three cases

@@ -13,14 +13,12 @@ use Rattle.board.specs.Board.{liveOf}
 use Rattle.board.specs.Theorems.{Good}
 use Rattle.share.specs.Share.{Near}
 use Rattle.share.specs.Fills.{Fill, sizes}
 use Rattle.trade.specs.declared.Deal.{Deal}
-use Rattle.trade.specs.Trade.{offers, isOther, Level, others, shared, total, working, workingStop, top, entry, guarantee, offersAt, marketTakes, marketFill, levels, fills}
+use Rattle.trade.specs.rules.Plan.{Plan, paperPlan}
+use Rattle.trade.specs.inside.Lists.{In}
+use Rattle.trade.specs.rules.Trade.{sizeHere, offers, isOther, Level, others, shared, total, working, workingStop, top, entry, guarantee, offersAt, marketTakes, marketFill, levels, fills}
 
 -- ---- words
-
-abbrev pub In : {A : Type 0} → A → List A → Type 0
-In a [] = ⊥
-In a (x ∷ xs) = (a ≡ x) ⊎ In a xs
 
 -- no response has the sequence k
 abbrev pub Absent : ℕ → List Response → Type 0
@@ -75,10 +73,6 @@ walked d fs = filter (λ f. not (isMarket d f)) fs
 -- the responses at a price that are no Customer's
 abbrev pub othersAt : Deal → List Response → ℕ → List Response
 othersAt d rs p = filter isOther (offersAt d rs p)
-
--- the size of all responses at a level: document 01's A
-abbrev pub sizeHere : Level → ℕ
-sizeHere l = sum (sizes (l .here))
 
 -- ---- what every ended auction has
 
@@ -193,3 +187,16 @@ Demands = (d : Deal) (b : Board) → Sound d b → Demand3 d b (fills d (offers 
 -- and for every deal and board at all, sound or not, there are at most 130, so that 390 words always do
 abbrev pub Few : Type 0
 Few = (d : Deal) (b : Board) → Good b → length (fills d (offers b)) ≤ 130
+
+-- ---- the plan of each price
+
+abbrev pub planOf : Level → Plan
+planOf l = record { want = l .want; final = l .final }
+
+-- each price of the walk has document 01's plan
+abbrev pub Planned : Deal → Board → Type 0
+Planned d b = (l : Level) → In l (levels d (offers b)) → planOf l ≡ paperPlan d (offers b) (l .price) (l .left) (l .held) (sizeHere l)
+
+-- the theorem
+abbrev pub Plans : Type 0
+Plans = (d : Deal) (b : Board) → Sound d b → Planned d b

@@ -15,7 +15,7 @@ use Rattle.trade.specs.declared.Found.{Found}
 use Rattle.trade.specs.declared.Given.{Given}
 use Rattle.trade.specs.declared.Price.{Price}
 use Rattle.trade.specs.declared.Walked.{Walked}
-use Rattle.trade.specs.Trade.{Level, customers, others, contra, levelFills, total, top, entry, walk}
+use Rattle.trade.specs.rules.Trade.{Level, customers, others, contra, levelFills, total, top, entry, walk}
 
 -- ---- the plan, on numbers
 

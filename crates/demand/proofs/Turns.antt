@@ -12,15 +12,17 @@ use Rattle.board.specs.Lists.{Every, sum}
 use Rattle.share.specs.Share.{inTurn}
 use Rattle.share.specs.Fills.{Fill, fillOf, fillsBy, sizes}
 use Rattle.share.proofs.ShareLaws.{turn-sum, turn-length}
 use Rattle.trade.specs.declared.Deal.{Deal}
-use Rattle.trade.specs.Trade.{isCustomer, Level, customers, shared, given, first, contra, levelFills, flat, working, offersAt}
-use Rattle.trade.specs.Demands.{In, Distinct, got, gotAt}
-use Rattle.trade.proofs.Lists.{all-map, all-in, all-fill, in-keep, distinct-keep, got-none, got-fill, tally-append, tally-none, tally-le, tally-and, absent-by, total-by}
+use Rattle.trade.specs.rules.Trade.{isCustomer, Level, customers, shared, given, first, contra, levelFills, flat, working, offersAt}
+use Rattle.trade.specs.inside.Lists.{In}
+use Rattle.demand.specs.promises.Demands.{Distinct, got, gotAt}
+use Rattle.demand.proofs.Lists.{all-map, all-in, all-fill, in-keep, distinct-keep, got-none, got-fill, tally-append, tally-none, tally-le, tally-and, absent-by}
+use Rattle.trade.proofs.Lists.{total-by}
 use Rattle.board.specs.Theorems.{RisingFrom}
 use Rattle.board.proofs.SequenceLaws.{rising-from, rising-filter}
-use Rattle.trade.proofs.Levels.{byCustomers, customer-is, all-level, got-contra, level-served}
-use Rattle.trade.proofs.Walk.{Fit, Good, Run}
-use Rattle.trade.proofs.Runs.{run-from, no-contra, got-append, positive, here-distinct, is-here, got-elsewhere, run-passed}
+use Rattle.demand.proofs.Levels.{byCustomers, customer-is, all-level, got-contra, level-served}
+use Rattle.demand.proofs.Walk.{Fit, Good, Run}
+use Rattle.demand.proofs.Runs.{run-from, no-contra, got-append, positive, here-distinct, is-here, got-elsewhere, run-passed}
 
 turnFills : ℕ → ℕ → List Response → List Fill
 turnFills p left cs = fillsBy p cs (inTurn left (sizes cs))

@@ -10,12 +10,14 @@ use lib.Dec.{ltb, eqb}
 use Rattle.board.specs.declared.Response.{Response}
 use Rattle.board.specs.Lists.{Every}
 use Rattle.share.specs.Fills.{Fill}
 use Rattle.trade.specs.declared.Deal.{Deal}
-use Rattle.trade.specs.Trade.{Level, first, levelFills, total, flat, working, guarantee, offersAt, walk, levels, fills}
-use Rattle.trade.specs.Demands.{In, Absent, Distinct, got, gotBelow, soldAt, soldBelow, sizeHere, InRange}
-use Rattle.trade.proofs.Lists.{all-append, all-map, all-in, all-keep, in-keep, distinct-keep, absent-keep, total-append, tally-append, tally-none, tally-all, got-none, soldAt-none}
-use Rattle.trade.proofs.Levels.{traded-final, traded-open, traded-fits, all-level, all-who, absent-level, got-contra, level-fits, level-full}
-use Rattle.trade.proofs.Walk.{Fit, Good, Run, top-below}
+use Rattle.trade.specs.rules.Trade.{Level, first, levelFills, total, flat, working, guarantee, offersAt, walk, levels, fills, sizeHere}
+use Rattle.trade.specs.inside.Lists.{In}
+use Rattle.demand.specs.promises.Demands.{Absent, Distinct, got, gotBelow, soldAt, soldBelow, InRange}
+use Rattle.demand.proofs.Lists.{all-append, all-map, all-in, all-keep, in-keep, distinct-keep, absent-keep, tally-append, tally-none, tally-all, got-none, soldAt-none}
+use Rattle.trade.proofs.Lists.{total-append}
+use Rattle.demand.proofs.Levels.{traded-final, traded-open, traded-fits, all-level, all-who, absent-level, got-contra, level-fits, level-full}
+use Rattle.demand.proofs.Walk.{Fit, Good, Run, top-below}
 
 pub got-append : (k : ℕ) (fs gs : List Fill) → got k (fs ++ gs) ≡ got k fs + got k gs
 got-append k fs gs = tally-append (λ f. eqb (f .party) k) fs gs

@@ -12,13 +12,15 @@ use Rattle.board.specs.declared.Response.{Response}
 use Rattle.board.specs.Lists.{filter, sum}
 use Rattle.share.specs.Share.{shares, Near}
 use Rattle.share.specs.Fills.{Fill, sizes}
 use Rattle.trade.specs.declared.Deal.{Deal}
-use Rattle.trade.specs.Trade.{isOther, Level, others, first, shared, given, rest, contra, levelFills, total, flat, working, entry, guarantee, offersAt, wants, walk, fills}
-use Rattle.trade.specs.Demands.{In, Distinct, got, gotBelow, gots, soldAbove, othersAt, sizeHere}
-use Rattle.trade.proofs.Lists.{all-map, in-keep, keep-in, keep-test, tally-append, tally-all, gots-same}
-use Rattle.trade.proofs.Levels.{given-sum, traded-final, traded-open, got-contra, level-full, level-covered, level-near, level-first, level-some, level-customer, gots-level}
-use Rattle.trade.proofs.Walk.{Fit, Good, Run}
-use Rattle.trade.proofs.Runs.{got-append, got-below, run-total, run-from, no-contra, positive, here-distinct, is-here, got-elsewhere, run-passed}
+use Rattle.trade.specs.rules.Trade.{isOther, Level, others, first, shared, given, rest, contra, levelFills, total, flat, working, entry, guarantee, offersAt, wants, walk, fills, sizeHere}
+use Rattle.trade.specs.inside.Lists.{In}
+use Rattle.demand.specs.promises.Demands.{Distinct, got, gotBelow, gots, soldAbove, othersAt}
+use Rattle.demand.proofs.Lists.{all-map, in-keep, keep-in, keep-test, tally-append, tally-all, gots-same}
+use Rattle.trade.proofs.Levels.{given-sum}
+use Rattle.demand.proofs.Levels.{traded-final, traded-open, got-contra, level-full, level-covered, level-near, level-first, level-some, level-customer, gots-level}
+use Rattle.demand.proofs.Walk.{Fit, Good, Run}
+use Rattle.demand.proofs.Runs.{got-append, got-below, run-total, run-from, no-contra, positive, here-distinct, is-here, got-elsewhere, run-passed}
 
 -- ---- the quantities of a list of responses
 

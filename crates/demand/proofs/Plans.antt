@@ -8,14 +8,15 @@ use native.Mathlib.Omega.{arith}
 use borrow.Author.Tests.{leb-true, ltb-true, ltb-false, eqb-true, eqb-false, eq-eqb, ne-eqb, le-leb, lt-leb}
 use lib.Dec.{leb, ltb, eqb}
 use Rattle.board.specs.declared.Response.{Response}
 use Rattle.trade.specs.declared.Deal.{Deal}
-use Rattle.trade.specs.Trade.{offers, Level, top, entry, workingStop, guarantee, matches, isFinal, wants, levels}
-use Rattle.trade.specs.Demands.{In, sizeHere}
-use Rattle.trade.specs.Plan.{Plan, goOn, cleanUp, mode1, mode2, mode3, planOf, Plans}
-use Rattle.trade.proofs.Walk.{Fit, Run}
-use Rattle.trade.proofs.Runs.{run-above, run-each}
-use Rattle.trade.proofs.Limits.{none-early}
-use Rattle.trade.proofs.Theorems.{fit, the-run}
+use Rattle.trade.specs.rules.Trade.{offers, Level, top, entry, workingStop, guarantee, matches, isFinal, wants, levels, sizeHere}
+use Rattle.trade.specs.inside.Lists.{In}
+use Rattle.trade.specs.rules.Plan.{Plan, goOn, cleanUp, mode1, mode2, mode3}
+use Rattle.demand.specs.promises.Demands.{planOf, Plans}
+use Rattle.demand.proofs.Walk.{Fit, Run}
+use Rattle.demand.proofs.Runs.{run-above, run-each}
+use Rattle.demand.proofs.Limits.{none-early}
+use Rattle.demand.proofs.Theorems.{fit, the-run}
 
 abbrev plan : Deal → List Response → ℕ → ℕ → ℕ → ℕ → Plan
 plan d rs p left held A = record { want = wants d rs p left held A; final = isFinal d rs p left held A }

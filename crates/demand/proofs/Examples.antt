@@ -10,9 +10,9 @@ use Rattle.board.specs.Lists.{sum, filter}
 use Rattle.board.specs.Board.{noResponse, liveIn, inserted, inSequence}
 use Rattle.share.specs.Share.{shares}
 use Rattle.share.specs.Fills.{words}
 use Rattle.trade.specs.declared.Deal.{Deal}
-use Rattle.trade.specs.Trade.{levelFills, guaranteeOf, top, entry, next, offersAt, matches, isFinal, wants, levelAt, walk, marketPrice, levels, fills}
-use Rattle.trade.specs.Write.{fillsOf}
+use Rattle.trade.specs.rules.Trade.{levelFills, guaranteeOf, top, entry, next, offersAt, matches, isFinal, wants, levelAt, walk, marketPrice, levels, fills}
+use Rattle.trade.specs.rules.Write.{fillsOf}
 
 -- sequence, size, price; no Customer's
 abbrev pub gtx : ℕ → ℕ → ℕ → Response

@@ -9,7 +9,8 @@ use Rattle.board.specs.Lists.Shuffles.{none, more}
 use Rattle.board.specs.Board.{inSequence}
 use Rattle.board.proofs.ListLaws.{inserts-every, shuffles-every}
 use Rattle.board.proofs.SequenceLaws.{sequence-shuffles}
-use Rattle.trade.specs.Demands.{In, Distinct}
+use Rattle.trade.specs.inside.Lists.{In}
+use Rattle.demand.specs.promises.Demands.{Distinct}
 
 -- ---- one more at some place
 

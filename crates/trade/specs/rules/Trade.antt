@@ -41,6 +41,10 @@ customers l = filter isCustomer (l .here)
 abbrev pub others : Level → List Response
 others l = filter isOther (l .here)
 
+-- the size of all responses at a level: document 01's A
+abbrev pub sizeHere : Level → ℕ
+sizeHere l = sum (sizes (l .here))
+
 abbrev pub afterCustomers : Level → ℕ
 afterCustomers l = l .left - sum (sizes (customers l))
 

@@ -11,11 +11,11 @@ use Rattle.board.specs.declared.Response.{Response}
 use Rattle.board.specs.Lists.{filter, sum}
 use Rattle.board.specs.Board.{liveIn, inserted, inSequence}
 use Rattle.share.specs.Fills.{Fill}
 use Rattle.trade.specs.declared.Deal.{Deal}
-use Rattle.trade.specs.Trade.{offers, Level, guaranteeOf, top, entry, next, offersAt, matches, isFinal, wants, levelAt, walk, marketPrice, levels, fills}
-use Rattle.trade.specs.Demands.{got, soldAt, Sound, Demand3}
-use Rattle.trade.proofs.Examples.{gtx, board, deal, ended}
-use Rattle.trade.proofs.Theorems.{demand3}
+use Rattle.trade.specs.rules.Trade.{offers, Level, guaranteeOf, top, entry, next, offersAt, matches, isFinal, wants, levelAt, walk, marketPrice, levels, fills}
+use Rattle.demand.specs.promises.Demands.{got, soldAt, Sound, Demand3}
+use Rattle.demand.proofs.Examples.{gtx, board, deal, ended}
+use Rattle.demand.proofs.Theorems.{demand3}
 
 -- ---- case b
 

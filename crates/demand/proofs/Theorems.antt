@@ -14,22 +14,26 @@ use Rattle.board.specs.Lists.{Every, keep, sum}
 use Rattle.board.specs.Board.{liveOf, inSequence}
 use Rattle.share.specs.Share.{Near}
 use Rattle.share.specs.Fills.{Fill, sizes}
 use Rattle.trade.specs.declared.Deal.{Deal}
-use Rattle.trade.specs.Trade.{offers, Level, others, shared, levelFills, total, flat, working, workingStop, top, entry, guarantee, marketPrice, marketTakes, marketFill, levels, fills}
-use Rattle.trade.specs.Demands.{In, Absent, Distinct, tally, got, gotAt, gotBelow, gots, soldAt, soldAbove, times, isMarket, walked, othersAt, InRange, Sound, Known, theContra, theMarket, aResponse, Lowest, MarketAt, ByLevel, Demand3, Demands, Few}
+use Rattle.trade.specs.rules.Trade.{offers, Level, others, shared, levelFills, total, flat, working, workingStop, top, entry, guarantee, marketPrice, marketTakes, marketFill, levels, fills}
+use Rattle.trade.specs.inside.Lists.{In}
+use Rattle.demand.specs.promises.Demands.{Absent, Distinct, tally, got, gotAt, gotBelow, gots, soldAt, soldAbove, times, isMarket, walked, othersAt, InRange, Sound, Known, theContra, theMarket, aResponse, Lowest, MarketAt, ByLevel, Demand3, Demands, Few}
 use Rattle.board.proofs.ListLaws.{filter-fail, shuffles-length}
 use Rattle.board.proofs.SequenceLaws.{sequence-shuffles, sequence-rises}
 use Rattle.trade.proofs.CodeLaws.{live-short}
-use Rattle.trade.proofs.Lists.{gots-same, tally-append, tally-and, keep-all, all-any, all-append, all-map, all-in, got-none, soldAt-none, total-append, total-fill, got-fill, all-fill}
-use Rattle.trade.proofs.Order.{in-sequence, all-sequence, distinct-sequence}
-use Rattle.trade.proofs.Levels.{traded-is, level-covered, level-near, level-first}
-use Rattle.trade.proofs.Walk.{Fit, Run, top-below, runs}
-use Rattle.trade.proofs.Runs.{run-left, run-held, run-who, got-append, sold-append, run-total, run-range, run-each, run-absent, run-guarantee, run-only, run-fits, run-level, run-priority, here-distinct, is-here}
-use Rattle.trade.proofs.Counts.{fills-short, times-append, times-party, times-fill, run-once}
-use Rattle.trade.proofs.Fair.{at-price, run-near, run-covered, run-guaranteed, run-customers}
-use Rattle.trade.proofs.Turns.{run-earlier, run-before}
-use Rattle.trade.proofs.Limits.{run-entry, run-top, run-prices, run-sold}
-use Rattle.trade.proofs.Market.{market-bound, market-top, market-least, price-matched, price-midpoint, price-lower, price-alone}
+use Rattle.demand.proofs.Lists.{gots-same, tally-append, tally-and, keep-all, all-any, all-append, all-map, all-in, got-none, soldAt-none, got-fill, all-fill}
+use Rattle.trade.proofs.Lists.{total-append, total-fill}
+use Rattle.demand.proofs.Order.{in-sequence, all-sequence, distinct-sequence}
+use Rattle.trade.proofs.Levels.{traded-is}
+use Rattle.demand.proofs.Levels.{level-covered, level-near, level-first}
+use Rattle.demand.proofs.Walk.{Fit, Run, top-below, runs}
+use Rattle.demand.proofs.Runs.{run-left, run-held, run-who, got-append, sold-append, run-total, run-range, run-each, run-absent, run-guarantee, run-only, run-fits, run-level, run-priority, here-distinct, is-here}
+use Rattle.trade.proofs.Counts.{fills-short}
+use Rattle.demand.proofs.Counts.{times-append, times-party, times-fill, run-once}
+use Rattle.demand.proofs.Fair.{at-price, run-near, run-covered, run-guaranteed, run-customers}
+use Rattle.demand.proofs.Turns.{run-earlier, run-before}
+use Rattle.demand.proofs.Limits.{run-entry, run-top, run-prices, run-sold}
+use Rattle.demand.proofs.Market.{market-bound, market-top, market-least, price-matched, price-midpoint, price-lower, price-alone}
 
 module _ (d : Deal) (rs : List Response) (s : Fit d rs) where
   -- ---- the market order

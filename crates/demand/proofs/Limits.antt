@@ -10,13 +10,14 @@ use lib.Dec.{leb, ltb, eqb}
 use lib.ListN.{length}
 use Rattle.board.specs.declared.Response.{Response}
 use Rattle.board.specs.Lists.{Every, sum}
 use Rattle.trade.specs.declared.Deal.{Deal}
-use Rattle.trade.specs.Trade.{Level, shared, given, rest, contra, levelFills, total, flat, top, entry, offersAt}
-use Rattle.trade.specs.Demands.{In, soldAt}
-use Rattle.trade.proofs.Lists.{all-append, all-map, tally-all, got-zero, soldAt-none}
-use Rattle.trade.proofs.Levels.{all-level, got-contra}
-use Rattle.trade.proofs.Walk.{Fit, Good, Run}
-use Rattle.trade.proofs.Runs.{sold-append, run-from, run-above, no-contra}
+use Rattle.trade.specs.rules.Trade.{Level, shared, given, rest, contra, levelFills, total, flat, top, entry, offersAt}
+use Rattle.trade.specs.inside.Lists.{In}
+use Rattle.demand.specs.promises.Demands.{soldAt}
+use Rattle.demand.proofs.Lists.{all-append, all-map, tally-all, got-zero, soldAt-none}
+use Rattle.demand.proofs.Levels.{all-level, got-contra}
+use Rattle.demand.proofs.Walk.{Fit, Good, Run}
+use Rattle.demand.proofs.Runs.{sold-append, run-from, run-above, no-contra}
 
 module _ (d : Deal) (rs : List Response) (s : Fit d rs) where
   -- below its entry price the Contra Order gets nothing
