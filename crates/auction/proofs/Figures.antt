@@ -5,7 +5,8 @@ use Rattle.board.specs.Lists.{filter, sum}
 use Rattle.board.specs.Board.{emptyBoard, liveIn, placed, findIn, inserted, inSequence}
 use Rattle.share.specs.Share.{shares}
 use Rattle.tape.specs.Form.{orderTests, orderFormed, shapeOf, shapeTests, eventFormed}
-use Rattle.trade.specs.rules.Trade.{levelFills, top, entry, next, guaranteeOf, offersAt, matches, isFinal, wants, levelAt, walk, marketPrice, levels, fills}
+use Rattle.trade.specs.rules.Trade.{levelFills, top, entry, next, guaranteeOf, offersAt, levelAt, walk, marketPrice, levels, fills}
+use Rattle.trade.specs.rules.Plan.{mode1, mode2, mode3}
 use Rattle.trade.specs.rules.Write.{fillsOf}
 use Rattle.auction.specs.Mirror.{mirrored, mirroredMarks, mirroredSide, mirroredOrder, mirroredPriced, mirroredMarket, mirroredQuotes, mirroredEvent, buyOrder, buyEvent}
 use Rattle.auction.specs.Accept.{initiatingOf, tickOf, boundOf, guaranteedOf, rangeRefusal, buyRefusal, orderRefusal, termsOf, quotesOf, openedBy, noAuction, acceptOf}
@@ -14,5 +15,5 @@ use Rattle.auction.specs.Fills.{boundNow, rangeOf, dealOf}
 use Rattle.auction.specs.Figures.{cases, Figures}
 
 pub figures : Figures
-unfolding cases withBit withoutBit onesIn clearIn filter sum emptyBoard liveIn placed findIn inserted inSequence shares orderTests orderFormed shapeOf shapeTests eventFormed levelFills top entry next guaranteeOf offersAt matches isFinal wants levelAt walk marketPrice levels fills fillsOf mirrored mirroredMarks mirroredSide mirroredOrder mirroredPriced mirroredMarket mirroredQuotes mirroredEvent buyOrder buyEvent initiatingOf tickOf boundOf guaranteedOf rangeRefusal buyRefusal orderRefusal termsOf quotesOf openedBy noAuction acceptOf eventRefusal gtxOutcome cancelOutcome sellLimitOutcome bidQuotes buyLimitOutcome limitOutcome marketOutcome newQuotes quotesOutcome outcomeOf after endedByTime stepOf closeOf boundNow rangeOf dealOf
+unfolding cases withBit withoutBit onesIn clearIn filter sum emptyBoard liveIn placed findIn inserted inSequence shares orderTests orderFormed shapeOf shapeTests eventFormed levelFills top entry next guaranteeOf offersAt mode1 mode2 mode3 levelAt walk marketPrice levels fills fillsOf mirrored mirroredMarks mirroredSide mirroredOrder mirroredPriced mirroredMarket mirroredQuotes mirroredEvent buyOrder buyEvent initiatingOf tickOf boundOf guaranteedOf rangeRefusal buyRefusal orderRefusal termsOf quotesOf openedBy noAuction acceptOf eventRefusal gtxOutcome cancelOutcome sellLimitOutcome bidQuotes buyLimitOutcome limitOutcome marketOutcome newQuotes quotesOutcome outcomeOf after endedByTime stepOf closeOf boundNow rangeOf dealOf
 figures = refl

@@ -15,7 +15,8 @@ use Rattle.tape.specs.declared.Order.{Order}
 use Rattle.tape.specs.declared.Event.{Event}
 use Rattle.tape.specs.Form.{orderFormed, eventFormed}
 use Rattle.trade.specs.declared.Deal.{Deal}
-use Rattle.trade.specs.rules.Trade.{Level, offers, fills, top, entry, next, offersAt, matches, isFinal, wants, levelAt, walk, marketPrice, levels, flat, total, levelFills, contra}
+use Rattle.trade.specs.rules.Trade.{Level, offers, fills, top, entry, next, offersAt, levelAt, walk, marketPrice, levels, flat, total, levelFills, contra}
+use Rattle.trade.specs.rules.Plan.{mode1, mode2, mode3}
 use Rattle.trade.specs.rules.Write.{shown, reported, fillsOf}
 use Rattle.auction.specs.Mirror.{mirrored, mirroredOrder, mirroredEvent, buyOrder, buyEvent}
 use Rattle.auction.specs.Accept.{orderRefusal, buyRefusal, termsOf, openedBy, noAuction, acceptOf}
@@ -173,7 +174,7 @@ module _ (d : Deal) (t : Bool) where
 
   module _ (rs : List Response) where
     level-same : (p left held : ℕ) → levelAt on rs p left held ≡ levelAt d rs p left held
-    unfolding levelAt offersAt wants isFinal matches entry top
+    unfolding levelAt offersAt mode3 mode2 mode1 entry top
     level-same p left held = refl
 
     walk-same : (n from left held : ℕ) → walk on rs n from left held ≡ walk d rs n from left held

@@ -25,7 +25,7 @@ use Rattle.trade.specs.rules.Write.{shown, reported, fillsOf}
 use Rattle.demand.specs.promises.Demands.{Absent, Distinct, InRange, Demand3, Sound as SoundDeal}
 use Rattle.demand.proofs.Lists.{all-map}
 use Rattle.demand.proofs.Theorems.{demand3}
-use Rattle.demand.proofs.Plans.{plans}
+use Rattle.demand.proofs.Theorems.{plans}
 use Rattle.auction.specs.Mirror.{mirrored, mirroredOrder, buyOrder, buyEvent}
 use Rattle.auction.specs.Accept.{initiatingOf, boundOf, firstBound, termsOf, quotesOf, openedBy, acceptOf}
 use Rattle.auction.specs.Step.{isOpen, boundBy, responseOf, boardAfter, quotesAfter, marketAfter, after, endedByTime, gives, carried, isFull, stepOf, closeOf}

@@ -13,7 +13,7 @@ use Rattle.board.specs.Lists.{filter, sum}
 use Rattle.share.specs.Share.{shares, Near}
 use Rattle.share.specs.Fills.{Fill, sizes}
 use Rattle.trade.specs.declared.Deal.{Deal}
-use Rattle.trade.specs.rules.Trade.{isOther, Level, others, first, shared, given, rest, contra, levelFills, total, flat, working, entry, guarantee, offersAt, wants, walk, fills, sizeHere}
+use Rattle.trade.specs.rules.Trade.{isOther, Level, others, first, shared, given, rest, contra, levelFills, total, flat, working, entry, guarantee, offersAt, walk, fills, sizeHere}
 use Rattle.trade.specs.inside.Lists.{In}
 use Rattle.demand.specs.promises.Demands.{Distinct, got, gotBelow, gots, soldAbove, othersAt}
 use Rattle.demand.proofs.Lists.{all-map, in-keep, keep-in, keep-test, tally-append, tally-all, gots-same}

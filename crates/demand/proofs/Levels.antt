@@ -13,7 +13,7 @@ use Rattle.board.specs.Lists.{Every, sum}
 use Rattle.share.specs.Share.{inTurn, Each, Near}
 use Rattle.share.proofs.ShareLaws.{shares-fit, shares-near, each-flip, turn-fit, turn-full, shares-full, shares-length}
 use Rattle.share.specs.Fills.{Fill, fillOf, fillsBy, sizes}
-use Rattle.trade.specs.rules.Trade.{isCustomer, isOther, Level, customers, others, first, shared, given, contra, levelFills, total, wants, sizeHere}
+use Rattle.trade.specs.rules.Trade.{isCustomer, isOther, Level, customers, others, first, shared, given, contra, levelFills, total, sizeHere}
 use Rattle.trade.specs.inside.Lists.{In}
 use Rattle.demand.specs.promises.Demands.{Absent, Distinct, got, gots}
 use Rattle.trade.proofs.Levels.{given-sum, traded-is}

@@ -10,6 +10,5 @@ pub mod Turns
 pub mod Limits
 pub mod Market
 pub mod Theorems
-pub mod Plans
 pub mod Teeth
 pub mod Examples

@@ -27,6 +27,14 @@ module _ (d : Deal) (rs : List Response) (s : Fit d rs) where
       let r : rest l ≡ 0 = ap (λ b. cond b (shared l - sum (given l)) 0) (w .1) in
       omega (arith, w .0)
 
+  -- so on arriving at its entry price, and before, it holds what it held at first
+  pub run-early : (from left held : ℕ) (ls : List Level) → Run d rs from left held ls → (l : Level) → In l ls → l .price ≤ entry d → l .held ≡ held
+  run-early from left held [] r l m h = absurd m
+  run-early from left held (x ∷ xs) r l (inl e) h = ap (λ (y : Level). y .held) e ∙ r .0 .held-is
+  run-early from left held (x ∷ xs) r l (inr m) h =
+      let k : x .price + 1 ≤ l .price = run-above d rs s _ _ _ xs (r .1) l m in
+      omega (arith, run-early _ _ _ xs (r .1) l m h, none-early from left held x (r .0) (omega arith))
+
   pub run-entry : (from left held : ℕ) (ls : List Level) → Run d rs from left held ls → Every (λ f. f .party ≡ 0 → entry d ≤ f .price) (flat ls)
   run-entry from left held [] r = tt
   run-entry from left held (l ∷ ls) r =

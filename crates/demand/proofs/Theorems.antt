@@ -1,6 +1,6 @@
 -- Demand 3, as a theorem about the definition `fills`.
 use mathlib.Core.Path.{_≡_, refl, sym, ap, _∙_, subst}
-use mathlib.Core.Bool.{Bool, true, false, not, _&&_, true≢false}
+use mathlib.Core.Bool.{Bool, true, false, cond, not, _&&_, true≢false}
 use mathlib.Core.List.{List, [], _∷_, _++_}
 use mathlib.Core.Logic.{inl, inr, _≢_}
 use Prim.Native.Nat.{ℕ, suc, _-_, _≤_, _<_, min, max}
@@ -15,9 +15,10 @@ use Rattle.board.specs.Board.{liveOf, inSequence}
 use Rattle.share.specs.Share.{Near}
 use Rattle.share.specs.Fills.{Fill, sizes}
 use Rattle.trade.specs.declared.Deal.{Deal}
-use Rattle.trade.specs.rules.Trade.{offers, Level, others, shared, levelFills, total, flat, working, workingStop, top, entry, guarantee, marketPrice, marketTakes, marketFill, levels, fills}
+use Rattle.trade.specs.rules.Plan.{planOf}
+use Rattle.trade.specs.rules.Trade.{sizeHere, offers, Level, others, shared, levelFills, total, flat, working, workingStop, top, entry, guarantee, marketPrice, marketTakes, marketFill, levels, fills}
 use Rattle.trade.specs.inside.Lists.{In}
-use Rattle.demand.specs.promises.Demands.{Absent, Distinct, tally, got, gotAt, gotBelow, gots, soldAt, soldAbove, times, isMarket, walked, othersAt, InRange, Sound, Known, theContra, theMarket, aResponse, Lowest, MarketAt, ByLevel, Demand3, Demands, Few}
+use Rattle.demand.specs.promises.Demands.{planOn, Plans, Absent, Distinct, tally, got, gotAt, gotBelow, gots, soldAt, soldAbove, times, isMarket, walked, othersAt, InRange, Sound, Known, theContra, theMarket, aResponse, Lowest, MarketAt, ByLevel, Demand3, Demands, Few}
 use Rattle.board.proofs.ListLaws.{filter-fail, shuffles-length}
 use Rattle.board.proofs.SequenceLaws.{sequence-shuffles, sequence-rises}
 use Rattle.trade.proofs.CodeLaws.{live-short}
@@ -32,7 +33,7 @@ use Rattle.trade.proofs.Counts.{fills-short}
 use Rattle.demand.proofs.Counts.{times-append, times-party, times-fill, run-once}
 use Rattle.demand.proofs.Fair.{at-price, run-near, run-covered, run-guaranteed, run-customers}
 use Rattle.demand.proofs.Turns.{run-earlier, run-before}
-use Rattle.demand.proofs.Limits.{run-entry, run-top, run-prices, run-sold}
+use Rattle.demand.proofs.Limits.{run-early, run-entry, run-top, run-prices, run-sold}
 use Rattle.demand.proofs.Market.{market-bound, market-top, market-least, price-matched, price-midpoint, price-lower, price-alone}
 
 module _ (d : Deal) (rs : List Response) (s : Fit d rs) where
@@ -249,6 +250,18 @@ module _ (d : Deal) (rs : List Response) (s : Fit d rs) where
         run-each d rs s (λ l. (working d o ≡ l .price → In o (l .here)) × Distinct (l .here))
         (λ from left held l g. (is-here d rs s o m from left held l g, here-distinct d rs s o m from left held l g)) _ _ _ (levels d rs) the-run l n
 
+    planned-of : planOn l ≡ planOf (d .mode) (workingStop d) (d .initiating) (guarantee d rs) (l .price) (l .left) (l .held) (sizeHere l)
+    planned-of =
+        run-each d rs s (λ x. planOn x ≡ planOf (d .mode) (workingStop d) (d .initiating) (guarantee d rs) (x .price) (x .left) (x .held) (sizeHere x)) (λ from left held x g. g .planned) _ _ _ (levels d rs) the-run l n
+
+    none-held : d .mode ≡ 1 → l .held ≡ 0
+    unfolding entry top
+    none-held m =
+        let e : entry d ≡ workingStop d = ap (λ (k : ℕ). cond (eqb k 2) 0 (workingStop d)) m in
+        let t : top d ≡ workingStop d = ap (λ (k : ℕ). cond (eqb k 1) (workingStop d) (d .initiating)) m in
+        let h : l .price ≤ top d = run-each d rs s (λ x. x .price ≤ top d) (λ from left held x g. g .in-top) _ _ _ (levels d rs) the-run l n in
+        run-early d rs s _ _ _ (levels d rs) the-run l n (omega arith)
+
     filled-of : (o : Response) → In o rs → o .customer ≡ false → working d o ≡ l .price → sum (sizes (others l)) ≤ shared l → got (o .sequence) (fills d rs) ≡ o .size
     filled-of o m c w h = at-level l n o m w ∙ level-covered l o (positive-of o m) (there o m .1) (there o m .0 w) c h
 
@@ -308,6 +321,8 @@ module _ (d : Deal) (b : Board) (s : Sound d b) where
       record {
         arrives = rw (walked-levels d (offers b) fit) (omega (arith, run-left d (offers b) fit _ _ _ (levels d (offers b)) (the-run d (offers b) fit) l n));
         holds = omega (arith, run-held d (offers b) fit _ _ _ (levels d (offers b)) (the-run d (offers b) fit) l n, below-levels d (offers b) fit (l .price));
+        planned = planned-of d (offers b) fit l n;
+        comes-with-none = none-held d (offers b) fit l n;
         trades = rw (walked-levels d (offers b) fit) (run-sold d (offers b) fit _ _ _ (levels d (offers b)) (the-run d (offers b) fit) l n ∙ traded-is l);
         filled = λ r m. filled-of d (offers b) fit l n r (into r m);
         short = λ r m. short-of d (offers b) fit l n r (into r m);
@@ -351,6 +366,9 @@ module _ (d : Deal) (b : Board) (s : Sound d b) where
 
 pub demand3 : Demands
 demand3 d b s = clauses d b s
+
+pub plans : Plans
+plans d b s l n = demand3 d b s .by-level l n .planned
 
 pub few : Few
 few d b g = fills-short d (offers b) (omega (arith, shuffles-length (sequence-shuffles (liveOf b)), live-short (b .live) (b .places), g .places-are))

@@ -1,5 +1,5 @@
 -- The walk from price to price: what its levels are, and what follows of them all.
-use mathlib.Core.Path.{_≡_, refl, sym, ap, _∙_}
+use mathlib.Core.Path.{_≡_, refl, sym, ap, ap₂, _∙_}
 use mathlib.Core.Bool.{Bool, true, false, cond, _&&_, _||_, true≢false}
 use mathlib.Core.List.{List, [], _∷_}
 use mathlib.Core.Logic.{_⊎_, inl, inr, _≢_}
@@ -11,9 +11,12 @@ use lib.ListN.{length}
 use Rattle.board.specs.declared.Response.{Response}
 use Rattle.board.specs.Lists.{Every}
 use Rattle.trade.specs.declared.Deal.{Deal}
-use Rattle.trade.specs.rules.Trade.{Level, contra, levelFills, total, working, workingStop, top, entry, next, guarantee, offersAt, matches, isFinal, wants, levelAt, walk, levels, sizeHere}
+use Rattle.trade.specs.rules.Plan.{Plan, planOf}
+use Rattle.trade.specs.rules.Trade.{Level, contra, levelFills, total, working, workingStop, top, entry, next, guarantee, offersAt, levelAt, walk, levels, sizeHere}
 use Rattle.trade.specs.inside.Lists.{In}
-use Rattle.demand.specs.promises.Demands.{Absent, Distinct, planOf}
+use Rattle.trade.specs.inside.Code.{matchOf, lastOf, wantOf}
+use Rattle.demand.specs.promises.Demands.{Absent, Distinct, planOn}
+use Rattle.trade.proofs.PlanLaws.{plan-is}
 use Rattle.trade.proofs.Walk.{next-holds, next-above, next-top, next-least, next-some, walk-none, walk-some}
 use Rattle.demand.proofs.Levels.{traded-final}
 
@@ -81,7 +84,7 @@ pub record Good (d : Deal) (rs : List Response) (from left held : ℕ) (l : Leve
   pub in-bound : d .bound ≤ l .price
   pub in-top : l .price ≤ top d
   pub least : (o : Response) → In o rs → from ≤ working d o → l .price ≤ working d o
-  pub planned : planOf l ≡ record { want = wants d rs (l .price) (l .left) (l .held) (sizeHere l); final = isFinal d rs (l .price) (l .left) (l .held) (sizeHere l) }
+  pub planned : planOn l ≡ planOf (d .mode) (workingStop d) (d .initiating) (guarantee d rs) (l .price) (l .left) (l .held) (sizeHere l)
   pub here-are : l .here ≡ offersAt d rs (l .price)
   pub left-is : l .left ≡ left
   pub left-some : 0 < left
@@ -100,41 +103,64 @@ Run d rs from left held [] = left ≡ 0
 Run d rs from left held (l ∷ ls) = Good d rs from left held l × Run d rs (l .price + 1) (left - total (levelFills l)) (held + contra l) ls
 
 module _ (d : Deal) (rs : List Response) (s : Fit d rs) where
-  final-top : (p left held A : ℕ) → p ≤ top d → isFinal d rs p left held A ≡ false → p < top d
-  unfolding isFinal
-  final-top p left held A h e = go (eqb p (top d)) refl
-    where
-      go : (b : Bool) → eqb p (top d) ≡ b → p < top d
-      go true q =
-          let t : p ≡ top d = eqb-true p (top d) q in
-          let c : leb (entry d) p ≡ true = le-leb (entry d) p (omega (arith, entry-below d rs s)) in
-          absurd (true≢false (sym (rw (c, q)) ∙ e))
-      go false q =
-          let n : p ≢ top d = eqb-false p (top d) q in
-          omega arith
+  -- the plan of its mode, and by numbers
+  abbrev plan : ℕ → ℕ → ℕ → ℕ → Plan
+  plan p left held A = planOf (d .mode) (workingStop d) (d .initiating) (guarantee d rs) p left held A
 
-  final-wants : (p left held A : ℕ) → isFinal d rs p left held A ≡ true → wants d rs p left held A ≡ guarantee d rs - held
-  unfolding wants
-  final-wants p left held A e = rw e
+  abbrev match : ℕ → ℕ → ℕ
+  match held A = matchOf (d .mode) (guarantee d rs) held A
 
-  below-wants : (p left held A : ℕ) → p < entry d → (wants d rs p left held A ≡ 0) × (isFinal d rs p left held A ≡ false)
-  unfolding wants isFinal
-  below-wants p left held A h = let e : leb (entry d) p ≡ false = lt-leb (entry d) p h in (rw e, rw e)
+  abbrev last : ℕ → ℕ → ℕ → ℕ → Bool
+  last p left held A = lastOf (entry d) (top d) p left (A + match held A)
 
-  open-wants : (p left held A : ℕ) → isFinal d rs p left held A ≡ false → ((p < entry d) × (wants d rs p left held A ≡ 0)) ⊎ (A + wants d rs p left held A < left)
-  unfolding wants isFinal
-  open-wants p left held A e = go (leb (entry d) p) refl
-    where
-      and-or : (b c : Bool) → (true && (b || c)) ≡ false → c ≡ false
-      and-or true c e = absurd (true≢false e)
-      and-or false c e = e
+  abbrev want : ℕ → ℕ → ℕ → ℕ → ℕ
+  want p left held A = wantOf (last p left held A) (entry d) p (guarantee d rs) held (match held A)
 
-      go : (b : Bool) → leb (entry d) p ≡ b → ((p < entry d) × (wants d rs p left held A ≡ 0)) ⊎ (A + wants d rs p left held A < left)
-      go true q =
-          let f : leb left (A + matches d rs held A) ≡ false = and-or (eqb p (top d)) _ (ap (λ b. b && (eqb p (top d) || leb left (A + matches d rs held A))) (sym q) ∙ e) in
-          let w : wants d rs p left held A ≡ matches d rs held A = rw (e, q) in
-          inr (omega (arith, leb-false left (A + matches d rs held A) f))
-      go false q = inl (leb-false (entry d) p q, rw (q))
+  module _ (p left held A : ℕ) (h : p ≤ top d) where
+    last-is : last p left held A ≡ plan p left held A .final
+    last-is = ap (λ (q : Plan). q .final) (plan-is d (guarantee d rs) p left held A h)
+
+    want-is : want p left held A ≡ plan p left held A .want
+    want-is = ap (λ (q : Plan). q .want) (plan-is d (guarantee d rs) p left held A h)
+
+    final-top : plan p left held A .final ≡ false → p < top d
+    unfolding lastOf
+    final-top e = go (eqb p (top d)) refl
+      where
+        go : (b : Bool) → eqb p (top d) ≡ b → p < top d
+        go true q =
+            let t : p ≡ top d = eqb-true p (top d) q in
+            let c : leb (entry d) p ≡ true = le-leb (entry d) p (omega (arith, entry-below d rs s)) in
+            absurd (true≢false (sym (rw (c, q)) ∙ last-is ∙ e))
+        go false q =
+            let n : p ≢ top d = eqb-false p (top d) q in
+            omega arith
+
+    final-wants : plan p left held A .final ≡ true → plan p left held A .want ≡ guarantee d rs - held
+    unfolding wantOf
+    final-wants e = sym want-is ∙ ap (λ b. cond b (guarantee d rs - held) (cond (leb (entry d) p) (match held A) 0)) (last-is ∙ e)
+
+    below-wants : p < entry d → (plan p left held A .want ≡ 0) × (plan p left held A .final ≡ false)
+    unfolding wantOf lastOf
+    below-wants k = let e : leb (entry d) p ≡ false = lt-leb (entry d) p k in (sym want-is ∙ rw e, sym last-is ∙ rw e)
+
+    open-wants : plan p left held A .final ≡ false → ((p < entry d) × (plan p left held A .want ≡ 0)) ⊎ (A + plan p left held A .want < left)
+    unfolding wantOf lastOf
+    open-wants e = go (leb (entry d) p) refl
+      where
+        and-or : (b c : Bool) → (true && (b || c)) ≡ false → c ≡ false
+        and-or true c e = absurd (true≢false e)
+        and-or false c e = e
+
+        go : (b : Bool) → leb (entry d) p ≡ b → ((p < entry d) × (plan p left held A .want ≡ 0)) ⊎ (A + plan p left held A .want < left)
+        go true q =
+            let f : leb left (A + match held A) ≡ false = and-or (eqb p (top d)) _ (ap (λ b. b && (eqb p (top d) || leb left (A + match held A))) (sym q) ∙ last-is ∙ e) in
+            let w : plan p left held A .want ≡ match held A = sym want-is ∙ ap₂ (λ (x y : Bool). cond x (guarantee d rs - held) (cond y (match held A) 0)) (last-is ∙ e) q in
+            inr (omega (arith, leb-false left (A + match held A) f))
+        go false q = inl (below-price, below-wants below-price .0)
+          where
+            below-price : p < entry d
+            below-price = leb-false (entry d) p q
 
   peopled-at : (from : ℕ) → next d from rs < top d → 0 < length (offersAt d rs (next d from rs))
   unfolding offersAt
@@ -156,9 +182,9 @@ module _ (d : Deal) (rs : List Response) (s : Fit d rs) where
         held-is = refl;
         goes-on = final-top p left held _ (next-top d from rs);
         peopled = peopled-at from;
-        final-want = final-wants p left held _;
-        below-entry = below-wants p left held _;
-        open-want = open-wants p left held _;
+        final-want = final-wants p left held _ (next-top d from rs);
+        below-entry = below-wants p left held _ (next-top d from rs);
+        open-want = open-wants p left held _ (next-top d from rs);
       }
 
   ended : (n from left held : ℕ) → left ≡ 0 → Run d rs from left held (walk d rs n from left held)

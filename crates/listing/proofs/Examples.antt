@@ -10,7 +10,8 @@ use Rattle.tape.specs.Tape.{openTape, tapeOf}
 use Rattle.board.specs.Lists.{filter, sum}
 use Rattle.board.specs.Board.{emptyBoard, liveIn, placed, findIn, inserted, inSequence}
 use Rattle.share.specs.Share.{shares}
-use Rattle.trade.specs.rules.Trade.{levelFills, top, entry, next, guaranteeOf, offersAt, matches, isFinal, wants, levelAt, walk, marketPrice, levels, fills}
+use Rattle.trade.specs.rules.Trade.{levelFills, top, entry, next, guaranteeOf, offersAt, levelAt, walk, marketPrice, levels, fills}
+use Rattle.trade.specs.rules.Plan.{mode1, mode2, mode3}
 use Rattle.trade.specs.rules.Write.{fillsOf}
 use Rattle.auction.specs.Mirror.{mirrored, mirroredMarks, mirroredSide, mirroredOrder, mirroredPriced, mirroredMarket, mirroredQuotes, mirroredEvent, buyOrder, buyEvent}
 use Rattle.auction.specs.Accept.{initiatingOf, tickOf, boundOf, guaranteedOf, rangeRefusal, buyRefusal, orderRefusal, termsOf, quotesOf, openedBy, noAuction, acceptOf}
@@ -23,7 +24,7 @@ use Rattle.listing.specs.Demands.{tapeC, listingC, tapeE, listingE}
 
 -- a tape and its listing
 abbrev Shows : List ℕ → List ℕ → Type 0
-unfolding withBit withoutBit onesIn clearIn setIn wordAt orderTests orderFormed shapeOf shapeTests eventFormed orderWords orderOf orderSpare readOrder eventWords eventOf eventSpare readEvent trailerWords trailerOf readTrailer openTape tapeOf filter sum emptyBoard liveIn placed findIn inserted inSequence shares levelFills top entry next guaranteeOf offersAt matches isFinal wants levelAt walk marketPrice levels fills fillsOf mirrored mirroredMarks mirroredSide mirroredOrder mirroredPriced mirroredMarket mirroredQuotes mirroredEvent buyOrder buyEvent initiatingOf tickOf boundOf guaranteedOf rangeRefusal buyRefusal orderRefusal termsOf quotesOf openedBy noAuction acceptOf eventRefusal gtxOutcome cancelOutcome sellLimitOutcome bidQuotes buyLimitOutcome limitOutcome marketOutcome newQuotes quotesOutcome outcomeOf after endedByTime stepOf closeOf boundNow rangeOf dealOf digits decimal answers heardAll runOf refusedLine rangeText auctionLine answerText eventLine endText endLine partyText fillLine totalLine endLines listingOf
+unfolding withBit withoutBit onesIn clearIn setIn wordAt orderTests orderFormed shapeOf shapeTests eventFormed orderWords orderOf orderSpare readOrder eventWords eventOf eventSpare readEvent trailerWords trailerOf readTrailer openTape tapeOf filter sum emptyBoard liveIn placed findIn inserted inSequence shares levelFills top entry next guaranteeOf offersAt mode1 mode2 mode3 levelAt walk marketPrice levels fills fillsOf mirrored mirroredMarks mirroredSide mirroredOrder mirroredPriced mirroredMarket mirroredQuotes mirroredEvent buyOrder buyEvent initiatingOf tickOf boundOf guaranteedOf rangeRefusal buyRefusal orderRefusal termsOf quotesOf openedBy noAuction acceptOf eventRefusal gtxOutcome cancelOutcome sellLimitOutcome bidQuotes buyLimitOutcome limitOutcome marketOutcome newQuotes quotesOutcome outcomeOf after endedByTime stepOf closeOf boundNow rangeOf dealOf digits decimal answers heardAll runOf refusedLine rangeText auctionLine answerText eventLine endText endLine partyText fillLine totalLine endLines listingOf
 Shows tape t = listingOf tape ≡ t
 
 pub case-c : listingOf tapeC ≡ listingC

@@ -8,7 +8,7 @@ use Rattle.board.specs.Lists.{sum}
 use Rattle.share.specs.Share.{inTurn}
 use Rattle.share.proofs.ShareLaws.{shares-sum, turn-sum, turn-length, shares-length}
 use Rattle.share.specs.Fills.{fillOf, fillsBy, sizes}
-use Rattle.trade.specs.rules.Trade.{Level, customers, others, shared, given, rest, contra, levelFills, total, wants, sizeHere}
+use Rattle.trade.specs.rules.Trade.{Level, customers, others, shared, given, rest, contra, levelFills, total, sizeHere}
 use Rattle.trade.proofs.Lists.{sizes-split, total-append, total-fill, total-by}
 
 module _ (l : Level) where

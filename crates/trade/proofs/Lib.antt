@@ -1,4 +1,5 @@
 -- Laws that belong to no one function.
+pub mod PlanLaws
 pub mod CodeLaws
 pub mod FoundLaws
 pub mod WriteLaws

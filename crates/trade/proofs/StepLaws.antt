@@ -10,15 +10,18 @@ use borrow.Author.Tests.{leb-true, leb-false, ltb-true, ltb-false, eqb-true, eqb
 use lib.Dec.{leb, ltb, eqb}
 use lib.ListN.{length}
 use Rattle.board.specs.declared.Response.{Response}
-use Rattle.board.specs.Lists.{keep, filter}
+use Rattle.board.specs.Lists.{keep, filter, sum}
 use Rattle.board.specs.Board.{liveIn, wordOf, inSequence}
 use Rattle.board.proofs.LiveLaws.{word-filters}
 use Rattle.board.proofs.SequenceLaws.{sequence-filter}
+use Rattle.share.specs.Fills.{sizes}
 use Rattle.trade.specs.declared.Deal.{Deal}
 use Rattle.trade.specs.declared.Walked.{Walked}
-use Rattle.trade.specs.rules.Trade.{Level, contra, levelFills, total, working, top, next, guarantee, offersAt, matches, isFinal, wants, levelAt, walk, marketTakes, levels}
+use Rattle.trade.specs.rules.Plan.{Plan}
+use Rattle.trade.specs.rules.Trade.{Level, contra, levelFills, total, working, top, next, guarantee, offersAt, levelAt, walk, marketTakes, levels}
 use Rattle.trade.specs.inside.Lists.{In}
-use Rattle.trade.specs.inside.Code.{matchOf, lastOf, wantOf, worksAt, leastOf, levelOf, walkFrom}
+use Rattle.trade.specs.inside.Code.{worksAt, leastOf, levelOf, walkFrom}
+use Rattle.trade.proofs.PlanLaws.{plan-is}
 use Rattle.trade.proofs.Walk.{next-above, next-top, next-least, walk-none, walk-past, walk-some}
 use Rattle.trade.proofs.WriteLaws.{fold-sequence}
 
@@ -197,8 +200,14 @@ module _ (d : Deal) (ps : List Response) (live G : ℕ) (s : Walked) (g : G ≡ 
       ∙ sym (sequence-filter (worksAt (d .bound) p) (liveIn live ps))
 
   pub level-is : levelOf d ps G s ≡ levelAt d (inSequence (liveIn live ps)) (next d (s .from) (inSequence (liveIn live ps))) (s .left) (s .held)
-  unfolding levelOf levelAt wants isFinal matches lastOf wantOf matchOf
-  level-is = rw (price-next, here-next, g)
+  unfolding levelOf levelAt
+  level-is =
+      let rs = inSequence (liveIn live ps) in
+      let p = next d (s .from) rs in
+      let os = offersAt d rs p in
+      rw (price-next, here-next, g)
+      (ap (λ (q : Plan). record { price = p; left = s .left; held = s .held; want = q .want; final = q .final; here = os })
+      (plan-is d (guarantee d rs) p (s .left) (s .held) (sum (sizes os)) (next-top d (s .from) rs)))
 
   price-is : levelOf d ps G s .price ≡ next d (s .from) (inSequence (liveIn live ps))
   unfolding levelOf

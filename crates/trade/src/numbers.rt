@@ -80,10 +80,11 @@ pub(crate) fn guarantee_of(size: u64, n: u32) -> u64
 pub(crate) fn matched(mode: u8, g: u64, held: u64, a: u64) -> u64
     ensures { λ r. ⌜ (r ≡ matchOf mode g held a) × (r ≤ a) ⌝ }
 {
-    if mode == 3 {
-        if g <= held {
-            return 0;
-        }
+    if mode == 2 {
+        return a;
+    }
+    if g <= held {
+        return 0;
     }
     a
 }
