@@ -8,13 +8,13 @@ use native.Mathlib.Omega.{arith}
 use lib.Dec.{eqb}
 use borrow.Author.Tests.{eqb-false}
 use Rattle.words.proofs.BitLaws.{clear-le}
-use Rattle.board.specs.Lists.{Every, Inserts}
-use Rattle.board.specs.Lists.Inserts.{here, there}
-use Rattle.board.specs.Board.{responseAt, isLive, firstFree, liveOf, placed, cleared}
-use Rattle.board.specs.Theorems.{Good}
+use Rattle.base.specs.Lists.{Every, Inserts}
+use Rattle.base.specs.Lists.Inserts.{here, there}
+use Rattle.board.specs.rules.Board.{responseAt, isLive, firstFree, liveOf, placed, cleared}
+use Rattle.board.specs.promises.Board.{Good}
 use Rattle.board.specs.declared.Board.{Board}
 use Rattle.board.specs.declared.Response.{Response}
-use Rattle.board.proofs.ListLaws.{inserts-every, every-inserts}
+use Rattle.base.proofs.ListLaws.{inserts-every, every-inserts}
 use Rattle.board.proofs.BoardLaws.{placing, clearing, cleared-dead}
 use Rattle.demand.specs.promises.Demands.{Absent, Distinct}
 use Rattle.auction.specs.Step.{isFull}

@@ -7,15 +7,15 @@ use Prim.Native.Nat.{ℕ, _≤_, _<_, min}
 use lib.Dec.{eqb}
 use native.Mathlib.Omega.{arith}
 use borrow.Author.Tests.{eq-eqb, ne-eqb}
-use Rattle.board.specs.Lists.{Every, keep}
-use Rattle.board.specs.Board.{liveOf, findGtx}
+use Rattle.base.specs.Lists.{Every, keep}
+use Rattle.board.specs.rules.Board.{liveOf, findGtx}
 use Rattle.board.specs.declared.Response.{Response}
 use Rattle.board.proofs.BoardLaws.{empty-live}
 use Rattle.tape.specs.declared.Order.{Order}
 use Rattle.tape.specs.declared.Event.{Event}
-use Rattle.trade.specs.inside.Lists.{In}
+use Rattle.base.specs.Lists.{In}
 use Rattle.demand.specs.promises.Demands.{Distinct}
-use Rattle.demand.proofs.Lists.{all-map}
+use Rattle.base.proofs.ListLaws.{every-map}
 use Rattle.auction.specs.Mirror.{buyOrder, buyEvent}
 use Rattle.auction.specs.Accept.{openedBy, acceptOf}
 use Rattle.auction.specs.Step.{isOpen, responseOf, after, endedByTime, carried, isFull, stepOf}
@@ -108,7 +108,7 @@ pub comes-from : (o : Order) (es : List Event) → acceptOf o .answer ≡ Accept
 comes-from o es h =
     let a : Auction = acceptOf o .auction in
     let Q : Event → Type 0 = λ e. In e (takenOf a es) in
-    all-map (From Q (a .terms)) (ComesFrom (a .terms) (takenOf a es)) (liveOf (run a es .board)) (λ r f. record { event = f .event; taken = f .holds; kind = f .kind; made = f .made; named = f .named })
+    every-map (From Q (a .terms)) (ComesFrom (a .terms) (takenOf a es)) (liveOf (run a es .board)) (λ r f. record { event = f .event; taken = f .holds; kind = f .kind; made = f .made; named = f .named })
     (run-from Q es a (sound-opened o h) (nobody (opened o h .auction) Q) (λ e i. i))
   where
     nobody : acceptOf o .auction ≡ openedBy (eqb (o .side) 2) (buyOrder o) → (Q : Event → Type 0) → Every (From Q (acceptOf o .auction .terms)) (liveOf (acceptOf o .auction .board))

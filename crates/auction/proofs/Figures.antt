@@ -1,9 +1,9 @@
 -- Cases a to k of document 01, by computation. Assumes nothing.
 use mathlib.Core.Path.{refl}
-use Rattle.words.specs.Bits.{withBit, withoutBit, onesIn, clearIn}
-use Rattle.board.specs.Lists.{filter, sum}
-use Rattle.board.specs.Board.{emptyBoard, liveIn, placed, findIn, inserted, inSequence}
-use Rattle.share.specs.Share.{shares}
+use Rattle.words.specs.rules.Bits.{withBit, withoutBit, onesIn, clearIn}
+use Rattle.base.specs.Lists.{filter, sum}
+use Rattle.board.specs.rules.Board.{emptyBoard, liveIn, placed, findIn, inserted, inSequence}
+use Rattle.share.specs.rules.Share.{shares}
 use Rattle.tape.specs.Form.{orderTests, orderFormed, shapeOf, shapeTests, eventFormed}
 use Rattle.trade.specs.rules.Trade.{levelFills, top, entry, next, guaranteeOf, offersAt, levelAt, walk, marketPrice, levels, fills}
 use Rattle.trade.specs.rules.Plan.{mode1, mode2, mode3}

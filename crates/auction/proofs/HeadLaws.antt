@@ -6,10 +6,10 @@ use Prim.Native.Nat.{ℕ, _^_, _+_}
 use lib.Dec.{leb, ltb, eqb}
 use lib.ListN.{set}
 use borrow.Author.Tests.{eqb-true, eq-eqb}
-use Rattle.words.specs.Bits.{bitAt, withBit, clearIn}
+use Rattle.words.specs.rules.Bits.{bitAt, withBit, clearIn}
 use Rattle.board.specs.declared.Response.{Response}
 use Rattle.board.specs.declared.Board.{Board}
-use Rattle.board.specs.Board.{findGtx, placed}
+use Rattle.board.specs.rules.Board.{findGtx, placed}
 use Rattle.tape.specs.declared.Event.{Event}
 use Rattle.tape.specs.Form.{eventFormed}
 use Rattle.auction.specs.Mirror.{buyEvent}

@@ -8,7 +8,7 @@ use native.Mathlib.Omega.{arith}
 use lib.Dec.{leb, ltb, eqb}
 use lib.ListN.{getD}
 use borrow.Author.Tests.{le-leb, lt-leb, lt-ltb, eq-eqb, ne-eqb, eqb-true, eqb-false, leb-true}
-use Rattle.words.specs.Bits.{bitAt}
+use Rattle.words.specs.rules.Bits.{bitAt}
 use Rattle.tape.specs.declared.Order.{Order}
 use Rattle.tape.specs.declared.Event.{Event}
 use Rattle.tape.specs.Form.{allFrom, within, inside, sides, prices, orderTests, orderFormed, shapeOf, shapeTests, eventFormed}

@@ -8,14 +8,14 @@ use native.Mathlib.Nat.{le-refl, le-trans, le-of-lt}
 use native.Mathlib.Omega.{arith}
 use lib.Dec.{leb, ltb, eqb}
 use borrow.Author.Tests.{le-leb, eqb-false}
-use Rattle.words.specs.Bits.{bitAt}
-use Rattle.board.specs.Lists.{Every, keep}
-use Rattle.board.specs.Board.{findGtx}
+use Rattle.words.specs.rules.Bits.{bitAt}
+use Rattle.base.specs.Lists.{Every, keep}
+use Rattle.board.specs.rules.Board.{findGtx}
 use Rattle.tape.specs.declared.Event.{Event}
 use Rattle.tape.specs.declared.Order.{Order}
 use Rattle.tape.specs.Form.{orderFormed, eventFormed}
-use Rattle.trade.specs.inside.Lists.{In}
-use Rattle.demand.proofs.Lists.{all-in, all-map}
+use Rattle.base.specs.Lists.{In}
+use Rattle.base.proofs.ListLaws.{every-in, every-map}
 use Rattle.auction.specs.Mirror.{buyOrder, buyEvent}
 use Rattle.auction.specs.Accept.{initiatingOf, firstBound, guaranteedOf, rangeRefusal, buyRefusal, orderRefusal, acceptOf}
 use Rattle.auction.specs.Step.{isOpen, eventRefusal, after, endedByTime, gives, carried, isFull, stepOf, closeOf}
@@ -176,7 +176,7 @@ above : (es : List Event) (a : Auction) → Every (λ e. a .sequence < e .sequen
 above [] a = tt
 above (e ∷ es) a =
     go (isTaken (stepOf a e .answer)) refl
-    (all-map (λ f. stepOf a e .auction .sequence < f .sequence) (λ f. a .sequence < f .sequence) (takenOf (stepOf a e .auction) es) (λ f h. omega (arith, rises a e)) (above es (stepOf a e .auction)))
+    (every-map (λ f. stepOf a e .auction .sequence < f .sequence) (λ f. a .sequence < f .sequence) (takenOf (stepOf a e .auction) es) (λ f h. omega (arith, rises a e)) (above es (stepOf a e .auction)))
   where
     go : (b : Bool) → isTaken (stepOf a e .answer) ≡ b → Every (λ f. a .sequence < f .sequence) (takenOf (stepOf a e .auction) es) → Every (λ f. a .sequence < f .sequence) (keep b e (takenOf (stepOf a e .auction) es))
     go true z rest = (taken-is a e z .1, rest)
@@ -187,7 +187,7 @@ one a [] e f i j h = absurd i
 one a (x ∷ es) e f i j h = go (isTaken (stepOf a x .answer)) refl i j (λ i j. one (stepOf a x .auction) es e f i j h)
   where
     later : (g : Event) → isTaken (stepOf a x .answer) ≡ true → In g (takenOf (stepOf a x .auction) es) → x .sequence < g .sequence
-    later g z k = omega (arith, all-in (λ f. stepOf a x .auction .sequence < f .sequence) (takenOf (stepOf a x .auction) es) g (above es (stepOf a x .auction)) k, taken-is a x z .2)
+    later g z k = omega (arith, every-in (λ f. stepOf a x .auction .sequence < f .sequence) (takenOf (stepOf a x .auction) es) g (above es (stepOf a x .auction)) k, taken-is a x z .2)
 
     go : (b : Bool) → isTaken (stepOf a x .answer) ≡ b → In e (keep b x (takenOf (stepOf a x .auction) es)) → In f (keep b x (takenOf (stepOf a x .auction) es))
         → (In e (takenOf (stepOf a x .auction) es) → In f (takenOf (stepOf a x .auction) es) → e ≡ f) → e ≡ f

@@ -1,6 +1,6 @@
 -- Each public function's contract settles it. What is cited is made from the code's own clauses, so a clause that says less is refused here.
 use mathlib.Core.Path.{refl, sym, _∙_, ap}
-use Rattle.words.specs.Settled.{Settled}
+use Rattle.base.specs.Settled.{Settled}
 use Rattle.auction.proofs as contracts
 
 pub step : Settled contracts.events.step.ended contracts.events.step.Reads.Asked contracts.events.step.Reads.Learnt

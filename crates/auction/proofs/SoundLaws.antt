@@ -8,13 +8,13 @@ use native.Mathlib.Nat.{le-refl, le-of-lt}
 use native.Mathlib.Omega.{arith}
 use lib.Dec.{leb, ltb, eqb}
 use borrow.Author.Tests.{eqb-true}
-use Rattle.board.specs.Lists.{Every}
-use Rattle.board.specs.Board.{emptyBoard, liveOf, placed, cleared, findGtx}
-use Rattle.board.specs.Theorems.{Good}
+use Rattle.base.specs.Lists.{Every}
+use Rattle.board.specs.rules.Board.{emptyBoard, liveOf, placed, cleared, findGtx}
+use Rattle.board.specs.promises.Board.{Good}
 use Rattle.board.specs.declared.Board.{Board}
 use Rattle.board.specs.declared.Response.{Response}
 use Rattle.board.proofs.BoardLaws.{empty-good, empty-live, placed-good, cleared-good}
-use Rattle.share.specs.Fills.{Fill}
+use Rattle.share.specs.rules.Fills.{Fill}
 use Rattle.tape.specs.declared.Event.{Event}
 use Rattle.tape.specs.declared.Order.{Order}
 use Rattle.tape.specs.Form.{eventFormed, shapeOf, shapeTests, orderFormed}
@@ -23,7 +23,7 @@ use Rattle.trade.specs.declared.Deal.{Deal}
 use Rattle.trade.specs.rules.Trade.{offers, fills, total}
 use Rattle.trade.specs.rules.Write.{shown, reported, fillsOf}
 use Rattle.demand.specs.promises.Demands.{Absent, Distinct, InRange, Demand3, Sound as SoundDeal}
-use Rattle.demand.proofs.Lists.{all-map}
+use Rattle.base.proofs.ListLaws.{every-map}
 use Rattle.demand.proofs.Theorems.{demand3}
 use Rattle.demand.proofs.Theorems.{plans}
 use Rattle.auction.specs.Mirror.{mirrored, mirroredOrder, buyOrder, buyEvent}
@@ -120,10 +120,10 @@ module _ (a : Auction) (e : Event) (s : Sound a) (o : Ordinary a e) where
 
   -- those that were live stand under the new highest sequence, and none of them bears it
   stand : Every (Stands (e .sequence) (a .terms .initiating)) (liveOf (a .board))
-  stand = all-map (Stands (a .sequence) (a .terms .initiating)) (Stands (e .sequence) (a .terms .initiating)) (liveOf (a .board)) (λ r h. (h .0, omega (arith, h .1, o .newer), h .2, h .3)) (s .live)
+  stand = every-map (Stands (a .sequence) (a .terms .initiating)) (Stands (e .sequence) (a .terms .initiating)) (liveOf (a .board)) (λ r h. (h .0, omega (arith, h .1, o .newer), h .2, h .3)) (s .live)
 
   fresh : (k : ℕ) → k ≡ e .sequence → Absent k (liveOf (a .board))
-  fresh k z = all-map (Stands (a .sequence) (a .terms .initiating)) (λ r. r .sequence ≢ k) (liveOf (a .board)) (λ r h q. omega (arith, h .1, o .newer)) (s .live)
+  fresh k z = every-map (Stands (a .sequence) (a .terms .initiating)) (λ r. r .sequence ≢ k) (liveOf (a .board)) (λ r h q. omega (arith, h .1, o .newer)) (s .live)
 
   -- a response of the event is placed
   placed-sound : (r : Response) (g : Ending) → isFull (a .board) ≡ false → r .sequence ≡ e .sequence → 1 ≤ r .size → r .price ≤ a .terms .initiating → Sound (after a e (Place r) g)
@@ -199,9 +199,9 @@ sound-deal a s =
     record {
       bound-below = omega (arith, bound-is a s, s .bound-below);
       stop-below = s .stop-below;
-      prices = all-map (Stands (a .sequence) (a .terms .initiating)) (λ r. r .price ≤ a .terms .initiating) (liveOf (a .board)) (λ r h. h .3) (s .live);
+      prices = every-map (Stands (a .sequence) (a .terms .initiating)) (λ r. r .price ≤ a .terms .initiating) (liveOf (a .board)) (λ r h. h .3) (s .live);
       mode = s .mode;
-      parties = all-map (Stands (a .sequence) (a .terms .initiating)) (λ r. 0 < r .sequence) (liveOf (a .board)) (λ r h. h .0) (s .live);
+      parties = every-map (Stands (a .sequence) (a .terms .initiating)) (λ r. 0 < r .sequence) (liveOf (a .board)) (λ r h. h .0) (s .live);
       distinct = s .distinct;
       market-apart = s .market-apart;
     }

@@ -5,8 +5,8 @@ use Prim.Native.Nat.{ℕ, _+_, _≤_, _<_, min, max}
 use native.Mathlib.Omega.{arith}
 use lib.Dec.{leb, ltb, eqb}
 use borrow.Author.Tests.{ltb-true, ltb-false, leb-true, leb-false, eqb-true, eqb-false, le-ltb, eq-eqb, not-false}
-use Rattle.words.specs.Bits.{bitAt}
-use Rattle.board.specs.Board.{firstFree, findGtx}
+use Rattle.words.specs.rules.Bits.{bitAt}
+use Rattle.board.specs.rules.Board.{firstFree, findGtx}
 use Rattle.tape.specs.declared.Event.{Event}
 use Rattle.tape.specs.Form.{eventFormed}
 use Rattle.auction.specs.Mirror.{buyEvent}

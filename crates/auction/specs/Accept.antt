@@ -2,8 +2,8 @@
 use mathlib.Core.Bool.{Bool, true, false, cond, not, _&&_, _||_}
 use Prim.Native.Nat.{ℕ, _+_, _-_, min, max}
 use lib.Dec.{leb, ltb, eqb}
-use Rattle.words.specs.Bits.{bitAt}
-use Rattle.board.specs.Board.{emptyBoard}
+use Rattle.words.specs.rules.Bits.{bitAt}
+use Rattle.board.specs.rules.Board.{emptyBoard}
 use Rattle.tape.specs.declared.Order.{Order}
 use Rattle.tape.specs.Form.{orderFormed}
 use Rattle.auction.specs.Mirror.{buyOrder}

@@ -5,18 +5,19 @@ use mathlib.Core.List.{List, [], _∷_}
 use mathlib.Core.Logic.{_⊎_}
 use Prim.Native.Nat.{ℕ, _+_, _≤_, _<_, min}
 use lib.Dec.{eqb}
-use Rattle.board.specs.Lists.{Every}
-use Rattle.board.specs.Board.{liveOf}
-use Rattle.board.specs.Theorems.{Good}
+use Rattle.base.specs.Lists.{Every}
+use Rattle.board.specs.rules.Board.{liveOf}
+use Rattle.board.specs.promises.Board.{Good}
 use Rattle.board.specs.declared.Response.{Response}
-use Rattle.share.specs.Fills.{Fill}
+use Rattle.share.specs.rules.Fills.{Fill}
 use Rattle.tape.specs.declared.Order.{Order}
 use Rattle.tape.specs.declared.Event.{Event}
 use Rattle.tape.specs.Form.{orderFormed, eventFormed}
 use Rattle.trade.specs.rules.Trade.{offers, fills, total}
-use Rattle.trade.specs.inside.Lists.{In}
-use Rattle.demand.specs.promises.Demands.{Absent, Distinct, Demand3, Planned}
-use Rattle.words.specs.Bits.{bitAt}
+use Rattle.base.specs.Lists.{In}
+use Rattle.demand.specs.promises.Demands.{Absent, Distinct, Demand3}
+use Rattle.demand.specs.promises.Demands.{Planned}
+use Rattle.words.specs.rules.Bits.{bitAt}
 use Rattle.auction.specs.Mirror.{mirrored, mirroredMarks, mirroredOrder, mirroredEvent, buyEvent}
 use Rattle.auction.specs.Accept.{acceptOf}
 use Rattle.auction.specs.Step.{isOpen, boundBy, responseOf, gives, stepOf, closeOf}

@@ -3,7 +3,7 @@ use mathlib.Core.Bool.{Bool, true, false, cond}
 use mathlib.Core.List.{List, [], _∷_, map}
 use mathlib.Core.Path.{_≡_}
 use Prim.Native.Nat.{ℕ}
-use Rattle.share.specs.Fills.{Fill}
+use Rattle.share.specs.rules.Fills.{Fill}
 use Rattle.tape.specs.declared.Order.{Order}
 use Rattle.tape.specs.declared.Event.{Event}
 use Rattle.auction.specs.Accept.{acceptOf}

@@ -5,9 +5,9 @@ use mathlib.Core.List.{List}
 use Prim.Native.Nat.{ℕ}
 use lib.Dec.{leb, ltb, eqb}
 use lib.ListN.{set}
-use Rattle.words.specs.Bits.{withBit, withoutBit, clearIn}
+use Rattle.words.specs.rules.Bits.{withBit, withoutBit, clearIn}
 use Rattle.board.specs.declared.Response.{Response}
-use Rattle.board.specs.Board.{noResponse, findGtx}
+use Rattle.board.specs.rules.Board.{noResponse, findGtx}
 use Rattle.tape.specs.declared.Event.{Event}
 use Rattle.tape.specs.Form.{eventFormed}
 use Rattle.auction.specs.Mirror.{buyEvent}

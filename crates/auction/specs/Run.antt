@@ -1,7 +1,7 @@
 -- A list of events, one after the other.
 use mathlib.Core.Bool.{Bool, true, false}
 use mathlib.Core.List.{List, [], _∷_}
-use Rattle.board.specs.Lists.{keep}
+use Rattle.base.specs.Lists.{keep}
 use Rattle.tape.specs.declared.Order.{Order}
 use Rattle.tape.specs.declared.Event.{Event}
 use Rattle.auction.specs.Accept.{acceptOf}

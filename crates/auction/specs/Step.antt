@@ -2,10 +2,10 @@
 use mathlib.Core.Bool.{Bool, true, false, cond, not, _&&_, _||_}
 use Prim.Native.Nat.{ℕ, min, max}
 use lib.Dec.{leb, ltb, eqb}
-use Rattle.words.specs.Bits.{bitAt}
+use Rattle.words.specs.rules.Bits.{bitAt}
 use Rattle.board.specs.declared.Response.{Response}
 use Rattle.board.specs.declared.Board.{Board}
-use Rattle.board.specs.Board.{firstFree, placed, cleared, findGtx}
+use Rattle.board.specs.rules.Board.{firstFree, placed, cleared, findGtx}
 use Rattle.tape.specs.declared.Event.{Event}
 use Rattle.tape.specs.Form.{eventFormed}
 use Rattle.auction.specs.Mirror.{buyEvent}

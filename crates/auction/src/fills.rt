@@ -1,7 +1,7 @@
 // What an auction shows: its range, its ending, its live responses, and once it has ended its fills.
 ghost use mathlib.Core.Path.{_≡_};
 ghost use mathlib.Core.Bool.{not};
-ghost use Rattle.board.specs.Board.{liveCount};
+ghost use Rattle.board.specs.rules.Board.{liveCount};
 ghost use Rattle.auction.specs.Step.{isOpen};
 ghost use Rattle.auction.specs.Fills.{hasEnded, word, boundNow, rangeOf, dealOf, fillsAnswer, fillsAfter};
 use crate::Auction;

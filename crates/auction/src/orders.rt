@@ -3,7 +3,7 @@ ghost use mathlib.Core.Path.{_≡_};
 ghost use mathlib.Core.Bool.{cond, _||_};
 ghost use Prim.Native.Nat.{_+_, _-_, _≤_, min, max};
 ghost use lib.Dec.{ltb, eqb};
-ghost use Rattle.words.specs.Bits.{bitAt};
+ghost use Rattle.words.specs.rules.Bits.{bitAt};
 ghost use Rattle.auction.specs.Accept.{initiatingOf, tickOf, boundOf, firstBound, guaranteedOf, rangeRefusal, buyRefusal, orderRefusal, termsOf, quotesOf, openedBy, noAuction, acceptOf};
 use crate::Auction;
 use crate::Ending;

@@ -3,7 +3,7 @@ ghost use mathlib.Core.Path.{_≡_};
 ghost use mathlib.Core.Bool.{cond};
 ghost use Rattle.auction.specs.Step.{isOpen};
 ghost use Rattle.auction.specs.Head.{headOf, wholeOf, stays, headRefusal, headByTime, moved, taken, turnBy, turnOf, turnIn, outOfFormOf, closeTurn};
-ghost use Rattle.board.specs.Board.{findGtx};
+ghost use Rattle.board.specs.rules.Board.{findGtx};
 use crate::Answer;
 use crate::Auction;
 use crate::Change;

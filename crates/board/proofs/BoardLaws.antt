@@ -9,16 +9,18 @@ use lib.Dec.{lit<}
 use lib.ListN.{length, getD, set, replicate, length-set, length-replicate}
 use lib.Seq.{getD-set-same, getD-set-other}
 use borrow.Author.Tests.{lt-ltb, le-ltb, eq-eqb, eqb-true}
-use Rattle.words.specs.Bits.{bitAt, withBit, withoutBit, onesIn}
-use Rattle.words.proofs.BitLaws.{le-or-lt, past-bit, with-same, with-other, with-ones, with-fits, with-clear, without-same, without-ones, without-le, without-clear, clear-is, clear-least}
-use Rattle.board.specs.Lists.{Inserts}
-use Rattle.board.specs.Board.{noResponse, responseAt, emptyBoard, isLive, liveCount, firstFree, liveIn, liveOf, placed, cleared, isGtx, findGtx}
-use Rattle.board.specs.Theorems.{Good, Placing, Clearing, GtxAt}
+use Rattle.words.specs.rules.Bits.{bitAt, withBit, withoutBit, onesIn}
+use Rattle.base.proofs.Numbers.{le-or-lt}
+use Rattle.words.proofs.BitLaws.{past-bit, with-same, with-other, with-ones, with-fits, with-clear, without-same, without-ones, without-le, without-clear, clear-is, clear-least}
+use Rattle.base.specs.Lists.{Inserts}
+use Rattle.board.specs.rules.Board.{noResponse, responseAt, emptyBoard, isLive, liveCount, firstFree, liveIn, liveOf, placed, cleared, isGtx, findGtx}
+use Rattle.board.specs.promises.Board.{Good, Placing, Clearing, GtxAt}
 use Rattle.board.specs.declared.Response.{Response}
 use Rattle.board.specs.declared.Board.{Board}
-use Rattle.board.proofs.ListLaws.{inserts-sum}
+use Rattle.base.proofs.ListLaws.{inserts-sum}
 use Rattle.board.proofs.LiveLaws.{none-live, count-live, live-same, more-live, less-live}
-use Rattle.board.proofs.FindLaws.{and-left, and-right, and-both, find-le, find-is, find-first, find-unseen}
+use Rattle.base.proofs.Bools.{and-left, and-right, and-both}
+use Rattle.board.proofs.FindLaws.{find-le, find-is, find-first, find-unseen}
 
 -- a live place is one of the 64
 pub live-lt : (b : Board) (i : ℕ) → Good b → isLive b i ≡ true → i < 64

@@ -1,12 +1,12 @@
 -- Worked examples on a board of 64 places, by computation. Assumes nothing.
 use mathlib.Core.Path.{_≡_, refl}
-use mathlib.Core.Bool.{true, false, not}
+use mathlib.Core.Bool.{true, false}
 use mathlib.Core.List.{List, [], _∷_, _++_, map}
 use Prim.Native.Nat.{ℕ, zero, suc}
 use lib.ListN.{replicate}
-use Rattle.words.specs.Bits.{withBit, withoutBit, onesIn, clearIn}
-use Rattle.board.specs.Lists.{sum}
-use Rattle.board.specs.Board.{noResponse, emptyBoard, liveCount, firstFree, liveIn, liveOf, wordOf, placed, cleared, findIn, findGtx, inserted, inSequence, lowestFrom, firstInSequence}
+use Rattle.words.specs.rules.Bits.{withBit, withoutBit, onesIn, clearIn}
+use Rattle.base.specs.Lists.{sum}
+use Rattle.board.specs.rules.Board.{noResponse, emptyBoard, liveCount, firstFree, liveIn, liveOf, wordOf, placed, cleared, findIn, findGtx, inserted, inSequence, lowestFrom, firstInSequence}
 use Rattle.board.specs.declared.Response.{Response}
 use Rattle.board.specs.declared.Board.{Board}
 

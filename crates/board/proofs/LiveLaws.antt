@@ -10,12 +10,12 @@ use lib.Dec.{eqb}
 use lib.ListN.{length, getD, set}
 use lib.Pow.{pow-pos}
 use borrow.Author.Tests.{eq-eqb, ne-eqb}
-use Rattle.words.specs.Bits.{bitAt, withBit, withoutBit, onesIn}
-use Rattle.words.proofs.BitLaws.{bit-or, bit-zero, bit-half, bit-low, no-bit, add-half, add-odd, cut-same, cut-back, with-clear, with-other, without-set, without-not, without-in, without-other, Lowest}
-use Rattle.board.specs.Lists.{keep, filter, Every, Inserts}
-use Rattle.board.specs.Lists.Inserts.{here, there}
-use Rattle.board.specs.Board.{liveIn, wordOf}
-use Rattle.board.proofs.ListLaws.{filter-keep}
+use Rattle.words.specs.rules.Bits.{bitAt, withBit, withoutBit, onesIn}
+use Rattle.words.proofs.BitLaws.{bit-or, bit-zero, bit-half, bit-low, no-bit, add-half, add-odd, cut-same, cut-back, with-clear, with-other, without-set, without-not, without-in, without-other, LowestBit}
+use Rattle.base.specs.Lists.{keep, filter, Every, Inserts}
+use Rattle.base.specs.Lists.Inserts.{here, there}
+use Rattle.board.specs.rules.Board.{liveIn, wordOf}
+use Rattle.base.proofs.ListLaws.{filter-keep}
 
 low-bit : (w : ℕ) → w % 2 ≡ 1 → bitAt w 0 ≡ true
 low-bit w e = bit-low w ∙ eq-eqb (w % 2) 1 e
@@ -103,7 +103,7 @@ module _ {A : Type 0} where
       let ih = first-more (w / 2) i ps d (le-of-suc-le-suc l) (bit-half w i ∙ h) (λ j m. bit-half w j ∙ none (suc j) (omega arith)) in
       rw (dead-step w p ps z, dead-step (w + 2 ^ suc i) p ps (add-odd w i ∙ z), add-half) ih
 
-  pub first-live : (w i : ℕ) (ps : List A) (d : A) → i < length ps → Lowest w i → liveIn w ps ≡ getD ps i d ∷ liveIn (withoutBit w i) ps
+  pub first-live : (w i : ℕ) (ps : List A) (d : A) → i < length ps → LowestBit w i → liveIn w ps ≡ getD ps i d ∷ liveIn (withoutBit w i) ps
   first-live w i ps d l low =
       let t = low .set in
       let f = first-more (w - 2 ^ i) i ps d l (cut-same w i t) none in

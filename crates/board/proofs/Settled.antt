@@ -1,6 +1,6 @@
 -- Each public function's contract settles it. What is cited is made from the code's own clauses, so a clause that says less is refused here.
 use mathlib.Core.Path.{refl, sym, _∙_}
-use Rattle.words.specs.Settled.{Settled}
+use Rattle.base.specs.Settled.{Settled}
 use Rattle.board.proofs as contracts
 
 pub empty : Settled contracts.empty.ended contracts.empty.Reads.Asked contracts.empty.Reads.Learnt

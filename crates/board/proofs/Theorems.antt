@@ -1,8 +1,8 @@
--- The statements of specs/Theorems.antt, proved. Assumes nothing.
+-- The statements of specs/promises/Board.antt, proved. Assumes nothing.
 use Rattle.words.proofs.BitLaws.{without-other, ones-clear, clear-ones}
-use Rattle.board.specs.Theorems.{Changes, Seen, Finding, Ordering}
+use Rattle.board.specs.promises.Board.{Changes, Seen, Finding, Ordering}
 use Rattle.board.proofs.BoardLaws.{placing, placed-full, placed-good, clearing, cleared-dead, cleared-good, empty-good, empty-live, live-count, unseen-live, unseen-find, find-gtx, gtx-found, no-gtx}
-use Rattle.board.proofs.ListLaws.{shuffles-length, shuffles-sum}
+use Rattle.base.proofs.ListLaws.{shuffles-length, shuffles-sum}
 use Rattle.board.proofs.LiveLaws.{word-filters}
 use Rattle.board.proofs.SequenceLaws.{sequence-shuffles, sequence-rises, sequence-stable, sequence-filter}
 use Rattle.board.proofs.FirstLaws.{first-earliest, earliest-first, some-first, none-first, first-takes}

@@ -2,7 +2,7 @@
 ghost use mathlib.Core.Path.{_≡_};
 ghost use mathlib.Core.Bool.{cond};
 ghost use lib.Dec.{ltb};
-ghost use Rattle.board.specs.Board.{emptyBoard, isLive, liveCount, firstFree, placed, cleared, isGtx, findGtx};
+ghost use Rattle.board.specs.rules.Board.{emptyBoard, isLive, liveCount, firstFree, placed, cleared, isGtx, findGtx};
 use words::bits;
 
 // A response that stands on the board: a GTX response, or a limit order.
@@ -96,7 +96,7 @@ pub fn find_gtx(b: Board, sequence: u32) -> usize
         if is_gtx(b.places[i], sequence) {
             return i;
         }
-        rest = bits::without_bit(rest, i);
+        rest = bits::without_lowest(rest);
     }
     64
 }

@@ -1,5 +1,5 @@
 -- Each party has at most one fill at a price.
-use mathlib.Core.Path.{_≡_, refl, sym, subst}
+use mathlib.Core.Path.{_≡_, refl, ap, _∙_, sym, subst}
 use mathlib.Core.Bool.{Bool, true, false, not, _&&_}
 use mathlib.Core.List.{List, [], _∷_, _++_}
 use mathlib.Core.Logic.{_≢_}
@@ -7,16 +7,18 @@ use Prim.Native.Nat.{ℕ, suc, _+_, _≤_}
 use native.Mathlib.Omega.{arith}
 use borrow.Author.Tests.{eqb-true, eqb-false, ne-eqb}
 use lib.Dec.{eqb}
-use lib.ListN.{length}
+use lib.ListN.{length, length-append}
 use Rattle.board.specs.declared.Response.{Response}
-use Rattle.board.specs.Lists.{Every, keep, filter}
-use Rattle.share.specs.Share.{inTurn}
-use Rattle.share.specs.Fills.{Fill, fillOf, fillsBy, sizes}
+use Rattle.base.proofs.Bools.{and-no-right}
+use Rattle.base.proofs.ListLaws.{filter-append, filter-none, filter-length, every-map}
+use Rattle.base.specs.Lists.{Every, keep, filter}
+use Rattle.share.specs.rules.Share.{inTurn}
+use Rattle.share.specs.rules.Fills.{Fill, fillOf, fillsBy, sizes}
 use Rattle.trade.specs.declared.Deal.{Deal}
 use Rattle.trade.specs.rules.Trade.{isCustomer, Level, customers, others, given, contra, levelFills, flat, working, offersAt}
 use Rattle.demand.specs.promises.Demands.{Absent, Distinct, times}
-use Rattle.trade.proofs.Counts.{length-fill, keep-short}
-use Rattle.demand.proofs.Lists.{all-fill, all-map, distinct-keep}
+use Rattle.trade.proofs.Counts.{length-fill}
+use Rattle.demand.proofs.Lists.{all-fill, distinct-keep}
 use Rattle.demand.proofs.Levels.{all-level}
 use Rattle.demand.proofs.Walk.{Fit, Good, Run}
 use Rattle.demand.proofs.Runs.{no-contra, run-from}
@@ -25,40 +27,28 @@ use Rattle.demand.proofs.Runs.{no-contra, run-from}
 pub occ : ℕ → List Response → ℕ
 occ k os = length (filter (λ o. eqb (o .sequence) k) os)
 
-keep-append : {A : Type 0} (t : A → Bool) (xs ys : List A) → length (filter t (xs ++ ys)) ≡ length (filter t xs) + length (filter t ys)
-unfolding filter
-keep-append t [] ys = omega arith
-keep-append t (x ∷ xs) ys = go (t x) (keep-append t xs ys)
-  where
-    go : (b : Bool) → length (filter t (xs ++ ys)) ≡ length (filter t xs) + length (filter t ys) → length (keep b x (filter t (xs ++ ys))) ≡ length (keep b x (filter t xs)) + length (filter t ys)
-    go true h = omega arith
-    go false h = omega arith
-
-keep-none : {A : Type 0} (t : A → Bool) (xs : List A) → Every (λ x. t x ≡ false) xs → length (filter t xs) ≡ 0
-unfolding filter
-keep-none t [] a = refl
-keep-none t (x ∷ xs) a = rw (a .0) (keep-none t xs (a .1))
+-- where none passes, none is counted
+none-kept : {A : Type 0} (t : A → Bool) (xs : List A) → Every (λ x. t x ≡ false) xs → length (filter t xs) ≡ 0
+none-kept t xs a = ap length (filter-none t xs a)
 
 pub times-append : (k p : ℕ) (fs gs : List Fill) → times k p (fs ++ gs) ≡ times k p fs + times k p gs
-times-append k p fs gs = keep-append (λ f. eqb (f .party) k && eqb (f .price) p) fs gs
+times-append k p fs gs =
+    let t = λ (f : Fill). eqb (f .party) k && eqb (f .price) p in
+    ap length (filter-append t fs gs) ∙ length-append (filter t fs) (filter t gs)
 
 pub times-price : (k p : ℕ) (fs : List Fill) → Every (λ f. f .price ≢ p) fs → times k p fs ≡ 0
 times-price k p fs a =
-    keep-none (λ f. eqb (f .party) k && eqb (f .price) p) fs
-    (all-map (λ f. f .price ≢ p) (λ f. (eqb (f .party) k && eqb (f .price) p) ≡ false) fs (λ f h. go (eqb (f .party) k) (eqb (f .price) p) (ne-eqb (f .price) p h)) a)
-  where
-    go : (b c : Bool) → c ≡ false → (b && c) ≡ false
-    go true c e = e
-    go false c e = refl
+    none-kept (λ f. eqb (f .party) k && eqb (f .price) p) fs
+    (every-map (λ f. f .price ≢ p) (λ f. (eqb (f .party) k && eqb (f .price) p) ≡ false) fs (λ f h. and-no-right (eqb (f .party) k) (ne-eqb (f .price) p h)) a)
 
 pub times-party : (k p : ℕ) (fs : List Fill) → Every (λ f. f .party ≢ k) fs → times k p fs ≡ 0
 times-party k p fs a =
-    keep-none (λ f. eqb (f .party) k && eqb (f .price) p) fs
-    (all-map (λ f. f .party ≢ k) (λ f. (eqb (f .party) k && eqb (f .price) p) ≡ false) fs (λ f h. rw (ne-eqb (f .party) k h)) a)
+    none-kept (λ f. eqb (f .party) k && eqb (f .price) p) fs
+    (every-map (λ f. f .party ≢ k) (λ f. (eqb (f .party) k && eqb (f .price) p) ≡ false) fs (λ f h. rw (ne-eqb (f .party) k h)) a)
 
 pub times-fill : (k p : ℕ) (j r q : ℕ) → times k p (fillOf j r q) ≤ 1
 times-fill k p j r q =
-    omega (arith, keep-short (λ f. eqb (f .party) k && eqb (f .price) p) (fillOf j r q), length-fill j r q)
+    omega (arith, filter-length (λ f. eqb (f .party) k && eqb (f .price) p) (fillOf j r q), length-fill j r q)
 
 times-by : (k p r : ℕ) (os : List Response) (qs : List ℕ) → times k p (fillsBy r os qs) ≤ occ k os
 unfolding occ filter
@@ -93,7 +83,7 @@ occ-keep k t (o ∷ os) = go (t o) (eqb (o .sequence) k) refl (occ-keep k t os)
 
 occ-none : (k : ℕ) (os : List Response) → Absent k os → occ k os ≡ 0
 unfolding occ filter
-occ-none k os a = keep-none (λ o. eqb (o .sequence) k) os (all-map (λ o. o .sequence ≢ k) (λ o. eqb (o .sequence) k ≡ false) os (λ o h. ne-eqb (o .sequence) k h) a)
+occ-none k os a = none-kept (λ o. eqb (o .sequence) k) os (every-map (λ o. o .sequence ≢ k) (λ o. eqb (o .sequence) k ≡ false) os (λ o h. ne-eqb (o .sequence) k h) a)
 
 occ-once : (k : ℕ) (os : List Response) → Distinct os → occ k os ≤ 1
 unfolding occ filter
@@ -158,7 +148,7 @@ module _ (d : Deal) (rs : List Response) (s : Fit d rs) where
             arith,
             times-append k p (levelFills l) (flat ls),
             times-level l k p (distinct-here from left held l (r .0)) (no-contra d rs s from left held l (r .0)),
-            times-price k p (flat ls) (all-map (λ f. l .price + 1 ≤ f .price) (λ f. f .price ≢ p) (flat ls) (λ f z. omega arith) (run-from d rs s _ _ _ ls (r .1))),
+            times-price k p (flat ls) (every-map (λ f. l .price + 1 ≤ f .price) (λ f. f .price ≢ p) (flat ls) (λ f z. omega arith) (run-from d rs s _ _ _ ls (r .1))),
           )
       go false e h =
           let q : l .price ≢ p = eqb-false (l .price) p e in

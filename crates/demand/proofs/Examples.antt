@@ -6,10 +6,10 @@ use Prim.Native.Nat.{ℕ, _-_, _^_}
 use lib.ListN.{length, replicate}
 use Rattle.board.specs.declared.Response.{Response}
 use Rattle.board.specs.declared.Board.{Board}
-use Rattle.board.specs.Lists.{sum, filter}
-use Rattle.board.specs.Board.{noResponse, liveIn, inserted, inSequence}
-use Rattle.share.specs.Share.{shares}
-use Rattle.share.specs.Fills.{words}
+use Rattle.base.specs.Lists.{sum, filter}
+use Rattle.board.specs.rules.Board.{noResponse, liveIn, inserted, inSequence}
+use Rattle.share.specs.rules.Share.{shares}
+use Rattle.share.specs.rules.Fills.{words}
 use Rattle.trade.specs.declared.Deal.{Deal}
 use Rattle.trade.specs.rules.Plan.{mode1, mode2, mode3}
 use Rattle.trade.specs.rules.Trade.{levelFills, guaranteeOf, top, entry, next, offersAt, levelAt, walk, marketPrice, levels, fills}

@@ -9,15 +9,16 @@ use borrow.Author.Tests.{not-true}
 use lib.Dec.{eqb}
 use lib.ListN.{length}
 use Rattle.board.specs.declared.Response.{Response}
-use Rattle.board.specs.Lists.{Every, sum}
-use Rattle.share.specs.Share.{inTurn, Each, Near}
+use Rattle.base.specs.Lists.{Every, sum, In}
+use Rattle.share.specs.rules.Share.{inTurn}
+use Rattle.share.specs.promises.Share.{Each, Near}
 use Rattle.share.proofs.ShareLaws.{shares-fit, shares-near, each-flip, turn-fit, turn-full, shares-full, shares-length}
-use Rattle.share.specs.Fills.{Fill, fillOf, fillsBy, sizes}
+use Rattle.share.specs.rules.Fills.{Fill, fillOf, fillsBy, sizes}
 use Rattle.trade.specs.rules.Trade.{isCustomer, isOther, Level, customers, others, first, shared, given, contra, levelFills, total, sizeHere}
-use Rattle.trade.specs.inside.Lists.{In}
 use Rattle.demand.specs.promises.Demands.{Absent, Distinct, got, gots}
 use Rattle.trade.proofs.Levels.{given-sum, traded-is}
-use Rattle.demand.proofs.Lists.{all-append, all-any, all-in, all-keep, in-keep, keep-in, keep-test, distinct-keep, absent-keep, tally-append, got-none, got-fill, all-fill, all-by, absent-by, got-by, gots-same, gots-by, pairs-of}
+use Rattle.base.proofs.ListLaws.{every-append, every-any, every-in, every-filter, in-filter, filter-in, filter-test}
+use Rattle.demand.proofs.Lists.{distinct-keep, absent-keep, tally-append, got-none, got-fill, all-fill, all-by, absent-by, got-by, gots-same, gots-by, pairs-of}
 use Rattle.trade.proofs.Lists.{sizes-split}
 
 module _ (l : Level) where
@@ -52,15 +53,15 @@ module _ (l : Level) where
   -- ---- what every fill here has
 
   all-three : (P : Fill → Type 0) → Every P byCustomers → Every P byContra → Every P byOthers → Every P (levelFills l)
-  all-three P a b c = rw three (all-append P byCustomers (byContra ++ byOthers) a (all-append P byContra byOthers b c))
+  all-three P a b c = rw three (every-append P byCustomers (byContra ++ byOthers) a (every-append P byContra byOthers b c))
 
   pub all-level : (P : Fill → Type 0) → ((k q : ℕ) → 0 < q → P (record { party = k; price = l .price; quantity = q })) → Every P (levelFills l)
   unfolding byCustomers byContra byOthers
   all-level P f =
       all-three P
-      (all-by P (λ o. Unit {0}) (l .price) (λ o q u h. f (o .sequence) q h) (customers l) (inTurn (l .left) (sizes (customers l))) (all-any (λ o. Unit {0}) (customers l) (λ o. tt)))
+      (all-by P (λ o. Unit {0}) (l .price) (λ o q u h. f (o .sequence) q h) (customers l) (inTurn (l .left) (sizes (customers l))) (every-any (λ o. Unit {0}) (customers l) (λ o. tt)))
       (all-fill P 0 (l .price) (contra l) (λ h. f 0 (contra l) h))
-      (all-by P (λ o. Unit {0}) (l .price) (λ o q u h. f (o .sequence) q h) (others l) (given l) (all-any (λ o. Unit {0}) (others l) (λ o. tt)))
+      (all-by P (λ o. Unit {0}) (l .price) (λ o q u h. f (o .sequence) q h) (others l) (given l) (every-any (λ o. Unit {0}) (others l) (λ o. tt)))
 
   -- ---- who trades here
 
@@ -69,9 +70,9 @@ module _ (l : Level) where
   unfolding byCustomers byContra byOthers
   all-who Q z a =
       all-three (λ f. Q (f .party))
-      (all-by (λ f. Q (f .party)) (λ o. Q (o .sequence)) (l .price) (λ o q u h. u) (customers l) (inTurn (l .left) (sizes (customers l))) (all-keep (λ o. Q (o .sequence)) isCustomer (l .here) a))
+      (all-by (λ f. Q (f .party)) (λ o. Q (o .sequence)) (l .price) (λ o q u h. u) (customers l) (inTurn (l .left) (sizes (customers l))) (every-filter (λ o. Q (o .sequence)) isCustomer (l .here) a))
       (all-fill (λ f. Q (f .party)) 0 (l .price) (contra l) (λ h. z))
-      (all-by (λ f. Q (f .party)) (λ o. Q (o .sequence)) (l .price) (λ o q u h. u) (others l) (given l) (all-keep (λ o. Q (o .sequence)) isOther (l .here) a))
+      (all-by (λ f. Q (f .party)) (λ o. Q (o .sequence)) (l .price) (λ o q u h. u) (others l) (given l) (every-filter (λ o. Q (o .sequence)) isOther (l .here) a))
 
   absent-customers : (k : ℕ) → Absent k (customers l) → Every (λ f. f .party ≢ k) byCustomers
   unfolding byCustomers
@@ -88,9 +89,9 @@ module _ (l : Level) where
   pub absent-level : (k : ℕ) → 0 < k → Absent k (l .here) → Every (λ f. f .party ≢ k) (levelFills l)
   absent-level k z a =
       all-three (λ f. f .party ≢ k)
-      (absent-customers k (all-keep (λ o. o .sequence ≢ k) isCustomer (l .here) a))
+      (absent-customers k (every-filter (λ o. o .sequence ≢ k) isCustomer (l .here) a))
       (absent-contra k z)
-      (absent-others k (all-keep (λ o. o .sequence ≢ k) isOther (l .here) a))
+      (absent-others k (every-filter (λ o. o .sequence ≢ k) isOther (l .here) a))
 
   got-parts : (k : ℕ) → got k (levelFills l) ≡ got k byCustomers + (got k byContra + got k byOthers)
   got-parts k = rw three (omega (arith, tally-append (λ f. eqb (f .party) k) byCustomers (byContra ++ byOthers), tally-append (λ f. eqb (f .party) k) byContra byOthers))
@@ -102,8 +103,8 @@ module _ (l : Level) where
         arith,
         got-parts 0,
         got-fill 0 (l .price) (contra l),
-        got-none 0 byCustomers (absent-customers 0 (all-keep (λ o. o .sequence ≢ 0) isCustomer (l .here) a)),
-        got-none 0 byOthers (absent-others 0 (all-keep (λ o. o .sequence ≢ 0) isOther (l .here) a)),
+        got-none 0 byCustomers (absent-customers 0 (every-filter (λ o. o .sequence ≢ 0) isCustomer (l .here) a)),
+        got-none 0 byOthers (absent-others 0 (every-filter (λ o. o .sequence ≢ 0) isOther (l .here) a)),
       )
 
   -- what the others get
@@ -115,9 +116,9 @@ module _ (l : Level) where
     where
       same : (x : Response) → In x (others l) → got (x .sequence) (levelFills l) ≡ got (x .sequence) byOthers
       same x m =
-          let n : In x (l .here) = keep-in isOther (l .here) x m in
-          let c : x .customer ≡ false = not-true (x .customer) (keep-test isOther (l .here) x m) in
-          let k : x .sequence ≢ 0 = all-in (λ o. o .sequence ≢ 0) (l .here) x z n in
+          let n : In x (l .here) = filter-in isOther (l .here) x m in
+          let c : x .customer ≡ false = not-true (x .customer) (filter-test isOther (l .here) x m) in
+          let k : x .sequence ≢ 0 = every-in (λ o. o .sequence ≢ 0) (l .here) x z n in
           omega (
             arith,
             got-parts (x .sequence),
@@ -140,7 +141,7 @@ module _ (l : Level) where
         let g = customer-is c in
         let qs = inTurn (l .left) (sizes (customers l)) in
         subst (λ n. P (o .size) n) (sym g)
-        (got-by (λ x q. P (x .size) q) (l .price) (customers l) qs o (distinct-keep isCustomer (l .here) d) (in-keep isCustomer (l .here) o m c) (pairs-of P (customers l) qs e))
+        (got-by (λ x q. P (x .size) q) (l .price) (customers l) qs o (distinct-keep isCustomer (l .here) d) (in-filter isCustomer (l .here) o m c) (pairs-of P (customers l) qs e))
 
     -- another gets its share
     pub other-got : (P : ℕ → ℕ → Type 0) → o .customer ≡ false → Each P (sizes (others l)) (given l) → P (o .size) (got (o .sequence) (levelFills l))
@@ -149,7 +150,7 @@ module _ (l : Level) where
         let z : got (o .sequence) byCustomers ≡ 0 = got-none (o .sequence) byCustomers (absent-customers (o .sequence) (absent-keep isCustomer (l .here) o d m c)) in
         let g : got (o .sequence) (levelFills l) ≡ got (o .sequence) byOthers = omega (arith, got-parts (o .sequence), not-contra) in
         subst (λ n. P (o .size) n) (sym g)
-        (got-by (λ x q. P (x .size) q) (l .price) (others l) (given l) o (distinct-keep isOther (l .here) d) (in-keep isOther (l .here) o m (ap not c)) (pairs-of P (others l) (given l) e))
+        (got-by (λ x q. P (x .size) q) (l .price) (others l) (given l) o (distinct-keep isOther (l .here) d) (in-filter isOther (l .here) o m (ap not c)) (pairs-of P (others l) (given l) e))
 
     -- no more than its size
     pub level-fits : got (o .sequence) (levelFills l) ≤ o .size

@@ -9,11 +9,11 @@ use borrow.Author.Tests.{ltb-true, ltb-false, eqb-false, eq-eqb, ne-eqb}
 use lib.Dec.{ltb, eqb}
 use lib.ListN.{length}
 use Rattle.board.specs.declared.Response.{Response}
-use Rattle.board.specs.Lists.{Every, keep, filter}
-use Rattle.share.specs.Share.{Each}
-use Rattle.share.specs.Fills.{Fill, fillOf, fillsBy, sizes}
+use Rattle.base.proofs.ListLaws.{every-append, every-map, every-in, every-filter}
+use Rattle.base.specs.Lists.{Every, keep, filter, In}
+use Rattle.share.specs.promises.Share.{Each}
+use Rattle.share.specs.rules.Fills.{Fill, fillOf, fillsBy, sizes}
 use Rattle.trade.specs.rules.Trade.{total, fills}
-use Rattle.trade.specs.inside.Lists.{In}
 use Rattle.demand.specs.promises.Demands.{Absent, Distinct, tally, got, gots, soldAt}
 
 -- responses and quantities side by side
@@ -23,77 +23,13 @@ Pairs P [] (q ∷ qs) = ⊥
 Pairs P (o ∷ os) [] = ⊥
 Pairs P (o ∷ os) (q ∷ qs) = P o q × Pairs P os qs
 
--- ---- Every and In
-
-module _ {A : Type 0} where
-  pub all-append : (P : A → Type 0) (xs ys : List A) → Every P xs → Every P ys → Every P (xs ++ ys)
-  all-append P [] ys a b = b
-  all-append P (x ∷ xs) ys a b = (a .0, all-append P xs ys (a .1) b)
-
-  pub all-map : (P Q : A → Type 0) (xs : List A) → ((x : A) → P x → Q x) → Every P xs → Every Q xs
-  all-map P Q [] f a = tt
-  all-map P Q (x ∷ xs) f a = (f x (a .0), all-map P Q xs f (a .1))
-
-  pub all-any : (P : A → Type 0) (xs : List A) → ((x : A) → P x) → Every P xs
-  all-any P [] f = tt
-  all-any P (x ∷ xs) f = (f x, all-any P xs f)
-
-  pub all-in : (P : A → Type 0) (xs : List A) (a : A) → Every P xs → In a xs → P a
-  all-in P [] a h m = absurd m
-  all-in P (x ∷ xs) a h (inl e) = subst P (sym e) (h .0)
-  all-in P (x ∷ xs) a h (inr m) = all-in P xs a (h .1) m
-
-  pub all-keep : (P : A → Type 0) (t : A → Bool) (xs : List A) → Every P xs → Every P (filter t xs)
-  unfolding filter
-  all-keep P t [] a = tt
-  all-keep P t (x ∷ xs) a = go (t x) (all-keep P t xs (a .1))
-    where
-      go : (b : Bool) → Every P (filter t xs) → Every P (keep b x (filter t xs))
-      go true r = (a .0, r)
-      go false r = r
-
-  pub in-keep : (t : A → Bool) (xs : List A) (a : A) → In a xs → t a ≡ true → In a (filter t xs)
-  unfolding filter
-  in-keep t [] a m e = absurd m
-  in-keep t (x ∷ xs) a (inl p) e = rw (ap t (sym p) ∙ e) (inl p)
-  in-keep t (x ∷ xs) a (inr m) e = go (t x) (in-keep t xs a m e)
-    where
-      go : (b : Bool) → In a (filter t xs) → In a (keep b x (filter t xs))
-      go true r = inr r
-      go false r = r
-
-  pub keep-all : (t : A → Bool) (xs : List A) → Every (λ x. t x ≡ true) xs → filter t xs ≡ xs
-  unfolding filter
-  keep-all t [] a = refl
-  keep-all t (x ∷ xs) a = rw (a .0) (ap {B = List A} (λ ys. x ∷ ys) (keep-all t xs (a .1)))
-
-pub keep-in : {A : Type 0} (t : A → Bool) (xs : List A) (a : A) → In a (filter t xs) → In a xs
-unfolding filter
-keep-in t [] a m = m
-keep-in t (x ∷ xs) a m = go (t x) m (keep-in t xs a)
-  where
-    go : (b : Bool) → In a (keep b x (filter t xs)) → (In a (filter t xs) → In a xs) → In a (x ∷ xs)
-    go true (inl e) f = inl e
-    go true (inr n) f = inr (f n)
-    go false n f = inr (f n)
-
-pub keep-test : {A : Type 0} (t : A → Bool) (xs : List A) (a : A) → In a (filter t xs) → t a ≡ true
-unfolding filter
-keep-test t [] a m = absurd m
-keep-test t (x ∷ xs) a m = go (t x) refl m (keep-test t xs a)
-  where
-    go : (b : Bool) → t x ≡ b → In a (keep b x (filter t xs)) → (In a (filter t xs) → t a ≡ true) → t a ≡ true
-    go true e (inl q) f = ap t q ∙ e
-    go true e (inr n) f = f n
-    go false e n f = f n
-
 pub distinct-keep : (t : Response → Bool) (os : List Response) → Distinct os → Distinct (filter t os)
 unfolding filter
 distinct-keep t [] d = tt
 distinct-keep t (o ∷ os) d = go (t o) (distinct-keep t os (d .1))
   where
     go : (b : Bool) → Distinct (filter t os) → Distinct (keep b o (filter t os))
-    go true r = (all-keep (λ x. x .sequence ≢ o .sequence) t os (d .0), r)
+    go true r = (every-filter (λ x. x .sequence ≢ o .sequence) t os (d .0), r)
     go false r = r
 
 -- a response that is not kept leaves no response of its sequence
@@ -101,11 +37,11 @@ pub absent-keep : (t : Response → Bool) (os : List Response) (o : Response) �
 unfolding filter
 absent-keep t [] o d m e = absurd m
 absent-keep t (x ∷ xs) o d (inl p) e =
-    rw (ap t (sym p) ∙ e) (subst (λ y. Absent (y .sequence) (filter t xs)) (sym p) (all-keep (λ y. y .sequence ≢ x .sequence) t xs (d .0)))
+    rw (ap t (sym p) ∙ e) (subst (λ y. Absent (y .sequence) (filter t xs)) (sym p) (every-filter (λ y. y .sequence ≢ x .sequence) t xs (d .0)))
 absent-keep t (x ∷ xs) o d (inr m) e = go (t x) (absent-keep t xs o (d .1) m e)
   where
     apart : x .sequence ≢ o .sequence
-    apart q = all-in (λ y. y .sequence ≢ x .sequence) xs o (d .0) m (sym q)
+    apart q = every-in (λ y. y .sequence ≢ x .sequence) xs o (d .0) m (sym q)
 
     go : (b : Bool) → Absent (o .sequence) (filter t xs) → Absent (o .sequence) (keep b x (filter t xs))
     go true r = (apart, r)
@@ -143,10 +79,10 @@ tally-and s t (f ∷ fs) = go (s f) (t f) (tally-and s t fs)
     go false b h = omega arith
 
 pub got-none : (k : ℕ) (fs : List Fill) → Every (λ f. f .party ≢ k) fs → got k fs ≡ 0
-got-none k fs a = tally-none _ fs (all-map (λ f. f .party ≢ k) (λ f. eqb (f .party) k ≡ false) fs (λ f h. ne-eqb (f .party) k h) a)
+got-none k fs a = tally-none _ fs (every-map (λ f. f .party ≢ k) (λ f. eqb (f .party) k ≡ false) fs (λ f h. ne-eqb (f .party) k h) a)
 
 pub soldAt-none : (p : ℕ) (fs : List Fill) → Every (λ f. f .price ≢ p) fs → soldAt p fs ≡ 0
-soldAt-none p fs a = tally-none _ fs (all-map (λ f. f .price ≢ p) (λ f. eqb (f .price) p ≡ false) fs (λ f h. ne-eqb (f .price) p h) a)
+soldAt-none p fs a = tally-none _ fs (every-map (λ f. f .price ≢ p) (λ f. eqb (f .price) p ≡ false) fs (λ f h. ne-eqb (f .price) p h) a)
 
 -- a party that gets nothing has no fill, where none is of zero
 pub got-zero : (k : ℕ) (fs : List Fill) → Every (λ f. 0 < f .quantity) fs → got k fs ≡ 0 → Every (λ f. f .party ≢ k) fs
@@ -182,7 +118,7 @@ pub all-by : (P : Fill → Type 0) (Q : Response → Type 0) (p : ℕ) → ((o :
 all-by P Q p f [] qs a = tt
 all-by P Q p f (o ∷ os) [] a = tt
 all-by P Q p f (o ∷ os) (q ∷ qs) a =
-    all-append P (fillOf (o .sequence) p q) (fillsBy p os qs) (all-fill P (o .sequence) p q (f o q (a .0))) (all-by P Q p f os qs (a .1))
+    every-append P (fillOf (o .sequence) p q) (fillsBy p os qs) (all-fill P (o .sequence) p q (f o q (a .0))) (all-by P Q p f os qs (a .1))
 
 pub absent-by : (k p : ℕ) (os : List Response) (qs : List ℕ) → Absent k os → Every (λ f. f .party ≢ k) (fillsBy p os qs)
 absent-by k p os qs a = all-by (λ f. f .party ≢ k) (λ o. o .sequence ≢ k) p (λ o q h z. h) os qs a
@@ -198,7 +134,7 @@ got-by P p (x ∷ xs) (q ∷ qs) o d (inl e) a =
     subst (λ y. P y (got (y .sequence) (fillOf k p q ++ fillsBy p xs qs))) (sym e) (subst (λ n. P x n) (sym g) (a .0))
 got-by P p (x ∷ xs) (q ∷ qs) o d (inr m) a =
     let k = o .sequence in
-    let apart : x .sequence ≢ k = λ e. all-in (λ y. y .sequence ≢ x .sequence) xs o (d .0) m (sym e) in
+    let apart : x .sequence ≢ k = λ e. every-in (λ y. y .sequence ≢ x .sequence) xs o (d .0) m (sym e) in
     let z : got k (fillOf (x .sequence) p q) ≡ 0 = got-none k (fillOf (x .sequence) p q) (all-fill (λ f. f .party ≢ k) (x .sequence) p q (λ h. apart)) in
     let g : got k (fillOf (x .sequence) p q ++ fillsBy p xs qs) ≡ got k (fillsBy p xs qs) =
     omega (arith, tally-append (λ f. eqb (f .party) k) (fillOf (x .sequence) p q) (fillsBy p xs qs)) in
@@ -219,7 +155,7 @@ gots-by p (o ∷ os) (q ∷ qs) d e =
     ap₂ {C = List ℕ} (λ x y. x ∷ y) h
     (gots-same (fillOf k p q ++ fillsBy p os qs) (fillsBy p os qs) os
     (λ x m.
-    let apart : k ≢ x .sequence = λ z. all-in (λ y. y .sequence ≢ k) os x (d .0) m (sym z) in
+    let apart : k ≢ x .sequence = λ z. every-in (λ y. y .sequence ≢ k) os x (d .0) m (sym z) in
     omega (arith, tally-append (λ f. eqb (f .party) (x .sequence)) (fillOf k p q) (fillsBy p os qs), got-none (x .sequence) (fillOf k p q) (all-fill (λ f. f .party ≢ x .sequence) k p q (λ h. apart))))
     ∙ gots-by p os qs (d .1) (omega arith))
 

@@ -8,9 +8,9 @@ use native.Mathlib.Omega.{arith}
 use lib.Dec.{lit<, lit≤}
 use Rattle.board.specs.declared.Board.{Board}
 use Rattle.board.specs.declared.Response.{Response}
-use Rattle.board.specs.Lists.{filter, sum}
-use Rattle.board.specs.Board.{liveIn, inserted, inSequence}
-use Rattle.share.specs.Fills.{Fill}
+use Rattle.base.specs.Lists.{filter, sum}
+use Rattle.board.specs.rules.Board.{liveIn, inserted, inSequence}
+use Rattle.share.specs.rules.Fills.{Fill}
 use Rattle.trade.specs.declared.Deal.{Deal}
 use Rattle.trade.specs.rules.Plan.{mode1, mode2, mode3}
 use Rattle.trade.specs.rules.Trade.{offers, Level, guaranteeOf, top, entry, next, offersAt, levelAt, walk, marketPrice, levels, fills}

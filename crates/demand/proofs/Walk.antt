@@ -9,11 +9,10 @@ use borrow.Author.Tests.{leb-false, eqb-true, eqb-false, le-leb, lt-leb}
 use lib.Dec.{leb, eqb}
 use lib.ListN.{length}
 use Rattle.board.specs.declared.Response.{Response}
-use Rattle.board.specs.Lists.{Every}
+use Rattle.base.specs.Lists.{Every, In}
 use Rattle.trade.specs.declared.Deal.{Deal}
 use Rattle.trade.specs.rules.Plan.{Plan, planOf}
 use Rattle.trade.specs.rules.Trade.{Level, contra, levelFills, total, working, workingStop, top, entry, next, guarantee, offersAt, levelAt, walk, levels, sizeHere}
-use Rattle.trade.specs.inside.Lists.{In}
 use Rattle.trade.specs.inside.Code.{matchOf, lastOf, wantOf}
 use Rattle.demand.specs.promises.Demands.{Absent, Distinct, planOn}
 use Rattle.trade.proofs.PlanLaws.{plan-is}

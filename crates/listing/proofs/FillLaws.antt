@@ -7,7 +7,7 @@ use native.Mathlib.Nat.{sub-zero}
 use native.Mathlib.Omega.{arith}
 use lib.ListN.{length, getD, drop, length-append, length-drop}
 use lib.Seq.{getD-drop, drop-drop}
-use Rattle.share.specs.Fills.{Fill, words}
+use Rattle.share.specs.rules.Fills.{Fill, words}
 use Rattle.share.proofs.FillsLaws.{length-words}
 use Rattle.trade.proofs.WholeLaws.{fills-few, counted, words-after}
 use Rattle.auction.specs.declared.Auction.{Auction}

@@ -7,10 +7,10 @@ use Prim.Native.String.{String}
 use native.Mathlib.Omega.{arith}
 use lib.Dec.{eqb, leb, ltb}
 use lib.ListN.{length, drop, set, length-append, length-set}
-use Rattle.words.specs.Bits.{withBit}
+use Rattle.words.specs.rules.Bits.{withBit}
 use Rattle.board.specs.declared.Board.{Board}
-use Rattle.board.specs.Board.{emptyBoard, firstFree, placed, findGtx}
-use Rattle.share.specs.Fills.{Fill}
+use Rattle.board.specs.rules.Board.{emptyBoard, firstFree, placed, findGtx}
+use Rattle.share.specs.rules.Fills.{Fill}
 use Rattle.tape.specs.declared.Event.{Event}
 use Rattle.tape.specs.declared.Order.{Order}
 use Rattle.tape.specs.declared.Opened.{Opened}

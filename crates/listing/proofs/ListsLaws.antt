@@ -5,7 +5,7 @@ use Prim.Native.Nat.{ℕ, _≤_, _<_}
 use native.Mathlib.Omega.{arith}
 use borrow.Author.Tests.{lt-ltb, le-ltb}
 use lib.ListN.{length}
-use Rattle.words.proofs.ByteLaws.{sets-front}
+use Rattle.base.proofs.SetsLaws.{sets-front}
 use Rattle.auction.specs.declared.Auction.{Auction}
 use Rattle.auction.specs.declared.Ending.{Ending}
 use Rattle.listing.specs.declared.Listed.{Listed}

@@ -8,7 +8,7 @@ use native.Mathlib.Omega.{arith}
 use borrow.Author.Tests.{lt-ltb, le-ltb}
 use lib.ListN.{length, set, take, drop, take-append-drop}
 use lib.Seq.{drop-drop, length-take-le}
-use Rattle.words.specs.Bytes.{wordAt}
+use Rattle.words.specs.rules.Bytes.{wordAt}
 use Rattle.words.proofs.ByteLaws.{word-past}
 use Rattle.tape.specs.declared.Trailer.{Trailer}
 use Rattle.tape.specs.declared.Opened.the-variants.{Tape}

@@ -7,7 +7,7 @@ use lib.Seq.{sets}
 use Rattle.tape.specs.declared.ReadEvent.{ReadEvent}
 use Rattle.tape.specs.declared.ReadEvent.the-variants.{Event as GotEvent, Refused as NoEvent}
 use Rattle.board.specs.declared.Response.{Response}
-use Rattle.share.specs.Fills.{Fill}
+use Rattle.share.specs.rules.Fills.{Fill}
 use Rattle.trade.specs.declared.Filled.{Filled}
 use Rattle.trade.specs.declared.Filled.the-variants.{Count, Refused as NoFills}
 use Rattle.auction.specs.declared.Head.{Head}

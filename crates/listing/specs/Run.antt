@@ -3,7 +3,7 @@ use mathlib.Core.Bool.{cond}
 use mathlib.Core.List.{List, [], _∷_}
 use Prim.Native.Nat.{ℕ, zero, suc}
 use lib.ListN.{drop}
-use Rattle.words.specs.Bytes.{wordAt}
+use Rattle.words.specs.rules.Bytes.{wordAt}
 use Rattle.tape.specs.declared.ReadOrder.{ReadOrder}
 use Rattle.tape.specs.declared.ReadOrder.the-variants.{Order as GotOrder, Refused as NoOrder}
 use Rattle.tape.specs.declared.ReadEvent.{ReadEvent}

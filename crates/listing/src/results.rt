@@ -3,7 +3,7 @@ ghost use mathlib.Core.Path.{_≡_};
 ghost use mathlib.Core.Bool.{true};
 ghost use Prim.Native.Nat.{_+_, _*_, _≤_};
 ghost use lib.ListN.{length, take};
-ghost use Rattle.share.specs.Fills.{words};
+ghost use Rattle.share.specs.rules.Fills.{words};
 ghost use Rattle.trade.specs.rules.Trade.{total};
 ghost use Rattle.auction.specs.Fills.{hasEnded, auctionFills};
 ghost use Rattle.listing.specs.Listing.{fillLines, endLines};

@@ -4,13 +4,14 @@ use mathlib.Core.Bool.{Bool, true, false, cond}
 use mathlib.Core.List.{List, [], _∷_}
 use mathlib.Core.Logic.{_⊎_, inl, inr}
 use Prim.Native.Nat.{ℕ, zero, suc, _+_, _-_, _*_, _/_, _≤_, _<_, min}
-use native.Mathlib.Nat.{div-mul-le-self, lt-div-mul-add, div-lt-iff-lt-mul, mul-add, add-mul, mul-comm, mul-zero, zero-div, mul-lt-mul-of-pos-right, lt-of-le-of-lt, mul-le-mul, le-of-mul-le-mul-right}
+use native.Mathlib.Nat.{div-mul-le-self, lt-div-mul-add, div-lt-iff-lt-mul, mul-add, add-mul, mul-comm, mul-zero, zero-div, mul-lt-mul-of-pos-right, le-of-mul-le-mul-right}
 use native.Mathlib.Omega.{arith}
 use borrow.Author.Tests.{leb-true, leb-false, lt-leb, le-leb}
-use lib.Dec.{leb, lit<}
+use lib.Dec.{leb}
 use lib.ListN.{length}
-use Rattle.board.specs.Lists.{sum}
-use Rattle.share.specs.Share.{floors, plus, leftover, firsts, sharesBy, shares, inTurn, Each, Mark, Marks, Near, Fair, ProRata}
+use Rattle.base.specs.Lists.{sum}
+use Rattle.share.specs.rules.Share.{floors, plus, leftover, firsts, sharesBy, shares, inTurn}
+use Rattle.share.specs.promises.Share.{Each, Mark, Marks, Near, Fair, ProRata}
 
 -- ---- the whole parts
 
@@ -155,12 +156,6 @@ shares-fit R ss = fair-shares R ss .fits
 
 pub shares-near : (R : ℕ) (ss : List ℕ) → R < sum ss → Each (Near R (sum ss)) ss (shares R ss)
 shares-near R ss = fair-shares R ss .near
-
--- ---- ranges
-
--- a product of two u32 fits 64 bits
-pub mul-small : (a b : ℕ) → a ≤ 4294967295 → b ≤ 4294967295 → a * b < 18446744073709551616
-mul-small a b h k = lt-of-le-of-lt (mul-le-mul h k) (lit< tt)
 
 -- a whole part is at most its size
 pub floor-le : (R T s : ℕ) → R < T → R * s / T ≤ s

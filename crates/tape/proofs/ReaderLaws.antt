@@ -8,7 +8,7 @@ use native.Mathlib.Omega.{arith}
 use lib.ListN.{drop}
 use borrow.Author.Tests.{lt-ltb, le-ltb, le-leb, lt-leb}
 use denote.Ref.{RefT, now}
-use Rattle.words.proofs.BitLaws.{le-or-lt}
+use Rattle.base.proofs.Numbers.{le-or-lt}
 use Rattle.tape.specs.Records.{readEvent}
 use Rattle.tape.specs.Tape.{eventPlace}
 use Rattle.tape.specs.Reader.{asCurrent, currentOf, nextPlace, held, nextOf, moved, standing, Reading}

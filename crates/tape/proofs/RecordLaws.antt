@@ -7,7 +7,7 @@ use native.Mathlib.Omega.{arith}
 use lib.Dec.{ltb}
 use lib.ListN.{length, drop, length-drop}
 use borrow.Author.Tests.{le-ltb, lt-ltb}
-use Rattle.words.specs.Bytes.{withWords}
+use Rattle.words.specs.rules.Bytes.{withWords}
 use Rattle.words.proofs.ByteLaws.{row-front}
 use Rattle.tape.specs.Records.{wroteAnswer, wroteBytes, readOrder, readEvent}
 use Rattle.tape.specs.declared.ReadOrder.the-variants.{Refused as NoOrder}

@@ -8,7 +8,7 @@ use lib.ListN.{length, getD, take, drop, length-append, length-take, take-append
 use lib.Seq.{take-at, drop-at, getD-drop}
 use lib.Dec.{ltb, eqb}
 use borrow.Author.Tests.{le-ltb, lt-ltb, ltb-false, eqb-true, eq-eqb}
-use Rattle.words.specs.Bytes.{AllBytes, joined, u32Bytes, wordBytes, wordAt, wordsFrom}
+use Rattle.words.specs.rules.Bytes.{AllBytes, joined, u32Bytes, wordBytes, wordAt, wordsFrom}
 use Rattle.words.proofs.ByteLaws.{Fit, bytes-joined, length-wordBytes, row-read, row-back, word-in}
 use Rattle.tape.specs.declared.Order.{Order}
 use Rattle.tape.specs.declared.Event.{Event}

@@ -8,7 +8,7 @@ use lib.ListN.{length, take, drop, length-append, length-drop, drop-of-length-le
 use lib.Seq.{take-at, drop-at}
 use lib.Dec.{ltb, eqb}
 use borrow.Author.Tests.{le-ltb, ltb-false, eqb-true, eq-eqb}
-use Rattle.words.specs.Bytes.{wordBytes}
+use Rattle.words.specs.rules.Bytes.{wordBytes}
 use Rattle.words.proofs.ByteLaws.{length-wordBytes}
 use Rattle.tape.specs.declared.Order.{Order}
 use Rattle.tape.specs.declared.Event.{Event}

@@ -4,7 +4,7 @@ use mathlib.Core.Bool.{true}
 use mathlib.Core.List.{List, [], _∷_, _++_}
 use Prim.Native.Nat.{ℕ, _+_, _*_, _≤_, _<_, _^_}
 use lib.ListN.{length, take, drop}
-use Rattle.words.specs.Bytes.{AllBytes}
+use Rattle.words.specs.rules.Bytes.{AllBytes}
 use Rattle.tape.specs.Form.{orderFormed, eventFormed}
 use Rattle.tape.specs.Records.{readOrder, orderAnswer, orderWrote, readEvent, eventAnswer, eventWrote, readTrailer, trailerAnswer, trailerWrote}
 use Rattle.tape.specs.Tape.{lengthOf, openTape, eventPlace, tapeOf, wroteTape, trailerFor}

@@ -4,7 +4,7 @@ use mathlib.Core.List.{List, [], _∷_, _++_}
 use Prim.Native.Nat.{ℕ, _*_}
 use lib.Dec.{ltb, eqb}
 use lib.ListN.{length, getD, drop}
-use Rattle.words.specs.Bytes.{joined, wordBytes, wordAt}
+use Rattle.words.specs.rules.Bytes.{joined, wordBytes, wordAt}
 use Rattle.tape.specs.Form.{orderFormed, eventFormed}
 use Rattle.tape.specs.declared.Order.{Order}
 use Rattle.tape.specs.declared.Event.{Event}

@@ -4,7 +4,7 @@ use mathlib.Core.List.{List, [], _∷_, _++_}
 use Prim.Native.Nat.{ℕ, _+_, _*_, _-_}
 use lib.Dec.{ltb, eqb}
 use lib.ListN.{length, take, drop}
-use Rattle.words.specs.Bytes.{wordBytes}
+use Rattle.words.specs.rules.Bytes.{wordBytes}
 use Rattle.tape.specs.Records.{orderWords, eventWords, trailerWords, orderWrote, eventWrote, trailerWrote, readTrailer}
 use Rattle.tape.specs.declared.Order.{Order}
 use Rattle.tape.specs.declared.Event.{Event}

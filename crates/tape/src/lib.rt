@@ -20,7 +20,7 @@ ghost use lib.ListN.{length, drop};
 ghost use Rattle.tape.specs.Form.{allFrom, orderFormed, inside, shapeOf, shapeTests, eventFormed};
 ghost use Rattle.tape.specs.Records.{orderOf, orderSpare, readOrder, orderAnswer, orderWrote, eventOf, eventSpare, readEvent, eventAnswer, eventWrote, trailerOf, readTrailer, trailerAnswer, trailerWrote};
 ghost use Rattle.tape.specs.Tape.{lengthOf, openTape, eventPlace};
-ghost use Rattle.words.specs.Bits.{bitAt};
+ghost use Rattle.words.specs.rules.Bits.{bitAt};
 
 // ---- what the records hold
 

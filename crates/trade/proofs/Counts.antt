@@ -9,9 +9,10 @@ use borrow.Author.Tests.{leb-true, leb-false, eqb-true, eqb-false}
 use lib.Dec.{leb, ltb, eqb}
 use lib.ListN.{length, length-append}
 use Rattle.board.specs.declared.Response.{Response}
-use Rattle.board.specs.Lists.{keep, filter}
-use Rattle.share.specs.Share.{inTurn}
-use Rattle.share.specs.Fills.{Fill, fillOf, fillsBy, sizes}
+use Rattle.base.proofs.ListLaws.{filter-length}
+use Rattle.base.specs.Lists.{keep, filter}
+use Rattle.share.specs.rules.Share.{inTurn}
+use Rattle.share.specs.rules.Fills.{Fill, fillOf, fillsBy, sizes}
 use Rattle.trade.specs.declared.Deal.{Deal}
 use Rattle.trade.specs.rules.Trade.{isCustomer, isOther, Level, customers, others, given, contra, levelFills, total, flat, working, top, next, offersAt, levelAt, walk, marketPrice, marketTakes, marketFill, levels, fills}
 use Rattle.trade.proofs.Walk.{next-some, next-above, walk-zero, walk-none, walk-past, walk-some}
@@ -58,18 +59,9 @@ length-level l =
 pub fromOn : Deal → List Response → ℕ → ℕ
 fromOn d rs from = length (filter (λ o. leb from (working d o)) rs)
 
-pub keep-short : {A : Type 0} (t : A → Bool) (xs : List A) → length (filter t xs) ≤ length xs
-unfolding filter
-keep-short t [] = omega arith
-keep-short t (x ∷ xs) = go (t x) (keep-short t xs)
-  where
-    go : (b : Bool) → length (filter t xs) ≤ length xs → length (keep b x (filter t xs)) ≤ suc (length xs)
-    go true h = omega arith
-    go false h = omega arith
-
 pub from-short : (d : Deal) (rs : List Response) (from : ℕ) → fromOn d rs from ≤ length rs
 unfolding fromOn
-from-short d rs from = keep-short (λ o. leb from (working d o)) rs
+from-short d rs from = filter-length (λ o. leb from (working d o)) rs
 
 -- those at p, and those after it
 at-and-after : (d : Deal) (from p : ℕ) → from ≤ p → (os : List Response)

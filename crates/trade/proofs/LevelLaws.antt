@@ -9,12 +9,12 @@ use borrow.Author.Tests.{le-leb}
 use lib.Dec.{leb, ltb}
 use lib.ListN.{length, length-append}
 use Rattle.board.specs.declared.Response.{Response}
-use Rattle.board.specs.Lists.{keep, filter, sum}
-use Rattle.board.specs.Board.{liveIn, wordOf, inSequence}
+use Rattle.base.specs.Lists.{keep, filter, sum}
+use Rattle.board.specs.rules.Board.{liveIn, wordOf, inSequence}
 use Rattle.board.proofs.LiveLaws.{word-filters}
 use Rattle.board.proofs.SequenceLaws.{sequence-filter}
-use Rattle.share.specs.Share.{inTurn}
-use Rattle.share.specs.Fills.{Fill, fillOf, fillsBy, sizes}
+use Rattle.share.specs.rules.Share.{inTurn}
+use Rattle.share.specs.rules.Fills.{Fill, fillOf, fillsBy, sizes}
 use Rattle.trade.specs.declared.Deal.{Deal}
 use Rattle.trade.specs.declared.Found.{Found}
 use Rattle.trade.specs.declared.Price.{Price}
@@ -25,7 +25,8 @@ use Rattle.trade.specs.inside.Code.{matchOf, lastOf, wantOf, sharedOf, c
 use Rattle.trade.proofs.Lists.{sizes-split}
 use Rattle.trade.proofs.Levels.{given-sum, traded-is}
 use Rattle.trade.proofs.WriteLaws.{sizes-sequence}
-use Rattle.trade.proofs.StepLaws.{word-parts, word-le, filter-step, ahead, least-next, walk-turn, from-none, from-past}
+use Rattle.trade.proofs.StepLaws.{word-parts, word-le, ahead, least-next, walk-turn, from-none, from-past}
+use Rattle.base.proofs.ListLaws.{filter-filter}
 use Rattle.trade.proofs.Walk.{next-above, next-top}
 
 -- ---- the numbers of any level
@@ -93,10 +94,10 @@ reported-level sell l =
 module _ (d : Deal) (ps : List Response) (G : ℕ) (s : Walked) (e : length ps ≡ 64) (fit : s .rest < 2 ^ 64) where
   -- Customers and others at a price
   customers-word : (p : ℕ) → filter (customerAt (d .bound) p) (liveIn (s .rest) ps) ≡ filter isCustomer (filter (worksAt (d .bound) p) (liveIn (s .rest) ps))
-  customers-word p = sym (filter-step isCustomer (worksAt (d .bound) p) (customerAt (d .bound) p) (liveIn (s .rest) ps) (λ x m. refl))
+  customers-word p = sym (filter-filter isCustomer (worksAt (d .bound) p) (customerAt (d .bound) p) (liveIn (s .rest) ps) (λ x m. refl))
 
   others-word : (p : ℕ) → filter (otherAt (d .bound) p) (liveIn (s .rest) ps) ≡ filter isOther (filter (worksAt (d .bound) p) (liveIn (s .rest) ps))
-  others-word p = sym (filter-step isOther (worksAt (d .bound) p) (otherAt (d .bound) p) (liveIn (s .rest) ps) (λ x m. refl))
+  others-word p = sym (filter-filter isOther (worksAt (d .bound) p) (otherAt (d .bound) p) (liveIn (s .rest) ps) (λ x m. refl))
 
   pub looks : (l : Price) (f : Found) (m T E : ℕ) → T ≡ top d → E ≡ entry d
       → l .price ≡ leastOf (d .bound) T (liveIn (s .rest) ps)

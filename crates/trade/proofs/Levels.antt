@@ -4,10 +4,10 @@ use mathlib.Core.Bool.{Bool, true, false, cond}
 use mathlib.Core.List.{_++_}
 use Prim.Native.Nat.{_+_, _-_, min}
 use native.Mathlib.Omega.{arith}
-use Rattle.board.specs.Lists.{sum}
-use Rattle.share.specs.Share.{inTurn}
+use Rattle.base.specs.Lists.{sum}
+use Rattle.share.specs.rules.Share.{inTurn}
 use Rattle.share.proofs.ShareLaws.{shares-sum, turn-sum, turn-length, shares-length}
-use Rattle.share.specs.Fills.{fillOf, fillsBy, sizes}
+use Rattle.share.specs.rules.Fills.{fillOf, fillsBy, sizes}
 use Rattle.trade.specs.rules.Trade.{Level, customers, others, shared, given, rest, contra, levelFills, total, sizeHere}
 use Rattle.trade.proofs.Lists.{sizes-split, total-append, total-fill, total-by}
 

@@ -1,6 +1,6 @@
 -- The plan of a price by numbers is that of its mode.
 use mathlib.Core.Path.{_≡_, refl, ap, ap₂, _∙_}
-use mathlib.Core.Bool.{Bool, true, false, cond, not, _&&_, _||_}
+use mathlib.Core.Bool.{Bool, true, false, cond, not, _&&_, _||_, or-true}
 use mathlib.Core.Logic.{_≢_}
 use Prim.Native.Nat.{ℕ, _+_, _-_, _≤_, _<_}
 use native.Mathlib.Omega.{arith}
@@ -47,10 +47,6 @@ module _ (E T G p left held A m : ℕ) where
       let g : leb left (A + m) ≡ true = le-leb left (A + m) k in
       plan-of (G - held) true (rw (e, g) (go (eqb p T))) (rw (e, g) (or-true (eqb p T)))
     where
-      or-true : (b : Bool) → (b || true) ≡ true
-      or-true true = refl
-      or-true false = refl
-
       go : (b : Bool) → cond (b || true) (G - held) m ≡ G - held
       go true = refl
       go false = refl

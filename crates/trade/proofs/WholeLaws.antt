@@ -9,15 +9,17 @@ use native.Mathlib.Omega.{arith}
 use borrow.Author.Tests.{eq-eqb, ne-eqb, le-leb, lt-leb}
 use borrow.Rule.Slice.PartMut.{putMid}
 use lib.ListN.{length, take, drop, length-drop, drop-of-length-le}
-use lib.Seq.{take-all, drop-drop}
-use Rattle.words.specs.Bits.{setIn, onesIn}
+use lib.Seq.{drop-drop}
+use Rattle.base.proofs.SetsLaws.{rest-is}
+use Rattle.words.specs.rules.Bits.{trailingZeros, onesIn}
 use Rattle.board.specs.declared.Response.{Response}
 use Rattle.board.specs.declared.Board.{Board}
-use Rattle.board.specs.Board.{liveIn, liveOf, inSequence}
-use Rattle.board.proofs.ListLaws.{shuffles-length}
+use Rattle.board.specs.rules.Board.{liveIn, liveOf, inSequence}
+use Rattle.base.proofs.ListLaws.{shuffles-length}
 use Rattle.board.proofs.LiveLaws.{none-live, count-live}
 use Rattle.board.proofs.SequenceLaws.{sequence-shuffles}
-use Rattle.share.specs.Fills.{Fill, fillOf, words, written}
+use Rattle.share.specs.rules.Fills.{Fill, fillOf, words}
+use Rattle.share.specs.inside.Fills.{written}
 use Rattle.share.proofs.FillsLaws.{written-words}
 use Rattle.trade.specs.declared.Deal.{Deal}
 use Rattle.trade.specs.declared.Filled.the-variants.{Count, Refused}
@@ -47,7 +49,7 @@ module _ (d : Deal) (ps : List Response) (live low : ℕ) (e : low ≡ leastOf (
   pub market-low : d .mode ≡ 2 → length ps ≡ 64 → 0 < live → live < 2 ^ 64 → low ≡ marketPrice d (inSequence (liveIn live ps))
   unfolding marketPrice
   market-low m l z f =
-      let c = count-turn ps live (setIn 64 live) (turn-of ps live (setIn 64 live) l z f refl) in
+      let c = count-turn ps live (trailingZeros 64 live) (turn-of ps live (trailingZeros 64 live) l z f refl) in
       let n : length (inSequence (liveIn live ps)) ≢ 0 = λ q. omega (arith, length-sequence (liveIn live ps)) in
       rw (eq-eqb (d .mode) 2 m, ne-eqb (length (inSequence (liveIn live ps))) 0 n) lowest
 
@@ -78,16 +80,12 @@ fills-few d b l =
 
 -- ---- a part that was lent from a start place on
 
--- the part is all that stands from a on
-whole-tail : (a : ℕ) (xs : List ℕ) → take (length xs - a) (drop a xs) ≡ drop a xs
-whole-tail a xs = take-all (length xs - a) (drop a xs) (le-of-eq (length-drop a xs))
-
 -- once it is back, the words stand before it as they were, and after the fills as they were
 pub words-back : (a : ℕ) (xs ys : List ℕ) (fs : List Fill) → 3 * length fs ≤ length xs - a → ys ≡ written (take (length xs - a) (drop a xs)) 0 fs
     → putMid a (length xs - a) xs ys ≡ take a xs ++ (words fs ++ drop (a + 3 * length fs) xs)
 words-back a xs ys fs h e =
     let w : ys ≡ words fs ++ drop (a + 3 * length fs) xs =
-    e ∙ ap (λ (l : List ℕ). written l 0 fs) (whole-tail a xs)
+    e ∙ ap (λ (l : List ℕ). written l 0 fs) (rest-is xs a)
     ∙ written-words (drop a xs) 0 fs (omega (arith, length-drop a xs))
     ∙ rw (zero-add (3 * length fs), drop-drop (3 * length fs) a xs) in
     ap {B = List ℕ} (λ r. take a xs ++ r) (ap {B = List ℕ} (λ r. ys ++ r) (drop-of-length-le (drop a xs) (le-of-eq (length-drop a xs))) ∙ append-nil ys ∙ w)

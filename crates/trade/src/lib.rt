@@ -2,8 +2,9 @@
 ghost use mathlib.Core.Path.{_≡_};
 ghost use Prim.Native.Nat.{_+_, _*_, _≤_, _<_};
 ghost use lib.ListN.{length};
-ghost use Rattle.board.specs.Board.{liveIn, inSequence};
-ghost use Rattle.share.specs.Fills.{fillOf, Wrote};
+ghost use Rattle.board.specs.rules.Board.{liveIn, inSequence};
+ghost use Rattle.share.specs.rules.Fills.{fillOf};
+ghost use Rattle.share.specs.inside.Fills.{WroteFills};
 ghost use Rattle.trade.specs.rules.Trade.{levelFills, flat, marketPrice, guarantee};
 ghost use Rattle.trade.specs.rules.Write.{shown, reported, fillsOf, answer, after};
 ghost use Rattle.trade.specs.inside.Code.{sharedOf, placeFills, levelOf, Known, Looks, Stepped, walkFrom};
@@ -113,7 +114,7 @@ fn write_level(
 ) -> usize
     requires { ⌜ (left ≤ 4294967295) × (contra ≤ 4294967295) × Known places (l .customers) (l .customer) (l .served) × Known places (l .others) (l .other) (l .total) ⌝ }
     requires { ⌜ at + 3 * length (placeFills price left (inSequence (liveIn (l .customers) places)) contra (sharedOf left (l .served) (l .want)) (inSequence (liveIn (l .others) places))) ≤ length (now out) ⌝ }
-    ensures { λ r. ⌜ Wrote (now (out .entry)) at (placeFills price left (inSequence (liveIn (l .customers) places)) contra (sharedOf left (l .served) (l .want)) (inSequence (liveIn (l .others) places))) r (now (out .exit)) ⌝ }
+    ensures { λ r. ⌜ WroteFills (now (out .entry)) at (placeFills price left (inSequence (liveIn (l .customers) places)) contra (sharedOf left (l .served) (l .want)) (inSequence (liveIn (l .others) places))) r (now (out .exit)) ⌝ }
 {
     let a = write::write_turns(
         places,
@@ -135,7 +136,7 @@ fn turn(d: Deal, places: [Response; 64], g: u64, s: Walked, out: &mut [u32]) -> 
     requires { ⌜ (g ≤ 4294967295) × (s .held + s .left ≤ 4294967295) ⌝ }
     requires { ⌜ s .at + 3 * length (reported (d .sell) (levelFills (levelOf d places g s))) ≤ length (now out) ⌝ }
     ensures { λ r. ⌜ Stepped d places g s r ⌝ }
-    ensures { λ r. ⌜ Wrote (now (out .entry)) (s .at) (reported (d .sell) (levelFills (levelOf d places g s))) (r .at) (now (out .exit)) ⌝ }
+    ensures { λ r. ⌜ WroteFills (now (out .entry)) (s .at) (reported (d .sell) (levelFills (levelOf d places g s))) (r .at) (now (out .exit)) ⌝ }
 {
     let l = level_at(d, places, g, s);
     let contra = numbers::contra_of(s.left, l.served, l.total, l.want, l.last);
@@ -170,7 +171,7 @@ fn write_walk(
 ) -> usize
     requires { ⌜ (size ≤ 4294967295) × (g ≤ 4294967295) × (g ≡ guarantee d (inSequence (liveIn live places))) ⌝ }
     requires { ⌜ at + 3 * length (reported (d .sell) (flat (walkFrom d (inSequence (liveIn live places)) 0 size 0))) ≤ length (now out) ⌝ }
-    ensures { λ r. ⌜ Wrote (now (out .entry)) at (reported (d .sell) (flat (walkFrom d (inSequence (liveIn live places)) 0 size 0))) r (now (out .exit)) ⌝ }
+    ensures { λ r. ⌜ WroteFills (now (out .entry)) at (reported (d .sell) (flat (walkFrom d (inSequence (liveIn live places)) 0 size 0))) r (now (out .exit)) ⌝ }
 {
     let top = numbers::top_of(d);
     let mut s = Walked {
@@ -203,7 +204,7 @@ fn market_price(d: Deal, places: [Response; 64], live: u64) -> u64
 // The fill of the market order that ended the auction, at the first of the lent words. Where it takes nothing there is none, and no price is looked for.
 fn write_market(d: Deal, places: [Response; 64], live: u64, takes: u64, out: &mut [u32]) -> usize
     requires { ⌜ (takes ≤ 4294967295) × (3 ≤ length (now out)) ⌝ }
-    ensures { λ r. ⌜ Wrote (now (out .entry)) 0 (fillOf (d .market) (shown (d .sell) (marketPrice d (inSequence (liveIn live places)))) takes) r (now (out .exit)) ⌝ }
+    ensures { λ r. ⌜ WroteFills (now (out .entry)) 0 (fillOf (d .market) (shown (d .sell) (marketPrice d (inSequence (liveIn live places)))) takes) r (now (out .exit)) ⌝ }
 {
     if takes == 0 {
         return 0;
@@ -215,7 +216,7 @@ fn write_market(d: Deal, places: [Response; 64], live: u64, takes: u64, out: &mu
 // All the fills, from the first of the lent words on. Answers the place after them.
 fn write_all(d: Deal, b: Board, out: &mut [u32]) -> usize
     requires { ⌜ 390 ≤ length (now out) ⌝ }
-    ensures { λ r. ⌜ Wrote (now (out .entry)) 0 (fillsOf d b) r (now (out .exit)) ⌝ }
+    ensures { λ r. ⌜ WroteFills (now (out .entry)) 0 (fillsOf d b) r (now (out .exit)) ⌝ }
 {
     let places = b.places;
     let size = numbers::wide(d.size);

@@ -1,10 +1,10 @@
 // Looks over the places of a word, from the lowest up.
 ghost use mathlib.Core.Path.{_≡_};
 ghost use Prim.Native.Nat.{_+_, _*_, _/_, _≤_, _<_};
-ghost use Rattle.board.specs.Board.{liveIn};
-ghost use Rattle.board.specs.Lists.{sum};
-ghost use Rattle.share.specs.Share.{floors};
-ghost use Rattle.share.specs.Fills.{sizes};
+ghost use Rattle.board.specs.rules.Board.{liveIn};
+ghost use Rattle.base.specs.Lists.{sum};
+ghost use Rattle.share.specs.rules.Share.{floors};
+ghost use Rattle.share.specs.rules.Fills.{sizes};
 ghost use Rattle.trade.specs.inside.Code.{leastOf, foundAt, Takes, FoundAt};
 use crate::Found;
 use crate::numbers;

@@ -4,9 +4,10 @@ ghost use mathlib.Core.Bool.{true, false, cond};
 ghost use Prim.Native.Nat.{_+_, _*_, _≤_, _<_, min};
 ghost use lib.Dec.{eqb};
 ghost use lib.ListN.{length};
-ghost use Rattle.words.specs.Bits.{withoutBit, setIn};
-ghost use Rattle.board.specs.Board.{liveIn, inSequence};
-ghost use Rattle.share.specs.Fills.{fillOf, Wrote};
+ghost use Rattle.words.specs.rules.Bits.{withoutBit, trailingZeros};
+ghost use Rattle.board.specs.rules.Board.{liveIn, inSequence};
+ghost use Rattle.share.specs.rules.Fills.{fillOf};
+ghost use Rattle.share.specs.inside.Fills.{WroteFills};
 ghost use Rattle.trade.specs.inside.Code.{eachFills, shareFills, isRising, Known, Gives};
 use crate::Given;
 use crate::numbers;
@@ -18,7 +19,7 @@ use words::bits;
 pub(crate) fn put_fill(out: &mut [u32], at: usize, party: u32, price: u32, quantity: u64) -> usize
     requires { ⌜ quantity ≤ 4294967295 ⌝ }
     requires { ⌜ at + 3 * length (fillOf party price quantity) ≤ length (now out) ⌝ }
-    ensures { λ r. ⌜ Wrote (now (out .entry)) at (fillOf party price quantity) r (now (out .exit)) ⌝ }
+    ensures { λ r. ⌜ WroteFills (now (out .entry)) at (fillOf party price quantity) r (now (out .exit)) ⌝ }
 {
     if 0 < quantity {
         out[at] = party;
@@ -104,7 +105,7 @@ pub(crate) fn write_each(
 ) -> usize
     requires { ⌜ (amount ≤ 4294967295) × (k ≤ 4294967295) × (turns ≡ false → amount < total) ⌝ }
     requires { ⌜ at + 3 * length (eachFills price turns amount total k (inSequence (liveIn word places))) ≤ length (now out) ⌝ }
-    ensures { λ r. ⌜ Wrote (now (out .entry)) at (eachFills price turns amount total k (inSequence (liveIn word places))) r (now (out .exit)) ⌝ }
+    ensures { λ r. ⌜ WroteFills (now (out .entry)) at (eachFills price turns amount total k (inSequence (liveIn word places))) r (now (out .exit)) ⌝ }
 {
     let mut w = at;
     let mut left = k;
@@ -132,7 +133,7 @@ pub(crate) fn write_each(
 
 // Whether the word has one place at most.
 fn alone(word: u64) -> bool
-    ensures { λ r. ⌜ r ≡ eqb (withoutBit word (setIn 64 word)) 0 ⌝ }
+    ensures { λ r. ⌜ r ≡ eqb (withoutBit word (trailingZeros 64 word)) 0 ⌝ }
 {
     let first = bits::first_set(word) as usize;
     bits::without_bit(word, first) == 0
@@ -151,7 +152,7 @@ pub(crate) fn write_turns(
 ) -> usize
     requires { ⌜ (k ≤ 4294967295) × Known places word one total ⌝ }
     requires { ⌜ at + 3 * length (eachFills price true 0 0 k (inSequence (liveIn word places))) ≤ length (now out) ⌝ }
-    ensures { λ r. ⌜ Wrote (now (out .entry)) at (eachFills price true 0 0 k (inSequence (liveIn word places))) r (now (out .exit)) ⌝ }
+    ensures { λ r. ⌜ WroteFills (now (out .entry)) at (eachFills price true 0 0 k (inSequence (liveIn word places))) r (now (out .exit)) ⌝ }
 {
     if word == 0 {
         return at;
@@ -175,7 +176,7 @@ pub(crate) fn write_shares(
 ) -> usize
     requires { ⌜ (amount ≤ 4294967295) × Known places word one total ⌝ }
     requires { ⌜ at + 3 * length (shareFills price amount (inSequence (liveIn word places))) ≤ length (now out) ⌝ }
-    ensures { λ r. ⌜ Wrote (now (out .entry)) at (shareFills price amount (inSequence (liveIn word places))) r (now (out .exit)) ⌝ }
+    ensures { λ r. ⌜ WroteFills (now (out .entry)) at (shareFills price amount (inSequence (liveIn word places))) r (now (out .exit)) ⌝ }
 {
     if word == 0 {
         return at;

@@ -3,14 +3,15 @@ use mathlib.Core.Path.{_≡_, refl, ap, sym, _∙_}
 use mathlib.Core.List.{List, [], _∷_, _++_, append-assoc}
 use mathlib.Core.Logic.{_⊎_, ⊎-elim}
 use Prim.Native.Nat.{ℕ, zero, suc, _+_, _*_, _/_, _%_, _≤_, _<_, _^_}
-use native.Mathlib.Nat.{add-zero, zero-add, div-add-mod', div-div-eq-div-mul}
+use native.Mathlib.Nat.{add-zero, div-add-mod', div-div-eq-div-mul}
 use borrow.Author.Tests.{le-leb, lt-leb}
 use native.Mathlib.Omega.{arith}
 use lib.ListN.{length, getD, set, take, drop, take-append-drop, length-append}
 use lib.Seq.{sets, sets-eq, take-suc, drop-cons, length-take-le, getD-append-add, getD-set-other}
 use native.Mathlib.Numerals.{add-one}
-use Rattle.words.proofs.BitLaws.{le-or-lt}
-use Rattle.words.specs.Bytes.{AllBytes, joined, u32Bytes, wordBytes, wordAt, wordsFrom, withWord, withWords}
+use Rattle.base.proofs.Numbers.{le-or-lt}
+use Rattle.base.proofs.SetsLaws.{sets-append, sets-front}
+use Rattle.words.specs.rules.Bytes.{AllBytes, joined, u32Bytes, wordBytes, wordAt, wordsFrom, withWord, withWords}
 
 -- four stores in a row, as code writes their places
 pub sets4 : (s : List ℕ) (i a b c d : ℕ) → set (set (set (set s i a) (i + 1) b) (i + 2) c) (i + 3) d ≡ sets s i (a ∷ b ∷ c ∷ d ∷ [])
@@ -19,11 +20,6 @@ sets4 s i a b c d =
     let e2 : i + 2 ≡ suc (suc i) = omega arith in
     let e3 : i + 3 ≡ suc (suc (suc i)) = omega arith in
     rw (e1, e2, e3)
-
--- a run of stores is the one of its first part, then that of the rest
-pub sets-append : (xs ys s : List ℕ) (i : ℕ) → sets s i (xs ++ ys) ≡ sets (sets s i xs) (i + length xs) ys
-sets-append [] ys s i = rw add-zero
-sets-append (x ∷ xs) ys s i = sets-append xs ys (set s i x) (suc i) ∙ ap (λ (k : ℕ). sets (sets (set s i x) (suc i) xs) k ys) (omega arith)
 
 -- four digits of 256 make the number, in plain variables: linear
 four : (v q1 q2 q3 r0 r1 r2 : ℕ) → q1 * 256 + r0 ≡ v → q2 * 256 + r1 ≡ q1 → q3 * 256 + r2 ≡ q2 → r0 + r1 * 256 + r2 * 65536 + q3 * 16777216 ≡ v
@@ -72,14 +68,8 @@ word-more s ws at i h =
     sym
     (ap (λ (l : List ℕ). sets s at (wordBytes l)) e
     ∙ ap (λ (l : List ℕ). sets s at l) (wordBytes-append (take i ws) (getD ws i 0 ∷ []))
-    ∙ sets-append (wordBytes (take i ws)) (u32Bytes (getD ws i 0)) s at
+    ∙ sets-append s at (wordBytes (take i ws)) (u32Bytes (getD ws i 0))
     ∙ ap (λ (k : ℕ). sets (sets s at (wordBytes (take i ws))) (at + k) (u32Bytes (getD ws i 0))) n)
-
--- stores from the front on replace the first bytes, and no other
-pub sets-front : (vs l : List ℕ) (n : ℕ) → length vs ≡ n → n ≤ length l → sets l 0 vs ≡ vs ++ drop n l
-sets-front vs l n e h =
-    let z : 0 + length vs ≡ n = omega arith in
-    sets-eq vs l 0 (omega arith) ∙ ap (λ (k : ℕ). vs ++ drop k l) z
 
 -- ---- one word
 

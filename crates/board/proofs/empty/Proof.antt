@@ -1,6 +1,6 @@
 -- `board::empty` meets its contract. Assumes nothing.
 use mathlib.Core.Path.{refl}
-use Rattle.board.specs.Board.{emptyBoard}
+use Rattle.board.specs.rules.Board.{emptyBoard}
 use Rattle.board.proofs.empty.Statement.{statement}
 use Rattle.board.proofs.empty.Tie as tie
 

@@ -3,7 +3,7 @@ use mathlib.Core.Path.{sym}
 use Prim.Native.Nat.{_≤_, _<_}
 use native.Mathlib.Omega.{arith}
 use borrow.Author.Needs.{needs}
-use Rattle.board.specs.Board.{firstFree}
+use Rattle.board.specs.rules.Board.{firstFree}
 use Rattle.board.proofs.BoardLaws.{placed-is, placed-full}
 use Rattle.board.proofs.place.Statement.{statement}
 use Rattle.board.proofs.place.Tie as tie

@@ -8,14 +8,13 @@ use lib.Dec.{ltb, eqb}
 use lib.ListN.{length}
 use Rattle.board.specs.declared.Response.{Response}
 use Rattle.board.specs.declared.Board.{Board}
-use Rattle.board.specs.Lists.{Every, filter, sum}
-use Rattle.board.specs.Board.{liveOf}
-use Rattle.board.specs.Theorems.{Good}
-use Rattle.share.specs.Share.{Near}
-use Rattle.share.specs.Fills.{Fill, sizes}
+use Rattle.base.specs.Lists.{Every, filter, sum, In}
+use Rattle.board.specs.rules.Board.{liveOf}
+use Rattle.board.specs.promises.Board.{Good}
+use Rattle.share.specs.promises.Share.{Near}
+use Rattle.share.specs.rules.Fills.{Fill, sizes}
 use Rattle.trade.specs.declared.Deal.{Deal}
 use Rattle.trade.specs.rules.Plan.{Plan, planOf}
-use Rattle.trade.specs.inside.Lists.{In}
 use Rattle.trade.specs.rules.Trade.{sizeHere, offers, isOther, Level, others, shared, total, working, workingStop, top, entry, guarantee, offersAt, marketTakes, marketFill, levels, fills}
 
 -- ---- words

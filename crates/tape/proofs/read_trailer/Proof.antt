@@ -3,7 +3,7 @@ use mathlib.Core.Bool.{true, false, _&&_}
 use lib.Dec.{eqb}
 use borrow.Author.Tests.{le-ltb, lt-ltb}
 use denote.Ref.{now}
-use Rattle.words.specs.Bytes.{wordAt}
+use Rattle.words.specs.rules.Bytes.{wordAt}
 use Rattle.tape.specs.Records.{cubt, trailerOf, readTrailer}
 use borrow.Author.Needs.{needs}
 use Rattle.tape.proofs.read_trailer.Statement.{statement}

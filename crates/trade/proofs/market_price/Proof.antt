@@ -4,7 +4,7 @@ use native.Mathlib.Omega.{arith}
 use lib.ListN.{length}
 use Rattle.trade.proofs.WholeLaws.{market-mid, market-low, market-stop}
 use Rattle.trade.specs.inside.Code.{leastOf}
-use Rattle.board.specs.Board.{liveIn}
+use Rattle.board.specs.rules.Board.{liveIn}
 use borrow.Author.Needs.{needs}
 use Rattle.trade.proofs.market_price.Statement.{statement}
 use Rattle.trade.proofs.market_price.Tie as tie

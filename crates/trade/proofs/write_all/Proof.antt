@@ -7,9 +7,9 @@ use Rattle.trade.proofs.WholeLaws.{guarantee-found, all-fills, fills-fe
 use Rattle.trade.specs.inside.Code.{walkFrom}
 use Rattle.trade.specs.rules.Trade.{offers, flat, marketPrice}
 use Rattle.trade.specs.rules.Write.{shown, reported, fillsOf}
-use Rattle.share.specs.Fills.{fillOf}
+use Rattle.share.specs.rules.Fills.{fillOf}
 use Rattle.share.proofs.FillsLaws.{wrote-append}
-use Rattle.board.proofs.Facts.{length-mapped}
+use Rattle.base.proofs.ListLaws.{length-mapped}
 use borrow.Author.Needs.{needs}
 use Rattle.trade.proofs.write_all.Statement.{statement}
 use Rattle.trade.proofs.write_all.Tie as tie

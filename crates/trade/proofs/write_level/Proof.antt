@@ -3,8 +3,8 @@ use mathlib.Core.Bool.{true}
 use Prim.Native.Nat.{_+_}
 use native.Mathlib.Omega.{arith}
 use lib.ListN.{length}
-use Rattle.board.specs.Board.{liveIn, inSequence}
-use Rattle.share.specs.Fills.{fillOf}
+use Rattle.board.specs.rules.Board.{liveIn, inSequence}
+use Rattle.share.specs.rules.Fills.{fillOf}
 use Rattle.share.proofs.FillsLaws.{wrote-append}
 use Rattle.trade.specs.inside.Code.{eachFills, shareFills, placeFills, sharedOf}
 use Rattle.trade.proofs.LevelLaws.{place-length}

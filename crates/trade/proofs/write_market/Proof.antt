@@ -1,7 +1,7 @@
 use mathlib.Core.Path.{refl}
 use native.Mathlib.Omega.{arith}
 use borrow.Author.Tests.{le-ltb}
-use Rattle.share.specs.Fills.{written}
+use Rattle.share.specs.inside.Fills.{written}
 use Rattle.trade.proofs.WriteLaws.{fill-some}
 use borrow.Author.Needs.{needs}
 use Rattle.trade.proofs.write_market.Statement.{statement}

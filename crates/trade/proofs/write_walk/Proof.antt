@@ -10,9 +10,10 @@ use Rattle.trade.specs.rules.Trade.{flat}
 use Rattle.trade.specs.rules.Trade as trade
 use Rattle.trade.specs.rules.Write.{reported}
 use Rattle.trade.specs.inside.Code.{levelOf, walkFrom}
-use Rattle.share.proofs.FillsLaws.{Left, left-start, left-turn, left-done}
-use Rattle.board.specs.Lists.{filter}
-use Rattle.board.specs.Board.{liveIn, inSequence}
+use Rattle.share.specs.inside.Fills.{LeftFills}
+use Rattle.share.proofs.FillsLaws.{left-start, left-turn, left-done}
+use Rattle.base.specs.Lists.{filter}
+use Rattle.board.specs.rules.Board.{liveIn, inSequence}
 use Rattle.trade.proofs.write_walk.Statement.{statement}
 use Rattle.trade.proofs.write_walk.Tie as tie
 
@@ -23,7 +24,7 @@ Inv-loop d places live g size out₀ at top s₀ out s =
     × (length out ≡ length out₀)
     × (s .rest < 2 ^ 64)
     × (liveIn (s .rest) places ≡ filter (ahead d (s .from)) (liveIn live places))
-    × Left out₀ at (reported (d .sell) (flat (walkFrom d (inSequence (liveIn live places)) 0 size 0))) out (s .at)
+    × LeftFills out₀ at (reported (d .sell) (flat (walkFrom d (inSequence (liveIn live places)) 0 size 0))) out (s .at)
     (reported (d .sell) (flat (walkFrom d (inSequence (liveIn live places)) (s .from) (s .left) (s .held))))
 
 abbrev μ-loop : tie.MeasureT-loop

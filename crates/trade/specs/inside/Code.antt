@@ -4,12 +4,12 @@ use mathlib.Core.Bool.{Bool, true, false, cond, not, _&&_, _||_}
 use mathlib.Core.List.{List, [], _∷_, _++_}
 use Prim.Native.Nat.{ℕ, suc, _+_, _-_, _*_, _/_, _≤_, min, max}
 use lib.Dec.{leb, ltb, eqb}
-use Rattle.words.specs.Bits.{withBit}
+use Rattle.words.specs.rules.Bits.{withBit}
 use Rattle.board.specs.declared.Response.{Response}
-use Rattle.board.specs.Lists.{filter, sum}
-use Rattle.board.specs.Board.{liveIn, wordOf, inSequence}
-use Rattle.share.specs.Share.{floors, plus, firsts, shares, inTurn}
-use Rattle.share.specs.Fills.{Fill, fillOf, fillsBy, sizes}
+use Rattle.base.specs.Lists.{filter, sum}
+use Rattle.board.specs.rules.Board.{liveIn, wordOf, inSequence}
+use Rattle.share.specs.rules.Share.{floors, plus, firsts, shares, inTurn}
+use Rattle.share.specs.rules.Fills.{Fill, fillOf, fillsBy, sizes}
 use Rattle.trade.specs.declared.Deal.{Deal}
 use Rattle.trade.specs.declared.Found.{Found}
 use Rattle.trade.specs.declared.Given.{Given}

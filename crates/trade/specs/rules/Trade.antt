@@ -6,10 +6,10 @@ use lib.Dec.{leb, ltb, eqb}
 use lib.ListN.{length}
 use Rattle.board.specs.declared.Response.{Response}
 use Rattle.board.specs.declared.Board.{Board}
-use Rattle.board.specs.Lists.{filter, sum}
-use Rattle.board.specs.Board.{liveOf, inSequence}
-use Rattle.share.specs.Share.{shares, inTurn}
-use Rattle.share.specs.Fills.{Fill, fillOf, fillsBy, sizes}
+use Rattle.base.specs.Lists.{filter, sum}
+use Rattle.board.specs.rules.Board.{liveOf, inSequence}
+use Rattle.share.specs.rules.Share.{shares, inTurn}
+use Rattle.share.specs.rules.Fills.{Fill, fillOf, fillsBy, sizes}
 use Rattle.trade.specs.declared.Deal.{Deal}
 use Rattle.trade.specs.rules.Plan.{planOf}
 

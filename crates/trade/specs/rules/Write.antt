@@ -5,7 +5,7 @@ use Prim.Native.Nat.{ℕ, _+_, _-_, _*_}
 use lib.Dec.{leb}
 use lib.ListN.{length, take, drop}
 use Rattle.board.specs.declared.Board.{Board}
-use Rattle.share.specs.Fills.{Fill, words}
+use Rattle.share.specs.rules.Fills.{Fill, words}
 use Rattle.trade.specs.declared.Deal.{Deal}
 use Rattle.trade.specs.declared.Filled.{Filled}
 use Rattle.trade.specs.declared.Filled.the-variants.{Count, Refused}

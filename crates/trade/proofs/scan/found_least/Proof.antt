@@ -4,7 +4,7 @@ use native.Mathlib.Omega.{arith}
 use lib.ListN.{length}
 use borrow.Author.Needs.{needs}
 use Rattle.words.proofs.BitLaws.{without-le}
-use Rattle.board.specs.Board.{liveIn}
+use Rattle.board.specs.rules.Board.{liveIn}
 use Rattle.trade.specs.inside.Code.{leastOf}
 use Rattle.trade.proofs.CodeLaws.{Turn, turn-of, least-none, least-turn, least-le, count-turn, live-short}
 use Rattle.trade.proofs.FoundLaws.{Finds, finds-start, finds-step, finds-end}

@@ -4,10 +4,10 @@ use native.Mathlib.Omega.{arith}
 use lib.ListN.{length}
 use borrow.Author.Needs.{needs}
 use Rattle.words.proofs.BitLaws.{without-le}
-use Rattle.board.specs.Board.{liveIn}
-use Rattle.board.specs.Lists.{sum}
-use Rattle.share.specs.Share.{floors}
-use Rattle.share.specs.Fills.{sizes}
+use Rattle.board.specs.rules.Board.{liveIn}
+use Rattle.base.specs.Lists.{sum}
+use Rattle.share.specs.rules.Share.{floors}
+use Rattle.share.specs.rules.Fills.{sizes}
 use Rattle.trade.proofs.CodeLaws.{Turn, turn-of, parts-turn, parts-none, count-turn, live-short}
 use Rattle.trade.proofs.scan.parts_of.Statement.{statement}
 use Rattle.trade.proofs.scan.parts_of.Tie as tie

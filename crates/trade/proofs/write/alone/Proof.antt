@@ -2,7 +2,7 @@ use mathlib.Core.Path.{ap, _∙_}
 use Prim.Native.Nat.{ℕ}
 use lib.Dec.{eqb}
 use borrow.Author.Needs.{needs}
-use Rattle.words.specs.Bits.{withoutBit}
+use Rattle.words.specs.rules.Bits.{withoutBit}
 use Rattle.trade.proofs.write.alone.Statement.{statement}
 use Rattle.trade.proofs.write.alone.Tie as tie
 

@@ -4,7 +4,7 @@ use native.Mathlib.Omega.{arith}
 use lib.ListN.{length, length-set}
 use borrow.Author.Tests.{le-ltb, lt-ltb}
 use Rattle.trade.proofs.WriteLaws.{fill-some}
-use Rattle.share.specs.Fills.{written}
+use Rattle.share.specs.inside.Fills.{written}
 use denote.Ref.{now}
 use borrow.Author.Needs.{needs}
 use Rattle.trade.proofs.write.put_fill.Statement.{statement}

@@ -5,13 +5,14 @@ use Prim.Native.Nat.{_+_, _*_, _^_, _≤_, _<_}
 use native.Mathlib.Omega.{arith}
 use lib.ListN.{length, getD, length-append}
 use borrow.Author.Needs.{needs}
-use Rattle.words.specs.Bits.{withoutBit}
-use Rattle.words.proofs.BitLaws.{without-le, set-le}
-use Rattle.board.specs.Board.{noResponse, liveIn, inSequence}
-use Rattle.board.specs.Theorems.{RisingFrom}
+use Rattle.words.specs.rules.Bits.{withoutBit}
+use Rattle.words.proofs.BitLaws.{without-le, trailing-le}
+use Rattle.board.specs.rules.Board.{noResponse, liveIn, inSequence}
+use Rattle.board.specs.promises.Board.{RisingFrom}
 use Rattle.board.proofs.FirstLaws.{Best}
-use Rattle.share.specs.Fills.{fillOf}
-use Rattle.share.proofs.FillsLaws.{Left, left-start, left-turn, left-done}
+use Rattle.share.specs.rules.Fills.{fillOf}
+use Rattle.share.specs.inside.Fills.{LeftFills}
+use Rattle.share.proofs.FillsLaws.{left-start, left-turn, left-done}
 use Rattle.trade.specs.inside.Code.{eachFills}
 use Rattle.trade.proofs.CodeLaws.{Turn, turn-of}
 use Rattle.trade.proofs.WriteLaws.{Pick, each-pick, each-none, rising-is, rising-without, unseen-le, hunt-start, hunt-step, hunt-end, gives-left}
@@ -26,7 +27,7 @@ Inv-loop word price turns amount total k out₀ at places w₀ left₀ rest₀ b
     × (length out ≡ length out₀)
     × (0 < rest → Best places rest best unseen)
     × (sorted ≡ true → RisingFrom 0 (liveIn rest places))
-    × Left out₀ at (eachFills price turns amount total k (inSequence (liveIn word places))) out w (eachFills price turns amount total left (inSequence (liveIn rest places)))
+    × LeftFills out₀ at (eachFills price turns amount total k (inSequence (liveIn word places))) out w (eachFills price turns amount total left (inSequence (liveIn rest places)))
 
 abbrev μ-loop : tie.MeasureT-loop
 μ-loop word price turns amount total k out₀ at places w₀ left₀ rest₀ best₀ sorted unseen₀ out w left rest best unseen =
@@ -36,7 +37,7 @@ first-set-requires : tie.Need-first-set-requires Inv-loop μ-loop
 first-set-requires c κs = search needs
 
 cast-best : tie.Need-cast-best Inv-loop μ-loop
-cast-best c = omega (arith, c .first-set .ensures, set-le 64 (c .before .before .args .word))
+cast-best c = omega (arith, c .first-set .ensures, trailing-le 64 (c .before .before .args .word))
 
 rising-requires : tie.Need-rising-requires Inv-loop μ-loop
 rising-requires c κs = search needs
@@ -157,7 +158,7 @@ first-set-requires-3 : tie.Need-first-set-requires-3 Inv-loop μ-loop
 first-set-requires-3 c κs = search needs
 
 cast-best-2 : tie.Need-cast-best-2 Inv-loop μ-loop
-cast-best-2 c = omega (arith, c .first-set3 .ensures, set-le 64 (c .before .without-bit2 .result))
+cast-best-2 c = omega (arith, c .first-set3 .ensures, trailing-le 64 (c .before .without-bit2 .result))
 
 unseen-of-requires-2 : tie.Need-unseen-of-requires-2 Inv-loop μ-loop
 unseen-of-requires-2 c κs = search needs

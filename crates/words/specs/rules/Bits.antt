@@ -2,6 +2,8 @@
 use Prim.Native.Nat.{ℕ, zero, suc, _+_, _-_, _/_, _%_, _^_}
 use mathlib.Core.Bool.{Bool, cond}
 use lib.Dec.{ltb, eqb}
+-- onesIn k w: how many of the k lowest bits of w are set. trailingZeros k w: the lowest of them that is set, and k where none is
+unfoldable pub use lib.Count.{onesIn, trailingZeros}
 
 -- is bit i of w set?
 abbrev pub bitAt : ℕ → ℕ → Bool
@@ -15,17 +17,11 @@ withBit w i = cond (ltb i 64) (cond (bitAt w i) w (w + 2 ^ i)) w
 unfoldable pub withoutBit : ℕ → ℕ → ℕ
 withoutBit w i = cond (bitAt w i) (w - 2 ^ i) w
 
--- how many of the k lowest bits of w are set
-unfoldable pub onesIn : ℕ → ℕ → ℕ
-onesIn zero w = 0
-onesIn (suc k) w = w % 2 + onesIn k (w / 2)
-
 -- the lowest of the k lowest bits of w that is clear, and k where all are set
 unfoldable pub clearIn : ℕ → ℕ → ℕ
 clearIn zero w = 0
 clearIn (suc k) w = cond (eqb (w % 2) 1) (suc (clearIn k (w / 2))) 0
 
--- the lowest of the k lowest bits of w that is set, and k where none is
-unfoldable pub setIn : ℕ → ℕ → ℕ
-setIn zero w = 0
-setIn (suc k) w = cond (eqb (w % 2) 1) 0 (suc (setIn k (w / 2)))
+-- w with its lowest set bit clear, and 0 where w is 0
+unfoldable pub withoutLowest : ℕ → ℕ
+withoutLowest w = withoutBit w (trailingZeros 64 w)

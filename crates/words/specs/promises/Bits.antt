@@ -2,7 +2,7 @@
 use mathlib.Core.Path.{_≡_}
 use mathlib.Core.Bool.{true, false}
 use Prim.Native.Nat.{ℕ, suc, _^_, _≤_, _<_}
-use Rattle.words.specs.Bits.{bitAt, withBit, withoutBit, onesIn, clearIn, setIn}
+use Rattle.words.specs.rules.Bits.{bitAt, withBit, withoutBit, onesIn, clearIn, trailingZeros}
 
 -- what test, set, clear, the count and the two searches mean
 pub record BitsMean : Type 0 where
@@ -24,8 +24,8 @@ pub record BitsMean : Type 0 where
   pub clear-room : (w : ℕ) → onesIn 64 w < 64 → clearIn 64 w < 64
   pub clear-full : (w : ℕ) → clearIn 64 w < 64 → onesIn 64 w < 64
   -- the first set bit: it is set, all below it are clear, and there is one where the word is not 0
-  pub set-at-most : (w : ℕ) → setIn 64 w ≤ 64
-  pub set-is : (w : ℕ) → setIn 64 w < 64 → bitAt w (setIn 64 w) ≡ true
-  pub set-lowest : (w j : ℕ) → j < setIn 64 w → bitAt w j ≡ false
-  pub set-some : (w : ℕ) → 0 < w → w < 2 ^ 64 → setIn 64 w < 64
-  pub set-none : setIn 64 0 ≡ 64
+  pub set-at-most : (w : ℕ) → trailingZeros 64 w ≤ 64
+  pub set-is : (w : ℕ) → trailingZeros 64 w < 64 → bitAt w (trailingZeros 64 w) ≡ true
+  pub set-lowest : (w j : ℕ) → j < trailingZeros 64 w → bitAt w j ≡ false
+  pub set-some : (w : ℕ) → 0 < w → w < 2 ^ 64 → trailingZeros 64 w < 64
+  pub set-none : trailingZeros 64 0 ≡ 64

@@ -4,8 +4,8 @@ use mathlib.Core.Bool.{Bool, false, cond, _&&_}
 use mathlib.Core.List.{List, [], _∷_}
 use lib.Dec.{leb, ltb, eqb}
 use lib.ListN.{getD, set, replicate}
-use Rattle.words.specs.Bits.{bitAt, withBit, withoutBit, onesIn, clearIn}
-use Rattle.board.specs.Lists.{keep}
+use Rattle.words.specs.rules.Bits.{bitAt, withBit, withoutBit, onesIn, clearIn}
+use Rattle.base.specs.Lists.{keep}
 use Rattle.board.specs.declared.Response.{Response}
 use Rattle.board.specs.declared.Board.{Board}
 

@@ -4,9 +4,9 @@ use mathlib.Core.Bool.{Bool, true, false}
 use mathlib.Core.List.{List, [], _∷_, map}
 use Prim.Native.Nat.{ℕ, suc, _+_, _^_, _≤_, _<_}
 use lib.ListN.{length}
-use Rattle.words.specs.Bits.{bitAt, withoutBit}
-use Rattle.board.specs.Lists.{filter, sum, Inserts, Shuffles}
-use Rattle.board.specs.Board.{responseAt, emptyBoard, isLive, liveCount, firstFree, liveIn, liveOf, wordOf, placed, cleared, findGtx, inSequence, bears, firstInSequence}
+use Rattle.words.specs.rules.Bits.{bitAt, withoutBit}
+use Rattle.base.specs.Lists.{filter, sum, Inserts, Shuffles}
+use Rattle.board.specs.rules.Board.{responseAt, emptyBoard, isLive, liveCount, firstFree, liveIn, liveOf, wordOf, placed, cleared, findGtx, inSequence, bears, firstInSequence}
 use Rattle.board.specs.declared.Response.{Response}
 use Rattle.board.specs.declared.Board.{Board}
 

@@ -2,6 +2,8 @@
 use Prim.Native.Nat.{ℕ, _+_}
 use mathlib.Core.Bool.{Bool, true, false}
 use mathlib.Core.List.{List, [], _∷_}
+use mathlib.Core.Logic.{_⊎_}
+use mathlib.Core.Path.{_≡_}
 
 -- x in front of the list, where the test passed
 abbrev pub keep : {A : Type 0} → Bool → A → List A → List A
@@ -22,6 +24,11 @@ sum (x ∷ xs) = x + sum xs
 abbrev pub Every : {A : Type 0} → (A → Type 0) → List A → Type 0
 Every P [] = Unit {0}
 Every P (x ∷ xs) = P x × Every P xs
+
+-- a is one of a list
+abbrev pub In : {A : Type 0} → A → List A → Type 0
+In a [] = ⊥
+In a (x ∷ xs) = (a ≡ x) ⊎ In a xs
 
 -- the second list is the first with r more, at some place
 pub data Inserts {A : Type 0} (r : A) : List A → List A → Type 0 where

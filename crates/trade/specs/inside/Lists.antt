@@ -1,9 +1,0 @@
--- Words for lists.
-use mathlib.Core.Path.{_≡_}
-use mathlib.Core.List.{List, [], _∷_}
-use mathlib.Core.Logic.{_⊎_}
-
--- a is one of a list
-abbrev pub In : {A : Type 0} → A → List A → Type 0
-In a [] = ⊥
-In a (x ∷ xs) = (a ≡ x) ⊎ In a xs
