@@ -6,7 +6,7 @@ use native.Mathlib.Omega.{arith}
 use lib.Dec.{eqb}
 use borrow.Author.Tests.{eq-eqb, ne-eqb, eqb-true}
 use Rattle.tape.specs.declared.event.Event.{Event}
-use Rattle.auction.specs.Mirror.{mirroredPriced, mirroredMarket, mirroredQuotes, mirroredEvent, buyEvent}
+use Rattle.mirror.specs.rules.Mirror.{mirroredPriced, mirroredMarket, mirroredQuotes, mirroredEvent, buyEvent}
 use Rattle.base.proofs.Bools.{by}
 
 -- what each kind's mirror keeps, the mirror keeps

@@ -13,9 +13,10 @@ use Rattle.tape.specs.declared.order.Order.{Order}
 use Rattle.tape.specs.declared.event.Event.{Event}
 use Rattle.tape.specs.rules.Form.{allFrom, within, inside, sides, prices, orderTests, orderFormed, shapeOf, shapeTests, eventFormed}
 use Rattle.tape.proofs.FormLaws.{each, within-ge, within-le, OrderBounds, order-bounds, RowBounds, row-bounds}
-use Rattle.auction.specs.Mirror.{mirrored, mirroredMarks, mirroredSide, mirroredOrder, mirroredPriced, mirroredMarket, mirroredQuotes, mirroredEvent, buyOrder, buyEvent}
+use Rattle.base.specs.Price.{mirrored}
+use Rattle.mirror.specs.rules.Mirror.{mirroredMarks, mirroredSide, mirroredOrder, mirroredPriced, mirroredMarket, mirroredQuotes, mirroredEvent, buyOrder, buyEvent}
 use Rattle.base.proofs.Bools.{by, no}
-use Rattle.auction.proofs.EventLaws.{mirror-one, mirror-three, mirror-four, mirror-five, mirror-rest, mirror-by, mirror-kind}
+use Rattle.mirror.proofs.EventLaws.{mirror-one, mirror-three, mirror-four, mirror-five, mirror-rest, mirror-by, mirror-kind}
 
 pub price-twice : (p : ℕ) → p ≤ 1000000 → mirrored (mirrored p) ≡ p
 unfolding mirrored

@@ -21,7 +21,7 @@ use Rattle.tape.specs.declared.event.ReadEvent.{ReadEvent}
 use Rattle.tape.specs.declared.event.ReadEvent.the-variants.{Event as GotEvent, Refused as NoEvent}
 use Rattle.tape.specs.rules.Records.{readEvent, readOrder}
 use Rattle.tape.specs.rules.Tape.{openTape, eventPlace}
-use Rattle.trade.specs.Trade.{total}
+use Rattle.trade.specs.rules.Trade.{traded}
 use Rattle.trade.proofs.WholeLaws.{fills-few}
 use Rattle.auction.specs.declared.Auction.{Auction}
 use Rattle.events.specs.declared.Answer.{Answer}
@@ -37,7 +37,7 @@ use Rattle.events.specs.declared.Change.the-variants.{Nothing, Seat, Free, Quot
 use Rattle.events.specs.declared.Outcome.{Outcome}
 use Rattle.events.specs.declared.Outcome.the-variants.{Refuses, Does}
 use Rattle.auction.specs.declared.Opening.{Opening}
-use Rattle.auction.specs.Mirror.{buyOrder, buyEvent}
+use Rattle.mirror.specs.rules.Mirror.{buyOrder, buyEvent}
 use Rattle.auction.specs.rules.Accept.{orderRefusal, openedBy, noAuction, acceptOf}
 use Rattle.auction.specs.rules.Range.{isOpen}
 use Rattle.events.specs.rules.Step.{eventRefusal, boardAfter, after, endedByTime, gives, carried, isFull, outcomeOf, inTime, stepOf, closeOf}
@@ -198,8 +198,8 @@ end-lines-short : (a : Auction) → places a ≡ 64 → length (endLines a) ≤ 
 unfolding endLines
 end-lines-short a h =
     let fs : List Fill = auctionFills a in
-    then-short 64 8867 (endLine a) (fillLines fs ++ totalLine (total fs)) (end-short a)
-    (then-short 8840 27 (fillLines fs) (totalLine (total fs)) (omega (arith, fills-short fs, fills-few (dealOf a) (a .board) h)) (total-short (total fs)))
+    then-short 64 8867 (endLine a) (fillLines fs ++ totalLine (traded fs)) (end-short a)
+    (then-short 8840 27 (fillLines fs) (totalLine (traded fs)) (omega (arith, fills-short fs, fills-few (dealOf a) (a .board) h)) (total-short (traded fs)))
 
 entry-short : (n : ℕ) (s : List ℕ) (a : Auction) (r : Entry) → n ≤ 2045 → places a ≡ 64 → length (linesOf (runEntry n s a r)) ≤ roomOf
 entry-short n s a (NoEntry number) h p = omega (arith, refused-short number)

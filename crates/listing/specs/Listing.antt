@@ -6,7 +6,7 @@ use Prim.Native.String.{String}
 use lib.Dec.{eqb, ltb}
 use lib.ListN.{length, drop}
 use Rattle.share.specs.rules.Fills.{Fill}
-use Rattle.trade.specs.Trade.{total}
+use Rattle.trade.specs.rules.Trade.{total}
 use Rattle.auction.specs.declared.Auction.{Auction}
 use Rattle.auction.specs.declared.Range.{Range}
 use Rattle.auction.specs.declared.Ending.{Ending}

@@ -15,8 +15,8 @@ use Rattle.board.specs.declared.Board.{Board}
 use Rattle.board.specs.declared.Response.{Response}
 use Rattle.board.proofs.BoardLaws.{seating, clearing, cleared-dead, find-gtx}
 use Rattle.words.proofs.BitLaws.{clear-is}
-use Rattle.tape.specs.declared.Event.{Event}
-use Rattle.trade.specs.Demands.{Absent, Distinct}
+use Rattle.tape.specs.declared.event.Event.{Event}
+use Rattle.demand.specs.promises.Demands.{Absent, Distinct}
 use Rattle.events.specs.rules.Step.{nameOf, isCancel, sightOf}
 use Rattle.run.specs.promises.Demands.{Fits}
 

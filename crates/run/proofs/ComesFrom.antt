@@ -13,10 +13,10 @@ use Rattle.base.proofs.ListLaws.{every-map}
 use Rattle.board.specs.rules.Board.{liveOf}
 use Rattle.board.specs.declared.Response.{Response}
 use Rattle.board.proofs.BoardLaws.{empty-live}
-use Rattle.tape.specs.declared.Order.{Order}
-use Rattle.tape.specs.declared.Event.{Event}
-use Rattle.trade.specs.Demands.{Distinct}
-use Rattle.auction.specs.Mirror.{buyOrder, buyEvent}
+use Rattle.tape.specs.declared.order.Order.{Order}
+use Rattle.tape.specs.declared.event.Event.{Event}
+use Rattle.demand.specs.promises.Demands.{Distinct}
+use Rattle.mirror.specs.rules.Mirror.{buyOrder, buyEvent}
 use Rattle.auction.specs.rules.Accept.{openedBy, acceptOf}
 use Rattle.auction.specs.rules.Range.{isOpen}
 use Rattle.events.specs.rules.Step.{sizeOf, sightOf, responseOf, boardAfter, headAfter, endedByTime, carried, seatedOn, stepOf}
@@ -29,7 +29,7 @@ use Rattle.events.specs.declared.Sight.{Sight}
 use Rattle.events.specs.declared.Turn.{Turn}
 use Rattle.auction.specs.declared.Entry.the-variants.{Accepted}
 use Rattle.run.proofs.StepLaws.{Outcomes, Ordinary, Cases, cases}
-use Rattle.auction.proofs.EventLaws.{buy-sequence, buy-kind}
+use Rattle.mirror.proofs.EventLaws.{buy-sequence, buy-kind}
 use Rattle.run.proofs.BoardSteps.{sees, seat-every, clear-every}
 use Rattle.run.proofs.Accepted.{Opened, opened}
 use Rattle.run.proofs.Resend.{any-change, taken-any, older, again, one}

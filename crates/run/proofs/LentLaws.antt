@@ -6,8 +6,8 @@ use Prim.Native.Nat.{ℕ, _<_, _^_}
 use native.Mathlib.Omega.{arith}
 use lib.Dec.{leb}
 use borrow.Author.Tests.{le-leb}
-use Rattle.tape.specs.Form.{eventFormed, shapeTests, shapeOf, allFrom, inside, anyNumber}
-use Rattle.tape.specs.declared.Event.{Event}
+use Rattle.tape.specs.rules.Form.{eventFormed, shapeTests, shapeOf, allFrom, inside, anyNumber}
+use Rattle.tape.specs.declared.event.Event.{Event}
 use Rattle.events.specs.rules.Step.{stepOf}
 use Rattle.run.specs.rules.Run.{run}
 use Rattle.events.specs.rules.Lent.{cancelEvent, Applies, none, more, answers, InPlace}

@@ -11,13 +11,15 @@ use Rattle.board.specs.rules.Board.{responseAt, firstFree, findGtx}
 use Rattle.board.specs.declared.Board.{Board}
 use Rattle.board.specs.declared.Response.{Response}
 use Rattle.share.specs.rules.Fills.{Fill, fillOf}
-use Rattle.tape.specs.declared.Order.{Order}
-use Rattle.tape.specs.declared.Event.{Event}
-use Rattle.tape.specs.Form.{orderFormed, eventFormed}
+use Rattle.tape.specs.declared.order.Order.{Order}
+use Rattle.tape.specs.declared.event.Event.{Event}
+use Rattle.tape.specs.rules.Form.{orderFormed, eventFormed}
 use Rattle.trade.specs.declared.Deal.{Deal}
-use Rattle.trade.specs.Trade.{Level, offers, fills, top, entry, next, offersAt, matches, isFinal, wants, levelAt, walk, marketPrice, levels, flat, total, levelFills, contra}
-use Rattle.trade.specs.Write.{shown, reported, fillsOf}
-use Rattle.auction.specs.Mirror.{mirrored, mirroredOrder, mirroredEvent, buyOrder, buyEvent}
+use Rattle.trade.specs.rules.Trade.{Level, offers, fills, top, entry, next, offersAt, levelAt, walk, marketPrice, levels, flat, traded, levelFills, contra}
+use Rattle.trade.specs.rules.Plan.{mode1, mode2, mode3}
+use Rattle.trade.specs.rules.Write.{reportedPrice, reported, fillsOf}
+use Rattle.base.specs.Price.{mirrored}
+use Rattle.mirror.specs.rules.Mirror.{mirroredOrder, mirroredEvent, buyOrder, buyEvent}
 use Rattle.auction.specs.rules.Accept.{orderRefusal, buyRefusal, termsOf, openedBy, noAuction, acceptOf}
 use Rattle.auction.specs.rules.Range.{isOpen}
 use Rattle.events.specs.rules.Step.{foundFor, sightOf, eventRefusal, gtxOutcome, cancelOutcome, sellLimitOutcome, buyLimitOutcome, limitOutcome, marketOutcome, quotesOutcome, outcomeOf, stays, endedByTime, headAfter, boardAfter, carried, turnOf, closeTurn, seatedOn, stepBy, stepOf, closeOf}
@@ -39,9 +41,9 @@ use Rattle.events.specs.declared.Turn.{Turn}
 use Rattle.events.specs.declared.Change.{Change}
 use Rattle.events.specs.declared.Outcome.{Outcome}
 use Rattle.events.specs.declared.Outcome.the-variants.{Refuses, Does}
-use Rattle.auction.proofs.EventLaws.{mirror-sequence, mirror-time, mirror-kind, mirror-rest}
+use Rattle.mirror.proofs.EventLaws.{mirror-sequence, mirror-time, mirror-kind, mirror-rest}
 use Rattle.run.proofs.Accepted.{Opened, opened}
-use Rattle.auction.proofs.MirrorForm.{marks-bits, order-twice, order-form, buy-mirrored, other-side, event-twice, event-form}
+use Rattle.mirror.proofs.MirrorForm.{marks-bits, order-twice, order-form, buy-mirrored, other-side, event-twice, event-form}
 
 -- ---- orders
 
@@ -227,7 +229,7 @@ module _ (d : Deal) (t : Bool) where
 
   module _ (rs : List Response) where
     level-same : (p left held : ℕ) → levelAt on rs p left held ≡ levelAt d rs p left held
-    unfolding levelAt offersAt wants isFinal matches entry top
+    unfolding levelAt offersAt mode3 mode2 mode1 entry top
     level-same p left held = refl
 
     walk-same : (n from left held : ℕ) → walk on rs n from left held ≡ walk d rs n from left held
@@ -240,12 +242,12 @@ module _ (d : Deal) (t : Bool) where
 
         go : (b : Bool) (x y : Level) → x ≡ y → ((f l h : ℕ) → walk on rs n f l h ≡ walk d rs n f l h)
             → _≡_ {A = List Level}
-            (elim b [ true ↦ [] | false ↦ x ∷ walk on rs n (x .price + 1) (left - total (levelFills x)) (held + contra x) ])
-            (elim b [ true ↦ [] | false ↦ y ∷ walk d rs n (y .price + 1) (left - total (levelFills y)) (held + contra y) ])
+            (elim b [ true ↦ [] | false ↦ x ∷ walk on rs n (x .price + 1) (left - traded (levelFills x)) (held + contra x) ])
+            (elim b [ true ↦ [] | false ↦ y ∷ walk d rs n (y .price + 1) (left - traded (levelFills y)) (held + contra y) ])
         go true x y h ih = refl
         go false x y h ih =
-            ap (λ (ls : List Level). x ∷ ls) (ih (x .price + 1) (left - total (levelFills x)) (held + contra x))
-            ∙ ap (λ (l : Level). l ∷ walk d rs n (l .price + 1) (left - total (levelFills l)) (held + contra l)) h
+            ap (λ (ls : List Level). x ∷ ls) (ih (x .price + 1) (left - traded (levelFills x)) (held + contra x))
+            ∙ ap (λ (l : Level). l ∷ walk d rs n (l .price + 1) (left - traded (levelFills l)) (held + contra l)) h
 
     market-same : marketPrice on rs ≡ marketPrice d rs
     unfolding marketPrice

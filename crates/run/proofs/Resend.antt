@@ -10,12 +10,12 @@ use lib.Dec.{leb, ltb, eqb}
 use borrow.Author.Tests.{le-leb, eqb-false}
 use Rattle.words.specs.rules.Bits.{bitAt}
 use Rattle.base.specs.Lists.{In, Every, keep}
-use Rattle.tape.specs.declared.Event.{Event}
-use Rattle.tape.specs.declared.Order.{Order}
-use Rattle.tape.specs.Form.{orderFormed, eventFormed}
+use Rattle.tape.specs.declared.event.Event.{Event}
+use Rattle.tape.specs.declared.order.Order.{Order}
+use Rattle.tape.specs.rules.Form.{orderFormed, eventFormed}
 use Rattle.base.proofs.Bools.{by, no}
 use Rattle.base.proofs.ListLaws.{every-in, every-map}
-use Rattle.auction.specs.Mirror.{buyOrder, buyEvent}
+use Rattle.mirror.specs.rules.Mirror.{buyOrder, buyEvent}
 use Rattle.auction.specs.rules.Accept.{initiatingOf, firstBound, guaranteedOf, rangeRefusal, buyRefusal, orderRefusal, acceptOf}
 use Rattle.auction.specs.rules.Range.{isOpen}
 use Rattle.events.specs.rules.Step.{sightOf, eventRefusal, headAfter, endedByTime, turnOf, closeTurn, gives, seatedOn, stepBy, stepOf, closeOf}

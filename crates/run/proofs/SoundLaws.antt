@@ -17,17 +17,18 @@ use Rattle.board.specs.declared.Board.{Board}
 use Rattle.board.specs.declared.Response.{Response}
 use Rattle.board.proofs.BoardLaws.{empty-good, empty-live, seated-good, cleared-good}
 use Rattle.share.specs.rules.Fills.{Fill}
-use Rattle.tape.specs.declared.Event.{Event}
-use Rattle.tape.specs.declared.Order.{Order}
-use Rattle.tape.specs.Form.{eventFormed, shapeOf, shapeTests, orderFormed}
+use Rattle.tape.specs.declared.event.Event.{Event}
+use Rattle.tape.specs.declared.order.Order.{Order}
+use Rattle.tape.specs.rules.Form.{eventFormed, shapeOf, shapeTests, orderFormed}
 use Rattle.tape.proofs.FormLaws.{each, within-ge, order-bounds}
 use Rattle.trade.specs.declared.Deal.{Deal}
-use Rattle.trade.specs.Trade.{offers, fills, total}
-use Rattle.trade.specs.Write.{shown, reported, fillsOf}
-use Rattle.trade.specs.Demands.{Absent, Distinct, InRange, Demand3, Sound as SoundDeal}
-use Rattle.trade.proofs.Theorems.{demand3}
-use Rattle.trade.proofs.Plans.{plans}
-use Rattle.auction.specs.Mirror.{mirrored, mirroredOrder, buyOrder, buyEvent}
+use Rattle.trade.specs.rules.Trade.{offers, fills, traded}
+use Rattle.trade.specs.rules.Write.{reportedPrice, reported, fillsOf}
+use Rattle.demand.specs.promises.Demands.{Absent, Distinct, InRange, Demand3, Tradable as SoundDeal}
+use Rattle.demand.proofs.Theorems.{demand3}
+use Rattle.demand.proofs.Theorems.{plans}
+use Rattle.base.specs.Price.{mirrored}
+use Rattle.mirror.specs.rules.Mirror.{mirroredOrder, buyOrder, buyEvent}
 use Rattle.auction.specs.rules.Accept.{initiatingOf, boundOf, firstBound, termsOf, quotesOf, openedBy, acceptOf}
 use Rattle.auction.specs.rules.Range.{isOpen, boundBy}
 use Rattle.events.specs.rules.Step.{sizeOf, sightOf, responseOf, boardAfter, quotesAfter, marketAfter, headAfter, endedByTime, carried, closeTurn, seatedOn, stepBy, stepOf, closeOf}
@@ -46,7 +47,7 @@ use Rattle.events.specs.declared.Sight.{Sight}
 use Rattle.events.specs.declared.Turn.{Turn}
 use Rattle.auction.specs.declared.Entry.the-variants.{Accepted}
 use Rattle.run.proofs.StepLaws.{Outcomes, Ordinary, Cases, cases}
-use Rattle.auction.proofs.EventLaws.{buy-sequence, buy-kind, mirror-one, mirror-three, priced-size}
+use Rattle.mirror.proofs.EventLaws.{buy-sequence, buy-kind, mirror-one, mirror-three, priced-size}
 use Rattle.run.proofs.BoardSteps.{sees, seat-every, clear-every, seat-distinct, clear-distinct}
 use Rattle.run.proofs.Accepted.{Passed, bound-fits, Opened, opened, price-fits}
 use Rattle.run.proofs.Resend.{keeps}
@@ -223,16 +224,16 @@ sound-deal a s =
       market-apart = s .market-apart;
     }
 
-reported-total : (sell : Bool) (fs : List Fill) → total (reported sell fs) ≡ total fs
+reported-total : (sell : Bool) (fs : List Fill) → traded (reported sell fs) ≡ traded fs
 reported-total sell [] = refl
 reported-total sell (f ∷ fs) = ap (λ (n : ℕ). f .quantity + n) (reported-total sell fs)
 
--- a price of the range, as it is shown
-shown-in : (a : Auction) (f : Fill) → InRange (dealOf (a .head)) f → Within (rangeOf (a .head)) (record { party = f .party; price = shown (a .head .terms .sell) (f .price); quantity = f .quantity })
+-- a price of the range, as it is reportedPrice
+shown-in : (a : Auction) (f : Fill) → InRange (dealOf (a .head)) f → Within (rangeOf (a .head)) (record { party = f .party; price = reportedPrice (a .head .terms .sell) (f .price); quantity = f .quantity })
 unfolding rangeOf dealOf mirrored
 shown-in a f h = go (a .head .terms .sell)
   where
-    go : (sell : Bool) → Within (cond sell (record { low = 1000000 - a .head .terms .initiating; high = 1000000 - boundNow (a .head) }) (record { low = boundNow (a .head); high = a .head .terms .initiating })) (record { party = f .party; price = shown sell (f .price); quantity = f .quantity })
+    go : (sell : Bool) → Within (cond sell (record { low = 1000000 - a .head .terms .initiating; high = 1000000 - boundNow (a .head) }) (record { low = boundNow (a .head); high = a .head .terms .initiating })) (record { party = f .party; price = reportedPrice sell (f .price); quantity = f .quantity })
     go true = record { low = omega (arith, h .high); high = omega (arith, h .low) }
     go false = record { low = h .low; high = h .high }
 

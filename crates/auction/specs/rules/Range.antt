@@ -1,7 +1,7 @@
 -- The range that holds in an auction (document 01, "Range and guarantee"), and whether it is open.
 use mathlib.Core.Bool.{Bool, true, false, cond}
 use Prim.Native.Nat.{ℕ, min}
-use Rattle.auction.specs.Mirror.{mirrored}
+use Rattle.base.specs.Price.{mirrored}
 use Rattle.auction.specs.rules.Accept.{boundOf}
 use Rattle.auction.specs.declared.Head.{Head}
 use Rattle.auction.specs.declared.Terms.{Terms}

@@ -1,6 +1,6 @@
 -- The auction lent and updated in place: a cancel that is given by its numbers.
 use Prim.Native.Nat.{ℕ}
-use Rattle.tape.specs.declared.Event.{Event}
+use Rattle.tape.specs.declared.event.Event.{Event}
 
 -- the cancel (kind 2) of the GTX whose sequence is `named`
 unfoldable pub cancelEvent : ℕ → ℕ → ℕ → Event

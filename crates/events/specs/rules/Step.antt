@@ -6,9 +6,9 @@ use Rattle.words.specs.rules.Bits.{bitAt}
 use Rattle.board.specs.declared.Response.{Response}
 use Rattle.board.specs.declared.Board.{Board}
 use Rattle.board.specs.rules.Board.{responseAt, firstFree, seatedAt, cleared, findGtx}
-use Rattle.tape.specs.declared.Event.{Event}
-use Rattle.tape.specs.Form.{eventFormed}
-use Rattle.auction.specs.Mirror.{buyEvent}
+use Rattle.tape.specs.declared.event.Event.{Event}
+use Rattle.tape.specs.rules.Form.{eventFormed}
+use Rattle.mirror.specs.rules.Mirror.{buyEvent}
 use Rattle.auction.specs.rules.Accept.{bidMark, offerMark}
 use Rattle.auction.specs.rules.Range.{isOpen, boundBy}
 use Rattle.auction.specs.declared.Auction.{Auction}

@@ -5,7 +5,7 @@ use Prim.Native.Nat.{ℕ}
 use Rattle.share.specs.rules.Fills.{Fill}
 use Rattle.trade.specs.declared.Deal.{Deal}
 use Rattle.trade.specs.declared.Filled.{Filled}
-use Rattle.trade.specs.Write.{fillsOf, answer, after}
+use Rattle.trade.specs.rules.Write.{fillsOf, fillAnswer, fillWords}
 use Rattle.auction.specs.rules.Range.{isOpen, boundNow}
 use Rattle.auction.specs.declared.Auction.{Auction}
 use Rattle.auction.specs.declared.Head.{Head}
@@ -33,7 +33,7 @@ auctionFills a = fillsOf (dealOf (a .head)) (a .board)
 
 -- 40 before the ending, then 39, then the number of fills; and the words
 abbrev pub fillsAnswer : Auction → List ℕ → ℕ → Filled
-fillsAnswer a xs start = answer (hasEnded (a .head)) (dealOf (a .head)) (a .board) xs start
+fillsAnswer a xs start = fillAnswer (hasEnded (a .head)) (dealOf (a .head)) (a .board) xs start
 
 abbrev pub fillsAfter : Auction → List ℕ → ℕ → List ℕ
-fillsAfter a xs start = after (hasEnded (a .head)) (dealOf (a .head)) (a .board) xs start
+fillsAfter a xs start = fillWords (hasEnded (a .head)) (dealOf (a .head)) (a .board) xs start

@@ -2,7 +2,7 @@ use mathlib.Core.Path.{ap, _∙_}
 use native.Mathlib.Omega.{arith}
 use denote.Ref.{now}
 use lib.ListN.{drop}
-use Rattle.tape.specs.Tape.{eventPlace}
+use Rattle.tape.specs.rules.Tape.{eventPlace}
 use Rattle.fills.specs.rules.Fills.{hasEnded}
 use Rattle.listing.specs.Run.{heardAll, closed}
 use Rattle.listing.proofs.RunLaws.{closed-ended}

@@ -14,11 +14,12 @@ use Rattle.share.specs.rules.Fills.{Fill}
 use Rattle.tape.specs.declared.order.Order.{Order}
 use Rattle.tape.specs.declared.event.Event.{Event}
 use Rattle.tape.specs.rules.Form.{orderFormed, eventFormed}
-use Rattle.trade.specs.Trade.{offers, fills, total}
-use Rattle.trade.specs.Demands.{Absent, Distinct, Demand3}
-use Rattle.trade.specs.Plan.{Planned}
+use Rattle.trade.specs.rules.Trade.{offers, fills, traded}
+use Rattle.demand.specs.promises.Demands.{Absent, Distinct, Demand3}
+use Rattle.demand.specs.promises.Demands.{Planned}
 use Rattle.words.specs.rules.Bits.{bitAt}
-use Rattle.auction.specs.Mirror.{mirrored, mirroredMarks, mirroredOrder, mirroredEvent, buyEvent}
+use Rattle.base.specs.Price.{mirrored}
+use Rattle.mirror.specs.rules.Mirror.{mirroredMarks, mirroredOrder, mirroredEvent, buyEvent}
 use Rattle.auction.specs.rules.Accept.{acceptOf}
 use Rattle.auction.specs.rules.Range.{isOpen, boundBy}
 use Rattle.events.specs.rules.Step.{sizeOf, sightOf, responseOf, gives, stepBy, stepOf, closeOf}
@@ -121,7 +122,7 @@ pub record Trades (a : Auction) : Type 0 where
   pub clauses : Demand3 (dealOf (a .head)) (a .board) (fills (dealOf (a .head)) (offers (a .board)))
   -- each price of the walk has document 01's plan
   pub plans : Planned (dealOf (a .head)) (a .board)
-  pub adds-up : total (auctionFills a) ≡ a .head .terms .size
+  pub adds-up : traded (auctionFills a) ≡ a .head .terms .size
   pub in-range : Every (Within (rangeOf (a .head))) (auctionFills a)
 
 pub record Demanded : Type 0 where

@@ -4,8 +4,8 @@ use mathlib.Core.List.{List, [], _∷_, map}
 use mathlib.Core.Path.{_≡_}
 use Prim.Native.Nat.{ℕ}
 use Rattle.share.specs.rules.Fills.{Fill}
-use Rattle.tape.specs.declared.Order.{Order}
-use Rattle.tape.specs.declared.Event.{Event}
+use Rattle.tape.specs.declared.order.Order.{Order}
+use Rattle.tape.specs.declared.event.Event.{Event}
 use Rattle.auction.specs.rules.Accept.{acceptOf}
 use Rattle.auction.specs.rules.Range.{rangeOf}
 use Rattle.fills.specs.rules.Fills.{auctionFills}

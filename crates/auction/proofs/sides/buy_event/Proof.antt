@@ -1,4 +1,4 @@
-use Rattle.auction.specs.Mirror.{buyEvent}
+use Rattle.mirror.specs.rules.Mirror.{buyEvent}
 use borrow.Author.Needs.{needs}
 use Rattle.auction.proofs.sides.buy_event.Statement.{statement}
 use Rattle.auction.proofs.sides.buy_event.Tie as tie

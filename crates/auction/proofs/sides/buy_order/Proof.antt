@@ -1,5 +1,5 @@
 use borrow.Author.Tests.{eq-eqb, ne-eqb}
-use Rattle.auction.specs.Mirror.{buyOrder}
+use Rattle.mirror.specs.rules.Mirror.{buyOrder}
 use borrow.Author.Needs.{needs}
 use Rattle.auction.proofs.sides.buy_order.Statement.{statement}
 use Rattle.auction.proofs.sides.buy_order.Tie as tie

@@ -1,5 +1,5 @@
 use borrow.Author.Tests.{eq-eqb, ne-eqb}
-use Rattle.auction.specs.Mirror.{mirroredEvent}
+use Rattle.mirror.specs.rules.Mirror.{mirroredEvent}
 use borrow.Author.Needs.{needs}
 use Rattle.auction.proofs.sides.mirror_event.Statement.{statement}
 use Rattle.auction.proofs.sides.mirror_event.Tie as tie

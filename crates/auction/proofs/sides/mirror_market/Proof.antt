@@ -1,4 +1,4 @@
-use Rattle.auction.specs.Mirror.{mirroredMarket}
+use Rattle.mirror.specs.rules.Mirror.{mirroredMarket}
 use borrow.Author.Needs.{needs}
 use Rattle.auction.proofs.sides.mirror_market.Statement.{statement}
 use Rattle.auction.proofs.sides.mirror_market.Tie as tie

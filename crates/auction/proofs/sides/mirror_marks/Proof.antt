@@ -1,4 +1,4 @@
-use Rattle.auction.specs.Mirror.{mirroredMarks}
+use Rattle.mirror.specs.rules.Mirror.{mirroredMarks}
 use borrow.Author.Needs.{needs}
 use Rattle.auction.proofs.sides.mirror_marks.Statement.{statement}
 use Rattle.auction.proofs.sides.mirror_marks.Tie as tie

@@ -1,4 +1,4 @@
-use Rattle.auction.specs.Mirror.{mirroredOrder}
+use Rattle.mirror.specs.rules.Mirror.{mirroredOrder}
 use borrow.Author.Needs.{needs}
 use Rattle.auction.proofs.sides.mirror_order.Statement.{statement}
 use Rattle.auction.proofs.sides.mirror_order.Tie as tie

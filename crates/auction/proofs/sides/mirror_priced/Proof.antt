@@ -1,4 +1,4 @@
-use Rattle.auction.specs.Mirror.{mirroredPriced}
+use Rattle.mirror.specs.rules.Mirror.{mirroredPriced}
 use borrow.Author.Needs.{needs}
 use Rattle.auction.proofs.sides.mirror_priced.Statement.{statement}
 use Rattle.auction.proofs.sides.mirror_priced.Tie as tie

@@ -1,4 +1,4 @@
-use Rattle.auction.specs.Mirror.{mirroredQuotes}
+use Rattle.mirror.specs.rules.Mirror.{mirroredQuotes}
 use borrow.Author.Needs.{needs}
 use Rattle.auction.proofs.sides.mirror_quotes.Statement.{statement}
 use Rattle.auction.proofs.sides.mirror_quotes.Tie as tie

@@ -1,5 +1,5 @@
 use borrow.Author.Tests.{eq-eqb, ne-eqb}
-use Rattle.auction.specs.Mirror.{mirroredSide}
+use Rattle.mirror.specs.rules.Mirror.{mirroredSide}
 use Rattle.auction.proofs.sides.mirror_side.Statement.{statement}
 use Rattle.auction.proofs.sides.mirror_side.Tie as tie
 

@@ -40,7 +40,7 @@ use denote.Triple.Clauses.{ensured, lasts}
 use denote.Exit.{yes}
 use Rattle.events.specs.rules.Step.{stepOf}
 use Rattle.auction.specs.declared.Auction.{Auction}
-use Rattle.tape.specs.declared.Event.{Event}
+use Rattle.tape.specs.declared.event.Event.{Event}
 use Rattle.events.specs.declared.Answer.{Answer}
 use Rattle.events.proofs.Answer as N
 use Rattle.events.proofs.Answer.Laws as N′

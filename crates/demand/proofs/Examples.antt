@@ -10,9 +10,10 @@ use Rattle.base.specs.Lists.{sum, filter}
 use Rattle.board.specs.rules.Board.{noResponse, liveIn, inserted, inSequence}
 use Rattle.share.specs.rules.Share.{shares}
 use Rattle.share.specs.rules.Fills.{words}
 use Rattle.trade.specs.declared.Deal.{Deal}
-use Rattle.trade.specs.Trade.{levelFills, guaranteeOf, top, entry, next, offersAt, matches, isFinal, wants, levelAt, walk, marketPrice, levels, fills}
-use Rattle.trade.specs.Write.{fillsOf}
+use Rattle.trade.specs.rules.Plan.{mode1, mode2, mode3}
+use Rattle.trade.specs.rules.Trade.{levelFills, guaranteeOf, top, entry, next, offersAt, levelAt, walk, marketPrice, levels, fills}
+use Rattle.trade.specs.rules.Write.{fillsOf}
 
 -- sequence, size, price; no Customer's
 abbrev pub gtx : ℕ → ℕ → ℕ → Response
@@ -69,5 +70,5 @@ figures =
     ∷ []
 
 pub figures-hold : map (λ (c : Case). words (fillsOf (c .deal) (c .board))) figures ≡ map (λ (c : Case). c .want) figures
-unfolding sum filter liveIn inserted inSequence shares levelFills guaranteeOf top entry next offersAt matches isFinal wants levelAt walk marketPrice levels fills fillsOf
+unfolding sum filter liveIn inserted inSequence shares levelFills guaranteeOf top entry next offersAt mode1 mode2 mode3 levelAt walk marketPrice levels fills fillsOf
 figures-hold = refl

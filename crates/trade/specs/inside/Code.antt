@@ -15,18 +15,27 @@ use Rattle.trade.specs.declared.Found.{Found}
 use Rattle.trade.specs.declared.Given.{Given}
 use Rattle.trade.specs.declared.Price.{Price}
 use Rattle.trade.specs.declared.Walked.{Walked}
-use Rattle.trade.specs.Trade.{Level, customers, others, contra, levelFills, total, top, entry, walk}
+use Rattle.trade.specs.rules.Plan.{Plan}
+use Rattle.trade.specs.rules.Trade.{Level, customers, others, contra, levelFills, total, top, entry, walk}
 
--- ---- the plan, on numbers
+-- ---- the plan of a price, without its mode's cases: entry is the price from which on the Contra Order takes part, top the last price
 
+-- what the Contra Order matches
 unfoldable pub matchOf : ℕ → ℕ → ℕ → ℕ → ℕ
-matchOf mode G held A = cond (eqb mode 3 && leb G held) 0 A
+matchOf mode G held A = cond (eqb mode 2) A (cond (leb G held) 0 A)
 
+-- whether p is the last price, or what is left would be used up by filling and matching
 unfoldable pub lastOf : ℕ → ℕ → ℕ → ℕ → ℕ → Bool
 lastOf entry top p left need = leb entry p && (eqb p top || leb left need)
 
 unfoldable pub wantOf : Bool → ℕ → ℕ → ℕ → ℕ → ℕ → ℕ
 wantOf last entry p G held m = cond last (G - held) (cond (leb entry p) m 0)
+
+abbrev pub planBy : ℕ → ℕ → ℕ → ℕ → ℕ → ℕ → ℕ → ℕ → Plan
+planBy mode entry top G p left held A =
+    let m = matchOf mode G held A in
+    let last = lastOf entry top p left (A + m) in
+    record { want = wantOf last entry p G held m; final = last }
 
 -- ---- the numbers of a level, by the sums C and T of the Customers' and the others' sizes
 
@@ -131,13 +140,13 @@ levelOf d places G s =
     let p = leastOf (d .bound) (top d) (liveIn (s .rest) places) in
     let os = inSequence (filter (worksAt (d .bound) p) (liveIn (s .rest) places)) in
     let A = sum (sizes os) in
-    let last = lastOf (entry d) (top d) p (s .left) (A + matchOf (d .mode) G (s .held) A) in
+    let plan = planBy (d .mode) (entry d) (top d) G p (s .left) (s .held) A in
     record {
       price = p;
       left = s .left;
       held = s .held;
-      want = wantOf last (entry d) p G (s .held) (matchOf (d .mode) G (s .held) A);
-      final = last;
+      want = plan .want;
+      final = plan .final;
       here = os;
     }
 

@@ -9,7 +9,7 @@ use Rattle.share.specs.rules.Fills.{Fill, words}
 use Rattle.trade.specs.declared.Deal.{Deal}
 use Rattle.trade.specs.declared.Filled.{Filled}
 use Rattle.trade.specs.declared.Filled.the-variants.{Count, Refused}
-use Rattle.trade.specs.Trade.{offers, fills}
+use Rattle.trade.specs.rules.Trade.{offers, fills}
 
 -- a sell's prices are mirrored back
 abbrev pub shown : Bool → ℕ → ℕ

@@ -9,12 +9,12 @@ use borrow.Author.Tests.{eqb-true, eqb-false}
 use lib.Dec.{eqb}
 use lib.ListN.{length}
 use Rattle.board.specs.declared.Response.{Response}
-use Rattle.base.specs.Lists.{Every}
+use Rattle.base.specs.Lists.{Every, In}
 use Rattle.trade.specs.declared.Deal.{Deal}
-use Rattle.trade.specs.Trade.{working, workingStop, top, next, marketPrice}
-use Rattle.trade.specs.Demands.{In}
-use Rattle.trade.proofs.Lists.{all-map}
-use Rattle.trade.proofs.Walk.{Fit, top-above, stop-top, next-bound, next-top, next-least, next-high}
+use Rattle.trade.specs.rules.Trade.{working, workingStop, top, next, marketPrice}
+use Rattle.base.proofs.ListLaws.{every-map}
+use Rattle.demand.proofs.Walk.{Fit, top-above, stop-top, next-bound, next-high}
+use Rattle.trade.proofs.Walk.{next-top, next-least}
 
 module _ (d : Deal) (rs : List Response) where
   -- its three cases
@@ -43,7 +43,7 @@ module _ (d : Deal) (rs : List Response) where
   next-is : (o : Response) → In o rs → Every (λ x. working d o ≤ working d x) rs → next d 0 rs ≡ min (working d o) (top d)
   next-is o m a =
       let b : min (working d o) (top d) ≤ next d 0 rs =
-      next-high d 0 (min (working d o) (top d)) (omega arith) rs (all-map (λ x. working d o ≤ working d x) (λ x. min (working d o) (top d) ≤ working d x) rs (λ x h. omega arith) a) in
+      next-high d 0 (min (working d o) (top d)) (omega arith) rs (every-map (λ x. working d o ≤ working d x) (λ x. min (working d o) (top d) ≤ working d x) rs (λ x h. omega arith) a) in
       omega (arith, next-top d 0 rs, next-least d 0 rs o m (omega arith))
 
   module _ (s : Fit d rs) where

@@ -11,11 +11,12 @@ use Rattle.board.specs.declared.Response.{Response}
 use Rattle.base.specs.Lists.{filter, sum}
 use Rattle.board.specs.rules.Board.{liveIn, inserted, inSequence}
 use Rattle.share.specs.rules.Fills.{Fill}
 use Rattle.trade.specs.declared.Deal.{Deal}
-use Rattle.trade.specs.Trade.{offers, Level, guaranteeOf, top, entry, next, offersAt, matches, isFinal, wants, levelAt, walk, marketPrice, levels, fills}
-use Rattle.trade.specs.Demands.{got, soldAt, Sound, Demand3}
-use Rattle.trade.proofs.Examples.{gtx, board, deal, ended}
-use Rattle.trade.proofs.Theorems.{demand3}
+use Rattle.trade.specs.rules.Plan.{mode1, mode2, mode3}
+use Rattle.trade.specs.rules.Trade.{offers, Level, guaranteeOf, top, entry, next, offersAt, levelAt, walk, marketPrice, levels, fills}
+use Rattle.demand.specs.promises.Demands.{got, soldAt, Sound, Demand3}
+use Rattle.demand.proofs.Examples.{gtx, board, deal, ended}
+use Rattle.demand.proofs.Theorems.{demand3}
 
 -- ---- case b
 
@@ -95,5 +96,5 @@ abbrev there : Level
 there = record { price = 105; left = 100; held = 0; want = 30; final = false; here = customer 1 30 105 ∷ [] }
 
 pub not-passed-over : Demand3 (deal false 100 2 110 100 0) (board (customer 1 30 105 ∷ [])) (fill 0 100 100 ∷ []) → ⊥
-unfolding liveIn inserted inSequence guaranteeOf top entry next offersAt matches isFinal wants levelAt walk levels filter sum
+unfolding liveIn inserted inSequence guaranteeOf top entry next offersAt mode1 mode2 mode3 levelAt walk levels filter sum
 not-passed-over h = omega (arith, h .by-level there (inl refl) .trades)

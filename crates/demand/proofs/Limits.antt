@@ -9,14 +9,15 @@ use borrow.Author.Tests.{leb-true, leb-false, ltb-true, ltb-false, eq-eqb}
 use lib.Dec.{leb, ltb, eqb}
 use lib.ListN.{length}
 use Rattle.board.specs.declared.Response.{Response}
-use Rattle.base.specs.Lists.{Every, sum}
+use Rattle.base.specs.Lists.{Every, sum, In}
 use Rattle.trade.specs.declared.Deal.{Deal}
-use Rattle.trade.specs.Trade.{Level, shared, given, rest, contra, levelFills, total, flat, top, entry, offersAt}
-use Rattle.trade.specs.Demands.{In, soldAt}
-use Rattle.trade.proofs.Lists.{all-append, all-map, tally-all, got-zero, soldAt-none}
-use Rattle.trade.proofs.Levels.{all-level, got-contra}
-use Rattle.trade.proofs.Walk.{Fit, Good, Run}
-use Rattle.trade.proofs.Runs.{sold-append, run-from, run-above, no-contra}
+use Rattle.trade.specs.rules.Trade.{Level, shared, given, rest, contra, levelFills, total, flat, top, entry, offersAt}
+use Rattle.demand.specs.promises.Demands.{soldAt}
+use Rattle.base.proofs.ListLaws.{every-append, every-map}
+use Rattle.demand.proofs.Lists.{tally-all, got-zero, soldAt-none}
+use Rattle.demand.proofs.Levels.{all-level, got-contra}
+use Rattle.demand.proofs.Walk.{Fit, Good, Run}
+use Rattle.demand.proofs.Runs.{sold-append, run-from, run-above, no-contra}
 
 module _ (d : Deal) (rs : List Response) (s : Fit d rs) where
   -- below its entry price the Contra Order gets nothing
@@ -26,28 +27,36 @@ module _ (d : Deal) (rs : List Response) (s : Fit d rs) where
       let r : rest l ≡ 0 = ap (λ b. cond b (shared l - sum (given l)) 0) (w .1) in
       omega (arith, w .0)
 
+  -- so on arriving at its entry price, and before, it holds what it held at first
+  pub run-early : (from left held : ℕ) (ls : List Level) → Run d rs from left held ls → (l : Level) → In l ls → l .price ≤ entry d → l .held ≡ held
+  run-early from left held [] r l m h = absurd m
+  run-early from left held (x ∷ xs) r l (inl e) h = ap (λ (y : Level). y .held) e ∙ r .0 .held-is
+  run-early from left held (x ∷ xs) r l (inr m) h =
+      let k : x .price + 1 ≤ l .price = run-above d rs s _ _ _ xs (r .1) l m in
+      omega (arith, run-early _ _ _ xs (r .1) l m h, none-early from left held x (r .0) (omega arith))
+
   pub run-entry : (from left held : ℕ) (ls : List Level) → Run d rs from left held ls → Every (λ f. f .party ≡ 0 → entry d ≤ f .price) (flat ls)
   run-entry from left held [] r = tt
   run-entry from left held (l ∷ ls) r =
-      all-append (λ f. f .party ≡ 0 → entry d ≤ f .price) (levelFills l) (flat ls) (go (leb (entry d) (l .price)) refl) (run-entry _ _ _ ls (r .1))
+      every-append (λ f. f .party ≡ 0 → entry d ≤ f .price) (levelFills l) (flat ls) (go (leb (entry d) (l .price)) refl) (run-entry _ _ _ ls (r .1))
     where
       go : (b : Bool) → leb (entry d) (l .price) ≡ b → Every (λ f. f .party ≡ 0 → entry d ≤ f .price) (levelFills l)
       go true e = all-level l (λ f. f .party ≡ 0 → entry d ≤ f .price) (λ k q h z. leb-true (entry d) (l .price) e)
       go false e =
-          all-map (λ f. f .party ≢ 0) (λ f. f .party ≡ 0 → entry d ≤ f .price) (levelFills l) (λ f h z. absurd (h z))
+          every-map (λ f. f .party ≢ 0) (λ f. f .party ≡ 0 → entry d ≤ f .price) (levelFills l) (λ f h z. absurd (h z))
           (got-zero 0 (levelFills l) (all-level l (λ f. 0 < f .quantity) (λ k q h. h))
           (got-contra l (no-contra d rs s from left held l (r .0)) ∙ none-early from left held l (r .0) (leb-false (entry d) (l .price) e)))
 
   -- no level lies above the last price
   pub run-top : (from left held : ℕ) (ls : List Level) → Run d rs from left held ls → Every (λ f. f .price ≤ top d) (flat ls)
   run-top from left held [] r = tt
-  run-top from left held (l ∷ ls) r = all-append (λ f. f .price ≤ top d) (levelFills l) (flat ls) (all-level l (λ f. f .price ≤ top d) (λ k q h. r .0 .in-top)) (run-top _ _ _ ls (r .1))
+  run-top from left held (l ∷ ls) r = every-append (λ f. f .price ≤ top d) (levelFills l) (flat ls) (all-level l (λ f. f .price ≤ top d) (λ k q h. r .0 .in-top)) (run-top _ _ _ ls (r .1))
 
   -- each level but that of the last price has responses
   pub run-prices : (from left held : ℕ) (ls : List Level) → Run d rs from left held ls → Every (λ f. (0 < length (offersAt d rs (f .price))) ⊎ (f .price ≡ top d)) (flat ls)
   run-prices from left held [] r = tt
   run-prices from left held (l ∷ ls) r =
-      all-append (λ f. (0 < length (offersAt d rs (f .price))) ⊎ (f .price ≡ top d)) (levelFills l) (flat ls)
+      every-append (λ f. (0 < length (offersAt d rs (f .price))) ⊎ (f .price ≡ top d)) (levelFills l) (flat ls)
       (all-level l (λ f. (0 < length (offersAt d rs (f .price))) ⊎ (f .price ≡ top d)) (λ k q h. go (ltb (l .price) (top d)) refl)) (run-prices _ _ _ ls (r .1))
     where
       go : (b : Bool) → ltb (l .price) (top d) ≡ b → (0 < length (offersAt d rs (l .price))) ⊎ (l .price ≡ top d)
@@ -61,7 +70,7 @@ module _ (d : Deal) (rs : List Response) (s : Fit d rs) where
       let here : soldAt (x .price) (levelFills x) ≡ total (levelFills x) =
       tally-all (λ f. eqb (f .price) (x .price)) (levelFills x) (all-level x (λ f. eqb (f .price) (x .price) ≡ true) (λ k w h. eq-eqb (x .price) (x .price) refl)) in
       let later : soldAt (x .price) (flat xs) ≡ 0 =
-      soldAt-none (x .price) (flat xs) (all-map (λ f. x .price + 1 ≤ f .price) (λ f. f .price ≢ x .price) (flat xs) (λ f h. omega arith) (run-from d rs s _ _ _ xs (r .1))) in
+      soldAt-none (x .price) (flat xs) (every-map (λ f. x .price + 1 ≤ f .price) (λ f. f .price ≢ x .price) (flat xs) (λ f h. omega arith) (run-from d rs s _ _ _ xs (r .1))) in
       subst (λ (y : Level). soldAt (y .price) (flat (x ∷ xs)) ≡ total (levelFills y)) (sym q) (omega (arith, sold-append (x .price) (levelFills x) (flat xs)))
   run-sold from left held (x ∷ xs) r l (inr n) =
       let h : x .price + 1 ≤ l .price = run-above d rs s _ _ _ xs (r .1) l n in

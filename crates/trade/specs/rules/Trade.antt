@@ -11,6 +11,7 @@ use Rattle.board.specs.rules.Board.{liveOf, inSequence}
 use Rattle.share.specs.rules.Share.{shares, inTurn}
 use Rattle.share.specs.rules.Fills.{Fill, fillOf, fillsBy, sizes}
 use Rattle.trade.specs.declared.Deal.{Deal}
+use Rattle.trade.specs.rules.Plan.{planOf}
 
 -- the live responses, in rising order of sequence
 abbrev pub offers : Board → List Response
@@ -40,6 +41,10 @@ customers l = filter isCustomer (l .here)
 
 abbrev pub others : Level → List Response
 others l = filter isOther (l .here)
+
+-- the size of all responses at a level: document 01's A
+abbrev pub sizeHere : Level → ℕ
+sizeHere l = sum (sizes (l .here))
 
 abbrev pub afterCustomers : Level → ℕ
 afterCustomers l = l .left - sum (sizes (customers l))
@@ -112,22 +117,12 @@ module _ (d : Deal) (rs : List Response) where
   unfoldable pub offersAt : ℕ → List Response
   offersAt p = filter (λ r. eqb (working d r) p) rs
 
-  -- what the Contra Order matches at a price whose responses come to A: A, and in mode 3 nothing once it holds the guarantee
-  unfoldable pub matches : ℕ → ℕ → ℕ
-  matches held A = cond (eqb (d .mode) 3 && leb guarantee held) 0 A
-
-  -- the clean-up price, in mode 1 the stop: the last price, or what is left would be used up by filling and matching
-  unfoldable pub isFinal : ℕ → ℕ → ℕ → ℕ → Bool
-  isFinal p left held A = leb (entry d) p && (eqb p (top d) || leb left (A + matches held A))
-
-  unfoldable pub wants : ℕ → ℕ → ℕ → ℕ → ℕ
-  wants p left held A = cond (isFinal p left held A) (guarantee - held) (cond (leb (entry d) p) (matches held A) 0)
-
+  -- the price p with the plan of its mode, where so much is left on arriving and the Contra Order holds so much
   unfoldable pub levelAt : ℕ → ℕ → ℕ → Level
   levelAt p left held =
       let os = offersAt p in
-      let A = sum (sizes os) in
-      record { price = p; left = left; held = held; want = wants p left held A; final = isFinal p left held A; here = os }
+      let plan = planOf (d .mode) (workingStop d) (d .initiating) guarantee p left held (sum (sizes os)) in
+      record { price = p; left = left; held = held; want = plan .want; final = plan .final; here = os }
 
   -- from the price `from` on, until nothing is left or the last price is passed; n is fuel: one for each price is enough
   unfoldable pub walk : ℕ → ℕ → ℕ → ℕ → List Level

@@ -1,23 +1,16 @@
 -- The responses in rising order of sequence are the same responses.
 use mathlib.Core.Path.{_≡_, sym}
 use mathlib.Core.List.{List, _∷_}
-use mathlib.Core.Logic.{inl, inr}
 use Rattle.board.specs.declared.Response.{Response}
-use Rattle.base.specs.Lists.{Every, Inserts, Shuffles}
+use Rattle.base.specs.Lists.{Every, Inserts, Shuffles, In}
 use Rattle.base.specs.Lists.Inserts.{here, there}
 use Rattle.base.specs.Lists.Shuffles.{none, more}
 use Rattle.board.specs.rules.Board.{inSequence}
-use Rattle.base.proofs.ListLaws.{inserts-every, shuffles-every}
+use Rattle.base.proofs.ListLaws.{in-shuffles, inserts-every, shuffles-every}
 use Rattle.board.proofs.SequenceLaws.{sequence-shuffles}
-use Rattle.trade.specs.Demands.{In, Distinct}
+use Rattle.demand.specs.promises.Demands.{Distinct}
 
 -- ---- one more at some place
-
-in-inserts : (a : Response) {r : Response} {xs ys : List Response} → Inserts r xs ys → In a (r ∷ xs) → In a ys
-in-inserts a here m = m
-in-inserts a (there i) (inl e) = inr (in-inserts a i (inl e))
-in-inserts a (there i) (inr (inl e)) = inl e
-in-inserts a (there i) (inr (inr m)) = inr (in-inserts a i (inr m))
 
 distinct-inserts : {r : Response} {xs ys : List Response} → Inserts r xs ys → Distinct (r ∷ xs) → Distinct ys
 distinct-inserts here d = d
@@ -25,11 +18,6 @@ distinct-inserts {r} (there {x = x} i) d =
     (inserts-every (λ y. y .sequence ≡ x .sequence → ⊥) i (λ e. d .0 .0 (sym e)) (d .1 .0), distinct-inserts i (d .0 .1, d .1 .1))
 
 -- ---- in some order
-
-in-shuffles : (a : Response) {xs ys : List Response} → Shuffles xs ys → In a xs → In a ys
-in-shuffles a none m = m
-in-shuffles a (more s i) (inl e) = in-inserts a i (inl e)
-in-shuffles a (more s i) (inr m) = in-inserts a i (inr (in-shuffles a s m))
 
 distinct-shuffles : {xs ys : List Response} → Shuffles xs ys → Distinct xs → Distinct ys
 distinct-shuffles none d = d

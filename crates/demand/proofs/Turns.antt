@@ -1,6 +1,6 @@
 -- Customers at a price come by sequence: where one trades, every earlier one is filled.
 use mathlib.Core.Path.{_≡_, refl, sym, ap, _∙_, subst}
-use mathlib.Core.Bool.{Bool, true, false, cond, _&&_}
+use mathlib.Core.Bool.{Bool, true, false, cond, _&&_, and-false}
 use mathlib.Core.List.{List, [], _∷_, _++_}
 use mathlib.Core.Logic.{inl, inr, _≢_}
 use Prim.Native.Nat.{ℕ, _+_, _-_, _≤_, _<_, min}
@@ -8,19 +8,21 @@ use native.Mathlib.Omega.{arith}
 use borrow.Author.Tests.{eqb-true, eqb-false, ne-eqb}
 use lib.Dec.{eqb}
 use Rattle.board.specs.declared.Response.{Response}
-use Rattle.base.specs.Lists.{Every, sum}
+use Rattle.base.specs.Lists.{Every, sum, In}
 use Rattle.share.specs.rules.Share.{inTurn}
 use Rattle.share.specs.rules.Fills.{Fill, fillOf, fillsBy, sizes}
 use Rattle.share.proofs.ShareLaws.{turn-sum, turn-length}
 use Rattle.trade.specs.declared.Deal.{Deal}
-use Rattle.trade.specs.Trade.{isCustomer, Level, customers, shared, given, first, contra, levelFills, flat, working, offersAt}
-use Rattle.trade.specs.Demands.{In, Distinct, got, gotAt}
-use Rattle.trade.proofs.Lists.{all-map, all-in, all-fill, in-keep, distinct-keep, got-none, got-fill, tally-append, tally-none, tally-le, tally-and, absent-by, total-by}
+use Rattle.trade.specs.rules.Trade.{isCustomer, Level, customers, shared, given, first, contra, levelFills, flat, working, offersAt}
+use Rattle.demand.specs.promises.Demands.{Distinct, got, gotAt}
+use Rattle.base.proofs.ListLaws.{every-map, every-in, in-filter}
+use Rattle.demand.proofs.Lists.{all-fill, distinct-keep, got-none, got-fill, tally-append, tally-none, tally-le, tally-and, absent-by}
+use Rattle.trade.proofs.Lists.{total-by}
 use Rattle.board.specs.promises.Board.{RisingFrom}
 use Rattle.board.proofs.SequenceLaws.{rising-from, rising-filter}
-use Rattle.trade.proofs.Levels.{byCustomers, customer-is, all-level, got-contra, level-served}
-use Rattle.trade.proofs.Walk.{Fit, Good, Run}
-use Rattle.trade.proofs.Runs.{run-from, no-contra, got-append, positive, here-distinct, is-here, got-elsewhere, run-passed}
+use Rattle.demand.proofs.Levels.{byCustomers, customer-is, all-level, got-contra, level-served}
+use Rattle.demand.proofs.Walk.{Fit, Good, Run}
+use Rattle.demand.proofs.Runs.{run-from, no-contra, got-append, positive, here-distinct, is-here, got-elsewhere, run-passed}
 
 turnFills : ℕ → ℕ → List Response → List Fill
 turnFills p left cs = fillsBy p cs (inTurn left (sizes cs))
@@ -45,11 +47,11 @@ turn-earlier p left low (x ∷ xs) r k up d m n h t = go m n (λ i j s. turn-ear
     none j e = got-none j (fillOf (x .sequence) p q) (all-fill (λ f. f .party ≢ j) (x .sequence) p q (λ z. e))
 
     later : (y : Response) → In y xs → x .sequence ≢ y .sequence
-    later y i e = all-in (λ z. z .sequence ≢ x .sequence) xs y (d .0) i (sym e)
+    later y i e = every-in (λ z. z .sequence ≢ x .sequence) xs y (d .0) i (sym e)
 
     go : In r (x ∷ xs) → In k (x ∷ xs) → (In r xs → In k xs → 0 < got (r .sequence) fs → got (k .sequence) fs ≡ k .size) → got (k .sequence) (fillOf (x .sequence) p q ++ fs) ≡ k .size
     go (inl e) (inl f) ih = absurd (omega (arith, ap (λ (y : Response). y .sequence) e, ap (λ (y : Response). y .sequence) f))
-    go (inl e) (inr j) ih = absurd (omega (arith, ap (λ (y : Response). y .sequence) e, all-in (λ z. x .sequence ≤ z .sequence) xs k (rising-from (x .sequence) xs (up .1)) j))
+    go (inl e) (inr j) ih = absurd (omega (arith, ap (λ (y : Response). y .sequence) e, every-in (λ z. x .sequence ≤ z .sequence) xs k (rising-from (x .sequence) xs (up .1)) j))
     go (inr i) (inl f) ih =
         let s : 0 < got (r .sequence) fs = omega (arith, both (r .sequence), none (r .sequence) (later r i)) in
         let u : got (r .sequence) fs ≤ sum (inTurn (left - x .size) (sizes xs)) =
@@ -67,8 +69,8 @@ level-earlier : (l : Level) (r k : Response) → 0 < r .sequence → 0 < k .sequ
 unfolding turnFills byCustomers
 level-earlier l r k pr pk up d m n c e h t =
     customer-is l k pk d n e
-    ∙ turn-earlier (l .price) (l .left) 0 (customers l) r k (rising-filter isCustomer 0 (l .here) up) (distinct-keep isCustomer (l .here) d) (in-keep isCustomer (l .here) r m c)
-    (in-keep isCustomer (l .here) k n e) h (rw (customer-is l r pr d m c) at t)
+    ∙ turn-earlier (l .price) (l .left) 0 (customers l) r k (rising-filter isCustomer 0 (l .here) up) (distinct-keep isCustomer (l .here) d) (in-filter isCustomer (l .here) r m c)
+    (in-filter isCustomer (l .here) k n e) h (rw (customer-is l r pr d m c) at t)
 
 module _ (d : Deal) (rs : List Response) (s : Fit d rs) (up : RisingFrom 0 rs) (r k : Response) (m : In r rs) (n : In k rs) (c : r .customer ≡ true) (e : k .customer ≡ true)
     (q : working d k ≡ working d r) (h : k .sequence < r .sequence) where
@@ -102,10 +104,6 @@ module _ (d : Deal) (rs : List Response) (s : Fit d rs) (up : RisingFrom 0 rs) (
 
 -- ---- and before the Contra Order
 
-no : (b : Bool) → (b && false) ≡ false
-no true = refl
-no false = refl
-
 gotAt-append : (p : ℕ) (fs gs : List Fill) → gotAt 0 p (fs ++ gs) ≡ gotAt 0 p fs + gotAt 0 p gs
 gotAt-append p fs gs = tally-append (λ f. eqb (f .party) 0 && eqb (f .price) p) fs gs
 
@@ -125,7 +123,7 @@ module _ (d : Deal) (rs : List Response) (s : Fit d rs) (k : Response) (n : In k
   elsewhere : (l : Level) → l .price ≢ working d k → gotAt 0 (working d k) (levelFills l) ≡ 0
   elsewhere l z =
       gotAt-none (working d k) (levelFills l)
-      (all-level l (λ f. (eqb (f .party) 0 && eqb (f .price) (working d k)) ≡ false) (λ j q h. rw (ne-eqb (l .price) (working d k) z) (no (eqb j 0))))
+      (all-level l (λ f. (eqb (f .party) 0 && eqb (f .price) (working d k)) ≡ false) (λ j q h. rw (ne-eqb (l .price) (working d k) z) (and-false (eqb j 0))))
 
   pub run-before : (from left held : ℕ) (ls : List Level) → Run d rs from left held ls → 0 < gotAt 0 (working d k) (flat ls) → got (k .sequence) (flat ls) ≡ k .size
   run-before from left held [] run t = absurd (omega arith)
@@ -134,8 +132,8 @@ module _ (d : Deal) (rs : List Response) (s : Fit d rs) (k : Response) (n : In k
       later : working d k ≡ l .price → gotAt 0 (working d k) (flat ls) ≡ 0
       later w =
           gotAt-none (working d k) (flat ls)
-          (all-map (λ f. l .price + 1 ≤ f .price) (λ f. (eqb (f .party) 0 && eqb (f .price) (working d k)) ≡ false) (flat ls)
-          (λ f h. rw (ne-eqb (f .price) (working d k) (omega arith)) (no (eqb (f .party) 0))) (run-from d rs s _ _ _ ls (run .1)))
+          (every-map (λ f. l .price + 1 ≤ f .price) (λ f. (eqb (f .party) 0 && eqb (f .price) (working d k)) ≡ false) (flat ls)
+          (λ f h. rw (ne-eqb (f .price) (working d k) (omega arith)) (and-false (eqb (f .party) 0))) (run-from d rs s _ _ _ ls (run .1)))
 
       go : (b : Bool) → eqb (working d k) (l .price) ≡ b → (0 < gotAt 0 (working d k) (flat ls) → got (k .sequence) (flat ls) ≡ k .size) → got (k .sequence) (levelFills l ++ flat ls) ≡ k .size
       go true w ih =

@@ -1,6 +1,6 @@
 -- What holds of every walk, by induction over its levels.
 use mathlib.Core.Path.{_≡_, refl, sym, ap, _∙_, subst}
-use mathlib.Core.Bool.{Bool, true, false, _&&_}
+use mathlib.Core.Bool.{Bool, true, false, _&&_, and-true}
 use mathlib.Core.List.{List, [], _∷_, _++_}
 use mathlib.Core.Logic.{inl, inr, _≢_}
 use Prim.Native.Nat.{ℕ, _+_, _-_, _≤_, _<_}
@@ -8,28 +8,23 @@ use native.Mathlib.Omega.{arith}
 use borrow.Author.Tests.{eqb-true, eqb-false, eq-eqb, ne-eqb, lt-ltb, le-ltb}
 use lib.Dec.{ltb, eqb}
 use Rattle.board.specs.declared.Response.{Response}
-use Rattle.base.specs.Lists.{Every}
+use Rattle.base.proofs.Bools.{and-no-right}
+use Rattle.base.specs.Lists.{Every, In}
 use Rattle.share.specs.rules.Fills.{Fill}
 use Rattle.trade.specs.declared.Deal.{Deal}
-use Rattle.trade.specs.Trade.{Level, first, levelFills, total, flat, working, guarantee, offersAt, walk, levels, fills}
-use Rattle.trade.specs.Demands.{In, Absent, Distinct, got, gotBelow, soldAt, soldBelow, sizeHere, InRange}
-use Rattle.trade.proofs.Lists.{all-append, all-map, all-in, all-keep, in-keep, distinct-keep, absent-keep, total-append, tally-append, tally-none, tally-all, got-none, soldAt-none}
-use Rattle.trade.proofs.Levels.{traded-final, traded-open, traded-fits, all-level, all-who, absent-level, got-contra, level-fits, level-full}
-use Rattle.trade.proofs.Walk.{Fit, Good, Run, top-below}
+use Rattle.trade.specs.rules.Trade.{Level, first, levelFills, total, flat, working, guarantee, offersAt, walk, levels, fills, sizeHere}
+use Rattle.demand.specs.promises.Demands.{Absent, Distinct, got, gotBelow, soldAt, soldBelow, InRange}
+use Rattle.base.proofs.ListLaws.{every-append, every-map, every-in, every-filter, in-filter}
+use Rattle.demand.proofs.Lists.{distinct-keep, absent-keep, tally-append, tally-none, tally-all, got-none, soldAt-none}
+use Rattle.trade.proofs.Lists.{total-append}
+use Rattle.demand.proofs.Levels.{traded-final, traded-open, traded-fits, all-level, all-who, absent-level, got-contra, level-fits, level-full}
+use Rattle.demand.proofs.Walk.{Fit, Good, Run, top-below}
 
 pub got-append : (k : ℕ) (fs gs : List Fill) → got k (fs ++ gs) ≡ got k fs + got k gs
 got-append k fs gs = tally-append (λ f. eqb (f .party) k) fs gs
 
 pub sold-append : (p : ℕ) (fs gs : List Fill) → soldAt p (fs ++ gs) ≡ soldAt p fs + soldAt p gs
 sold-append p fs gs = tally-append (λ f. eqb (f .price) p) fs gs
-
-and-false : (b c : Bool) → c ≡ false → (b && c) ≡ false
-and-false true c e = e
-and-false false c e = refl
-
-and-true : (b : Bool) → (b && true) ≡ b
-and-true true = refl
-and-true false = refl
 
 module _ (d : Deal) (rs : List Response) (s : Fit d rs) where
   -- ---- the whole walk
@@ -42,7 +37,7 @@ module _ (d : Deal) (rs : List Response) (s : Fit d rs) where
   pub run-range : (from left held : ℕ) (ls : List Level) → Run d rs from left held ls → Every (InRange d) (flat ls)
   run-range from left held [] r = tt
   run-range from left held (l ∷ ls) r =
-      all-append (InRange d) (levelFills l) (flat ls)
+      every-append (InRange d) (levelFills l) (flat ls)
       (all-level l (InRange d) (λ k q h. record { low = r .0 .in-bound; high = omega (arith, r .0 .in-top, top-below d rs s); some = h }))
       (run-range _ _ _ ls (r .1))
 
@@ -58,21 +53,21 @@ module _ (d : Deal) (rs : List Response) (s : Fit d rs) where
   pub run-from : (from left held : ℕ) (ls : List Level) → Run d rs from left held ls → Every (λ f. from ≤ f .price) (flat ls)
   run-from from left held [] r = tt
   run-from from left held (l ∷ ls) r =
-      all-append (λ f. from ≤ f .price) (levelFills l) (flat ls)
+      every-append (λ f. from ≤ f .price) (levelFills l) (flat ls)
       (all-level l (λ f. from ≤ f .price) (λ k q h. r .0 .above))
-      (all-map (λ f. l .price + 1 ≤ f .price) (λ f. from ≤ f .price) (flat ls) (λ f h. omega (arith, r .0 .above)) (run-from _ _ _ ls (r .1)))
+      (every-map (λ f. l .price + 1 ≤ f .price) (λ f. from ≤ f .price) (flat ls) (λ f h. omega (arith, r .0 .above)) (run-from _ _ _ ls (r .1)))
 
   -- the fills below the first price of a walk
   none-below : (from left held : ℕ) (ls : List Level) → Run d rs from left held ls → (p : ℕ) → p ≤ from → soldBelow p (flat ls) ≡ 0
   none-below from left held ls r p h =
       tally-none (λ f. ltb (f .price) p) (flat ls)
-      (all-map (λ f. from ≤ f .price) (λ f. ltb (f .price) p ≡ false) (flat ls) (λ f q. le-ltb (f .price) p (omega arith)) (run-from from left held ls r))
+      (every-map (λ f. from ≤ f .price) (λ f. ltb (f .price) p ≡ false) (flat ls) (λ f q. le-ltb (f .price) p (omega arith)) (run-from from left held ls r))
 
   none-held-below : (from left held : ℕ) (ls : List Level) → Run d rs from left held ls → (p : ℕ) → p ≤ from → gotBelow 0 p (flat ls) ≡ 0
   none-held-below from left held ls r p h =
       tally-none (λ f. eqb (f .party) 0 && ltb (f .price) p) (flat ls)
-      (all-map (λ f. from ≤ f .price) (λ f. (eqb (f .party) 0 && ltb (f .price) p) ≡ false) (flat ls)
-      (λ f q. and-false (eqb (f .party) 0) (ltb (f .price) p) (le-ltb (f .price) p (omega arith))) (run-from from left held ls r))
+      (every-map (λ f. from ≤ f .price) (λ f. (eqb (f .party) 0 && ltb (f .price) p) ≡ false) (flat ls)
+      (λ f q. and-no-right (eqb (f .party) 0) (le-ltb (f .price) p (omega arith))) (run-from from left held ls r))
 
   -- a level's price is from `from` on
   pub run-above : (from left held : ℕ) (ls : List Level) → Run d rs from left held ls → (l : Level) → In l ls → from ≤ l .price
@@ -109,8 +104,8 @@ module _ (d : Deal) (rs : List Response) (s : Fit d rs) where
   unfolding offersAt
   run-absent k z a from left held [] r = tt
   run-absent k z a from left held (l ∷ ls) r =
-      all-append (λ f. f .party ≢ k) (levelFills l) (flat ls)
-      (absent-level l k z (subst (Absent k) (sym (r .0 .here-are)) (all-keep (λ o. o .sequence ≢ k) (λ o. eqb (working d o) (l .price)) rs a)))
+      every-append (λ f. f .party ≢ k) (levelFills l) (flat ls)
+      (absent-level l k z (subst (Absent k) (sym (r .0 .here-are)) (every-filter (λ o. o .sequence ≢ k) (λ o. eqb (working d o) (l .price)) rs a)))
       (run-absent k z a _ _ _ ls (r .1))
 
   -- every party is the Contra Order or a response's
@@ -118,8 +113,8 @@ module _ (d : Deal) (rs : List Response) (s : Fit d rs) where
   unfolding offersAt
   run-who Q z a from left held [] r = tt
   run-who Q z a from left held (l ∷ ls) r =
-      all-append (λ f. Q (f .party)) (levelFills l) (flat ls)
-      (all-who l Q z (subst (Every (λ o. Q (o .sequence))) (sym (r .0 .here-are)) (all-keep (λ o. Q (o .sequence)) (λ o. eqb (working d o) (l .price)) rs a)))
+      every-append (λ f. Q (f .party)) (levelFills l) (flat ls)
+      (all-who l Q z (subst (Every (λ o. Q (o .sequence))) (sym (r .0 .here-are)) (every-filter (λ o. Q (o .sequence)) (λ o. eqb (working d o) (l .price)) rs a)))
       (run-who Q z a _ _ _ ls (r .1))
 
   -- ---- the Contra Order
@@ -128,8 +123,8 @@ module _ (d : Deal) (rs : List Response) (s : Fit d rs) where
   unfolding offersAt
   no-contra from left held l g =
       subst (Absent 0) (sym (g .here-are))
-      (all-keep (λ o. o .sequence ≢ 0) (λ o. eqb (working d o) (l .price)) rs
-      (all-map (λ o. 0 < o .sequence) (λ o. o .sequence ≢ 0) rs (λ o h. omega arith) (s .parties)))
+      (every-filter (λ o. o .sequence ≢ 0) (λ o. eqb (working d o) (l .price)) rs
+      (every-map (λ o. 0 < o .sequence) (λ o. o .sequence ≢ 0) rs (λ o h. omega arith) (s .parties)))
 
   pub got-below : (x : Level) (p : ℕ) → x .price < p → gotBelow 0 p (levelFills x) ≡ got 0 (levelFills x)
   got-below x p h = same (levelFills x) (all-level x (λ f. f .price < p) (λ k q z. h))
@@ -190,7 +185,7 @@ module _ (d : Deal) (rs : List Response) (s : Fit d rs) where
 
   module _ (o : Response) (m : In o rs) where
     pub positive : 0 < o .sequence
-    positive = all-in (λ x. 0 < x .sequence) rs o (s .parties) m
+    positive = every-in (λ x. 0 < x .sequence) rs o (s .parties) m
 
     module _ (from left held : ℕ) (l : Level) (g : Good d rs from left held l) where
       pub here-distinct : Distinct (l .here)
@@ -199,7 +194,7 @@ module _ (d : Deal) (rs : List Response) (s : Fit d rs) where
 
       pub is-here : working d o ≡ l .price → In o (l .here)
       unfolding offersAt
-      is-here e = subst (In o) (sym (g .here-are)) (in-keep (λ x. eqb (working d x) (l .price)) rs o m (eq-eqb (working d o) (l .price) e))
+      is-here e = subst (In o) (sym (g .here-are)) (in-filter (λ x. eqb (working d x) (l .price)) rs o m (eq-eqb (working d o) (l .price) e))
 
       pub not-here : working d o ≢ l .price → Every (λ f. f .party ≢ o .sequence) (levelFills l)
       unfolding offersAt
@@ -217,12 +212,12 @@ module _ (d : Deal) (rs : List Response) (s : Fit d rs) where
     pub run-only : (from left held : ℕ) (ls : List Level) → Run d rs from left held ls → Every (λ f. f .party ≡ o .sequence → f .price ≡ working d o) (flat ls)
     run-only from left held [] r = tt
     run-only from left held (l ∷ ls) r =
-        all-append (λ f. f .party ≡ o .sequence → f .price ≡ working d o) (levelFills l) (flat ls) (go (eqb (working d o) (l .price)) refl) (run-only _ _ _ ls (r .1))
+        every-append (λ f. f .party ≡ o .sequence → f .price ≡ working d o) (levelFills l) (flat ls) (go (eqb (working d o) (l .price)) refl) (run-only _ _ _ ls (r .1))
       where
         go : (b : Bool) → eqb (working d o) (l .price) ≡ b → Every (λ f. f .party ≡ o .sequence → f .price ≡ working d o) (levelFills l)
         go true e = all-level l (λ f. f .party ≡ o .sequence → f .price ≡ working d o) (λ k q h z. sym (eqb-true (working d o) (l .price) e))
         go false e =
-            all-map (λ f. f .party ≢ o .sequence) (λ f. f .party ≡ o .sequence → f .price ≡ working d o) (levelFills l) (λ f h z. absurd (h z))
+            every-map (λ f. f .party ≢ o .sequence) (λ f. f .party ≡ o .sequence → f .price ≡ working d o) (levelFills l) (λ f h z. absurd (h z))
             (not-here from left held l (r .0) (eqb-false (working d o) (l .price) e))
 
     -- nothing is traded by a response whose price is passed

@@ -1,6 +1,6 @@
 -- Demand 3, as a theorem about the definition `fills`.
 use mathlib.Core.Path.{_≡_, refl, sym, ap, _∙_, subst}
-use mathlib.Core.Bool.{Bool, true, false, not, _&&_, true≢false}
+use mathlib.Core.Bool.{Bool, true, false, cond, not, _&&_, true≢false}
 use mathlib.Core.List.{List, [], _∷_, _++_}
 use mathlib.Core.Logic.{inl, inr, _≢_}
 use Prim.Native.Nat.{ℕ, suc, _-_, _≤_, _<_, min, max}
@@ -10,26 +10,30 @@ use lib.Dec.{ltb, eqb}
 use lib.ListN.{length}
 use Rattle.board.specs.declared.Response.{Response}
 use Rattle.board.specs.declared.Board.{Board}
-use Rattle.base.specs.Lists.{Every, keep, sum}
+use Rattle.base.specs.Lists.{Every, keep, sum, In}
 use Rattle.board.specs.rules.Board.{liveOf, inSequence}
 use Rattle.share.specs.promises.Share.{Near}
 use Rattle.share.specs.rules.Fills.{Fill, sizes}
 use Rattle.trade.specs.declared.Deal.{Deal}
-use Rattle.trade.specs.Trade.{offers, Level, others, shared, levelFills, total, flat, working, workingStop, top, entry, guarantee, marketPrice, marketTakes, marketFill, levels, fills}
-use Rattle.trade.specs.Demands.{In, Absent, Distinct, tally, got, gotAt, gotBelow, gots, soldAt, soldAbove, times, isMarket, walked, othersAt, InRange, Sound, Known, theContra, theMarket, aResponse, Lowest, MarketAt, ByLevel, Demand3, Demands, Few}
-use Rattle.base.proofs.ListLaws.{filter-fail, shuffles-length}
+use Rattle.trade.specs.rules.Plan.{planOf}
+use Rattle.trade.specs.rules.Trade.{sizeHere, offers, Level, others, shared, levelFills, total, flat, working, workingStop, top, entry, guarantee, marketPrice, marketTakes, marketFill, levels, fills}
+use Rattle.demand.specs.promises.Demands.{planOn, Plans, Absent, Distinct, tally, got, gotAt, gotBelow, gots, soldAt, soldAbove, times, isMarket, walked, othersAt, InRange, Sound, Known, theContra, theMarket, aResponse, Lowest, MarketAt, ByLevel, Demand3, Demands, Few}
+use Rattle.base.proofs.ListLaws.{filter-fail, shuffles-length, filter-all, every-any, every-append, every-map, every-in}
 use Rattle.board.proofs.SequenceLaws.{sequence-shuffles, sequence-rises}
 use Rattle.trade.proofs.CodeLaws.{live-short}
-use Rattle.trade.proofs.Lists.{gots-same, tally-append, tally-and, keep-all, all-any, all-append, all-map, all-in, got-none, soldAt-none, total-append, total-fill, got-fill, all-fill}
-use Rattle.trade.proofs.Order.{in-sequence, all-sequence, distinct-sequence}
-use Rattle.trade.proofs.Levels.{traded-is, level-covered, level-near, level-first}
-use Rattle.trade.proofs.Walk.{Fit, Run, top-below, runs}
-use Rattle.trade.proofs.Runs.{run-left, run-held, run-who, got-append, sold-append, run-total, run-range, run-each, run-absent, run-guarantee, run-only, run-fits, run-level, run-priority, here-distinct, is-here}
-use Rattle.trade.proofs.Counts.{fills-short, times-append, times-party, times-fill, run-once}
-use Rattle.trade.proofs.Fair.{at-price, run-near, run-covered, run-guaranteed, run-customers}
-use Rattle.trade.proofs.Turns.{run-earlier, run-before}
-use Rattle.trade.proofs.Limits.{run-entry, run-top, run-prices, run-sold}
-use Rattle.trade.proofs.Market.{market-bound, market-top, market-least, price-matched, price-midpoint, price-lower, price-alone}
+use Rattle.demand.proofs.Lists.{gots-same, tally-append, tally-and, got-none, soldAt-none, got-fill, all-fill}
+use Rattle.trade.proofs.Lists.{total-append, total-fill}
+use Rattle.demand.proofs.Order.{in-sequence, all-sequence, distinct-sequence}
+use Rattle.trade.proofs.Levels.{traded-is}
+use Rattle.demand.proofs.Levels.{level-covered, level-near, level-first}
+use Rattle.demand.proofs.Walk.{Fit, Run, top-below, runs}
+use Rattle.demand.proofs.Runs.{run-left, run-held, run-who, got-append, sold-append, run-total, run-range, run-each, run-absent, run-guarantee, run-only, run-fits, run-level, run-priority, here-distinct, is-here}
+use Rattle.trade.proofs.Counts.{fills-short}
+use Rattle.demand.proofs.Counts.{times-append, times-party, times-fill, run-once}
+use Rattle.demand.proofs.Fair.{at-price, run-near, run-covered, run-guaranteed, run-customers}
+use Rattle.demand.proofs.Turns.{run-earlier, run-before}
+use Rattle.demand.proofs.Limits.{run-early, run-entry, run-top, run-prices, run-sold}
+use Rattle.demand.proofs.Market.{market-bound, market-top, market-least, price-matched, price-midpoint, price-lower, price-alone}
 
 module _ (d : Deal) (rs : List Response) (s : Fit d rs) where
   -- ---- the market order
@@ -38,7 +42,7 @@ module _ (d : Deal) (rs : List Response) (s : Fit d rs) where
   not-market : (o : Response) → In o rs → Every (λ f. f .party ≢ o .sequence) (marketFill d rs)
   not-market o m =
       all-fill (λ f. f .party ≢ o .sequence) (d .market) (marketPrice d rs) (marketTakes d rs)
-      (λ h e. all-in (λ x. x .sequence ≢ d .market) rs o (s .market-apart (omega arith) .1) m (sym e))
+      (λ h e. every-in (λ x. x .sequence ≢ d .market) rs o (s .market-apart (omega arith) .1) m (sym e))
 
   -- ---- the levels
 
@@ -59,7 +63,7 @@ module _ (d : Deal) (rs : List Response) (s : Fit d rs) where
   at-level l n o m w = got-levels o m ∙ run-level d rs s o m _ _ _ (levels d rs) the-run l n w
 
   positive-of : (o : Response) → In o rs → 0 < o .sequence
-  positive-of o m = all-in (λ x. 0 < x .sequence) rs o (s .parties) m
+  positive-of o m = every-in (λ x. 0 < x .sequence) rs o (s .parties) m
 
   once-all : (k p : ℕ) → times k p (marketFill d rs ++ flat (levels d rs)) ≤ 1
   once-all k p = go (eqb (d .market) k) (ltb 0 (d .selling)) refl refl
@@ -146,15 +150,15 @@ module _ (d : Deal) (rs : List Response) (s : Fit d rs) where
       go : (b : Bool) → ltb 0 (d .selling) ≡ b → Every (λ f. not (b && eqb (f .party) (d .market)) ≡ true) (flat (levels d rs))
       go true e =
           let a = s .market-apart (ltb-true 0 (d .selling) e) in
-          all-map (λ f. f .party ≢ d .market) (λ f. not (eqb (f .party) (d .market)) ≡ true) (flat (levels d rs)) (λ f h. ap not (ne-eqb (f .party) (d .market) h))
+          every-map (λ f. f .party ≢ d .market) (λ f. not (eqb (f .party) (d .market)) ≡ true) (flat (levels d rs)) (λ f h. ap not (ne-eqb (f .party) (d .market) h))
           (run-absent d rs s (d .market) (a .0) (a .1) _ _ _ (levels d rs) the-run)
-      go false e = all-any (λ f. true ≡ true) (flat (levels d rs)) (λ f. refl)
+      go false e = every-any (λ f. true ≡ true) (flat (levels d rs)) (λ f. refl)
 
   pub walked-levels : walked d (fills d rs) ≡ flat (levels d rs)
   walked-levels = rw all-of (go (ltb 0 (marketTakes d rs)) refl)
     where
       rest : walked d (flat (levels d rs)) ≡ flat (levels d rs)
-      rest = keep-all (λ f. not (isMarket d f)) (flat (levels d rs)) not-markets
+      rest = filter-all (λ f. not (isMarket d f)) (flat (levels d rs)) not-markets
 
       go : (b : Bool) → ltb 0 (marketTakes d rs) ≡ b
           → walked d (keep b (record { party = d .market; price = marketPrice d rs; quantity = marketTakes d rs }) [] ++ flat (levels d rs)) ≡ flat (levels d rs)
@@ -175,7 +179,7 @@ module _ (d : Deal) (rs : List Response) (s : Fit d rs) where
 
   -- what holds of the market order's fill and of the levels'
   by-parts : (P : Fill → Type 0) → Every P (marketFill d rs) → Every P (flat (levels d rs)) → Every P (fills d rs)
-  by-parts P a b = rw all-of (all-append P (marketFill d rs) (flat (levels d rs)) a b)
+  by-parts P a b = rw all-of (every-append P (marketFill d rs) (flat (levels d rs)) a b)
 
   in-range-of : Every (InRange d) (fills d rs)
   in-range-of =
@@ -187,7 +191,7 @@ module _ (d : Deal) (rs : List Response) (s : Fit d rs) where
   market-price-of P p =
       by-parts (λ f. isMarket d f ≡ true → P (f .price))
       (all-fill (λ f. isMarket d f ≡ true → P (f .price)) (d .market) (marketPrice d rs) (marketTakes d rs) (λ h z. p))
-      (all-map (λ f. not (isMarket d f) ≡ true) (λ f. isMarket d f ≡ true → P (f .price)) (flat (levels d rs)) (λ f h z. absurd (true≢false (sym h ∙ ap not z))) not-markets)
+      (every-map (λ f. not (isMarket d f) ≡ true) (λ f. isMarket d f ≡ true → P (f .price)) (flat (levels d rs)) (λ f h z. absurd (true≢false (sym h ∙ ap not z))) not-markets)
 
   contra-limit-of : Every (λ f. f .party ≡ 0 → entry d ≤ f .price) (fills d rs)
   contra-limit-of =
@@ -205,12 +209,12 @@ module _ (d : Deal) (rs : List Response) (s : Fit d rs) where
   works-at-of : (o : Response) → In o rs → Every (λ f. f .party ≡ o .sequence → f .price ≡ working d o) (fills d rs)
   works-at-of o m =
       by-parts (λ f. f .party ≡ o .sequence → f .price ≡ working d o)
-      (all-map (λ f. f .party ≢ o .sequence) (λ f. f .party ≡ o .sequence → f .price ≡ working d o) (marketFill d rs) (λ f h e. absurd (h e)) (not-market o m))
+      (every-map (λ f. f .party ≢ o .sequence) (λ f. f .party ≡ o .sequence → f .price ≡ working d o) (marketFill d rs) (λ f h e. absurd (h e)) (not-market o m))
       (run-only d rs s o m _ _ _ (levels d rs) the-run)
 
   own-limit-of : (o : Response) → In o rs → Every (λ f. f .party ≡ o .sequence → o .price ≤ f .price) (fills d rs)
   own-limit-of o m =
-      all-map (λ f. f .party ≡ o .sequence → f .price ≡ working d o) (λ f. f .party ≡ o .sequence → o .price ≤ f .price) (fills d rs)
+      every-map (λ f. f .party ≡ o .sequence → f .price ≡ working d o) (λ f. f .party ≡ o .sequence → o .price ≤ f .price) (fills d rs)
       (λ f h e. let w : f .price ≡ working d o = h e in omega arith) (works-at-of o m)
 
   -- a fill of a higher response would lie above the last price
@@ -244,6 +248,18 @@ module _ (d : Deal) (rs : List Response) (s : Fit d rs) where
     there o m =
         run-each d rs s (λ l. (working d o ≡ l .price → In o (l .here)) × Distinct (l .here))
         (λ from left held l g. (is-here d rs s o m from left held l g, here-distinct d rs s o m from left held l g)) _ _ _ (levels d rs) the-run l n
+
+    planned-of : planOn l ≡ planOf (d .mode) (workingStop d) (d .initiating) (guarantee d rs) (l .price) (l .left) (l .held) (sizeHere l)
+    planned-of =
+        run-each d rs s (λ x. planOn x ≡ planOf (d .mode) (workingStop d) (d .initiating) (guarantee d rs) (x .price) (x .left) (x .held) (sizeHere x)) (λ from left held x g. g .planned) _ _ _ (levels d rs) the-run l n
+
+    none-held : d .mode ≡ 1 → l .held ≡ 0
+    unfolding entry top
+    none-held m =
+        let e : entry d ≡ workingStop d = ap (λ (k : ℕ). cond (eqb k 2) 0 (workingStop d)) m in
+        let t : top d ≡ workingStop d = ap (λ (k : ℕ). cond (eqb k 1) (workingStop d) (d .initiating)) m in
+        let h : l .price ≤ top d = run-each d rs s (λ x. x .price ≤ top d) (λ from left held x g. g .in-top) _ _ _ (levels d rs) the-run l n in
+        run-early d rs s _ _ _ (levels d rs) the-run l n (omega arith)
 
     filled-of : (o : Response) → In o rs → o .customer ≡ false → working d o ≡ l .price → sum (sizes (others l)) ≤ shared l → got (o .sequence) (fills d rs) ≡ o .size
     filled-of o m c w h = at-level l n o m w ∙ level-covered l o (positive-of o m) (there o m .1) (there o m .0 w) c h
@@ -291,7 +307,7 @@ module _ (d : Deal) (b : Board) (s : Sound d b) where
       }
     where
       below : (r : Response) → In r (liveOf b) → working d r ≤ d .initiating
-      below r m = omega (arith, s .bound-below, all-in (λ x. x .price ≤ d .initiating) (liveOf b) r (s .prices) m)
+      below r m = omega (arith, s .bound-below, every-in (λ x. x .price ≤ d .initiating) (liveOf b) r (s .prices) m)
 
       from-lowest : (q : ℕ) (k : Lowest d b q) → Every (λ x. working d (k .response) ≤ working d x) (offers b)
       from-lowest q k = subst (λ (p : ℕ). Every (λ x. p ≤ working d x) (offers b)) (sym (k .works)) (all-sequence (λ x. q ≤ working d x) (liveOf b) (k .least))
@@ -304,6 +320,8 @@ module _ (d : Deal) (b : Board) (s : Sound d b) where
       record {
         arrives = rw (walked-levels d (offers b) fit) (omega (arith, run-left d (offers b) fit _ _ _ (levels d (offers b)) (the-run d (offers b) fit) l n));
         holds = omega (arith, run-held d (offers b) fit _ _ _ (levels d (offers b)) (the-run d (offers b) fit) l n, below-levels d (offers b) fit (l .price));
+        planned = planned-of d (offers b) fit l n;
+        comes-with-none = none-held d (offers b) fit l n;
         trades = rw (walked-levels d (offers b) fit) (run-sold d (offers b) fit _ _ _ (levels d (offers b)) (the-run d (offers b) fit) l n ∙ traded-is l);
         filled = λ r m. filled-of d (offers b) fit l n r (into r m);
         short = λ r m. short-of d (offers b) fit l n r (into r m);
@@ -347,6 +365,9 @@ module _ (d : Deal) (b : Board) (s : Sound d b) where
 
 pub demand3 : Demands
 demand3 d b s = clauses d b s
+
+pub plans : Plans
+plans d b s l n = demand3 d b s .by-level l n .planned
 
 pub few : Few
 few d b g = fills-short d (offers b) (omega (arith, shuffles-length (sequence-shuffles (liveOf b)), live-short (b .live) (b .places), g .places-are))

@@ -9,17 +9,19 @@ use native.Mathlib.Omega.{arith}
 use borrow.Author.Tests.{leb-true, leb-false, eqb-true, eqb-false, lt-ltb}
 use lib.Dec.{leb, ltb, eqb}
 use Rattle.board.specs.declared.Response.{Response}
-use Rattle.base.specs.Lists.{filter, sum}
+use Rattle.base.specs.Lists.{filter, sum, In}
 use Rattle.share.specs.rules.Share.{shares}
 use Rattle.share.specs.promises.Share.{Near}
 use Rattle.share.specs.rules.Fills.{Fill, sizes}
 use Rattle.trade.specs.declared.Deal.{Deal}
-use Rattle.trade.specs.Trade.{isOther, Level, others, first, shared, given, rest, contra, levelFills, total, flat, working, entry, guarantee, offersAt, wants, walk, fills}
-use Rattle.trade.specs.Demands.{In, Distinct, got, gotBelow, gots, soldAbove, othersAt, sizeHere}
-use Rattle.trade.proofs.Lists.{all-map, in-keep, keep-in, keep-test, tally-append, tally-all, gots-same}
-use Rattle.trade.proofs.Levels.{given-sum, traded-final, traded-open, got-contra, level-full, level-covered, level-near, level-first, level-some, level-customer, gots-level}
-use Rattle.trade.proofs.Walk.{Fit, Good, Run}
-use Rattle.trade.proofs.Runs.{got-append, got-below, run-total, run-from, no-contra, positive, here-distinct, is-here, got-elsewhere, run-passed}
+use Rattle.trade.specs.rules.Trade.{isOther, Level, others, first, shared, given, rest, contra, levelFills, total, flat, working, entry, guarantee, offersAt, walk, fills, sizeHere}
+use Rattle.demand.specs.promises.Demands.{Distinct, got, gotBelow, gots, soldAbove, othersAt}
+use Rattle.base.proofs.ListLaws.{every-map, in-filter, filter-in, filter-test}
+use Rattle.demand.proofs.Lists.{tally-append, tally-all, gots-same}
+use Rattle.trade.proofs.Levels.{given-sum}
+use Rattle.demand.proofs.Levels.{traded-final, traded-open, got-contra, level-full, level-covered, level-near, level-first, level-some, level-customer, gots-level}
+use Rattle.demand.proofs.Walk.{Fit, Good, Run}
+use Rattle.demand.proofs.Runs.{got-append, got-below, run-total, run-from, no-contra, positive, here-distinct, is-here, got-elsewhere, run-passed}
 
 -- ---- the quantities of a list of responses
 
@@ -54,8 +56,8 @@ module _ (d : Deal) (rs : List Response) (s : Fit d rs) where
   pub at-price : (p : ℕ) (x : Response) → In x (othersAt d rs p) → In x rs × (working d x ≡ p)
   unfolding offersAt
   at-price p x m =
-      let n : In x (filter (λ o. eqb (working d o) p) rs) = keep-in isOther (filter (λ o. eqb (working d o) p) rs) x m in
-      (keep-in (λ o. eqb (working d o) p) rs x n, eqb-true (working d x) p (keep-test (λ o. eqb (working d o) p) rs x n))
+      let n : In x (filter (λ o. eqb (working d o) p) rs) = filter-in isOther (filter (λ o. eqb (working d o) p) rs) x m in
+      (filter-in (λ o. eqb (working d o) p) rs x n, eqb-true (working d x) p (filter-test (λ o. eqb (working d o) p) rs x n))
 
   module _ (o : Response) (m : In o rs) (c : o .customer ≡ false) where
     -- each of the others at a price trades the whole part of Q * s / T, or one more: Q is what they trade together, T their size
@@ -90,7 +92,7 @@ module _ (d : Deal) (rs : List Response) (s : Fit d rs) where
             split true f n =
                 let q : sum (given l) ≡ sum (sizes (others l)) = omega (arith, given-sum l, leb-true (sum (sizes (others l))) (shared l) f) in
                 rw (q, level-covered l o (positive d rs s o m) (here-distinct d rs s o m from left held l (r .0)) n c (leb-true (sum (sizes (others l))) (shared l) f))
-                (near-all (sum (sizes (others l))) (o .size) (size-in (others l) o (in-keep isOther (l .here) o n (ap not c))))
+                (near-all (sum (sizes (others l))) (o .size) (size-in (others l) o (in-filter isOther (l .here) o n (ap not c))))
             split false f n =
                 let k : shared l < sum (sizes (others l)) = leb-false (sum (sizes (others l))) (shared l) f in
                 let q : sum (given l) ≡ shared l = omega (arith, given-sum l) in
@@ -195,7 +197,7 @@ module _ (d : Deal) (rs : List Response) (s : Fit d rs) where
                 -- something is left, and trades higher
                 let z : soldAbove (working d o) (flat ls) ≡ total (flat ls) =
                 tally-all (λ f. ltb (working d o) (f .price)) (flat ls)
-                (all-map (λ f. l .price + 1 ≤ f .price) (λ f. ltb (working d o) (f .price) ≡ true) (flat ls) (λ f x. lt-ltb (working d o) (f .price) (omega arith)) (run-from d rs s _ _ _ ls (r .1))) in
+                (every-map (λ f. l .price + 1 ≤ f .price) (λ f. ltb (working d o) (f .price) ≡ true) (flat ls) (λ f x. lt-ltb (working d o) (f .price) (omega arith)) (run-from d rs s _ _ _ ls (r .1))) in
                 part z (r .0 .open-want f)
               where
                 part : soldAbove (working d o) (flat ls) ≡ total (flat ls) → ((l .price < entry d) × (l .want ≡ 0)) ⊎ (sizeHere l + l .want < left) → guarantee d rs ≤ held + got 0 (levelFills l ++ flat ls)

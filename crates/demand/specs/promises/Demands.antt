@@ -8,19 +8,16 @@ use lib.Dec.{ltb, eqb}
 use lib.ListN.{length}
 use Rattle.board.specs.declared.Response.{Response}
 use Rattle.board.specs.declared.Board.{Board}
-use Rattle.base.specs.Lists.{Every, filter, sum}
+use Rattle.base.specs.Lists.{Every, filter, sum, In}
 use Rattle.board.specs.rules.Board.{liveOf}
 use Rattle.board.specs.promises.Board.{Good}
 use Rattle.share.specs.promises.Share.{Near}
 use Rattle.share.specs.rules.Fills.{Fill, sizes}
 use Rattle.trade.specs.declared.Deal.{Deal}
-use Rattle.trade.specs.Trade.{offers, isOther, Level, others, shared, total, working, workingStop, top, entry, guarantee, offersAt, marketTakes, marketFill, levels, fills}
+use Rattle.trade.specs.rules.Plan.{Plan, planOf}
+use Rattle.trade.specs.rules.Trade.{sizeHere, offers, isOther, Level, others, shared, total, working, workingStop, top, entry, guarantee, offersAt, marketTakes, marketFill, levels, fills}
 
 -- ---- words
-
-abbrev pub In : {A : Type 0} → A → List A → Type 0
-In a [] = ⊥
-In a (x ∷ xs) = (a ≡ x) ⊎ In a xs
 
 -- no response has the sequence k
 abbrev pub Absent : ℕ → List Response → Type 0
@@ -76,9 +73,12 @@ walked d fs = filter (λ f. not (isMarket d f)) fs
 abbrev pub othersAt : Deal → List Response → ℕ → List Response
 othersAt d rs p = filter isOther (offersAt d rs p)
 
--- the size of all responses at a level: document 01's A
-abbrev pub sizeHere : Level → ℕ
-sizeHere l = sum (sizes (l .here))
+-- the plan that a level has, and that of its mode by what is left and held on arriving there and the size of all responses at the price
+abbrev pub planOn : Level → Plan
+planOn l = record { want = l .want; final = l .final }
+
+abbrev pub planAt : Deal → Board → Level → Plan
+planAt d b l = planOf (d .mode) (workingStop d) (d .initiating) (guarantee d (offers b)) (l .price) (l .left) (l .held) (sizeHere l)
 
 -- ---- what every ended auction has
 
@@ -130,6 +130,9 @@ pub record ByLevel (d : Deal) (b : Board) (fs : List Fill) (l : Level) : Type 0 
   -- what is left on arriving is what the market order and lower prices leave of the size; what the Contra Order holds is what it got at those
   pub arrives : l .left + (marketTakes d (offers b) + soldBelow (l .price) (walked d fs)) ≡ d .size
   pub holds : l .held ≡ gotBelow 0 (l .price) fs
+  -- its plan is that of its mode; in mode 1 the Contra Order comes with nothing, so that at the stop it takes up to the guarantee
+  pub planned : planOn l ≡ planAt d b l
+  pub comes-with-none : d .mode ≡ 1 → l .held ≡ 0
   -- what trades there: all that is left where the price is final, else the responses there and what the Contra Order wants, as far as the size goes
   pub trades : soldAt (l .price) (walked d fs) ≡ cond (l .final) (l .left) (min (l .left) (sizeHere l + l .want))
   -- the others are all filled where R covers them, and otherwise each gets the whole part of R * s / T, or one more
@@ -193,3 +196,10 @@ Demands = (d : Deal) (b : Board) → Sound d b → Demand3 d b (fills d (offers 
 -- and for every deal and board at all, sound or not, there are at most 130, so that 390 words always do
 abbrev pub Few : Type 0
 Few = (d : Deal) (b : Board) → Good b → length (fills d (offers b)) ≤ 130
+
+-- each price of the walk has the plan of its mode
+abbrev pub Planned : Deal → Board → Type 0
+Planned d b = (l : Level) → In l (levels d (offers b)) → planOn l ≡ planAt d b l
+
+abbrev pub Plans : Type 0
+Plans = (d : Deal) (b : Board) → Sound d b → Planned d b
