@@ -10,12 +10,12 @@ use denote.Ref.{RefT, now}
 use Rattle.base.proofs.Numbers.{le-or-lt}
 use Rattle.tape.specs.rules.Tape.{recordIn, recordsFrom, recordsOf}
 use Rattle.tape.specs.declared.trailer.Trailer.{Trailer}
-use Rattle.tape.specs.declared.records.Record.{Record}
+use Rattle.tape.specs.declared.event.Event.{Event}
 use Rattle.tape.proofs.HoldsLaws.{records-none, records-more}
 use Rattle.reader.specs.rules.Reader.{currentOf, nextPlace, held, nextOf, standing}
 use Rattle.reader.specs.promises.Reading.{moved, andThen, gathered, Reading}
 use Rattle.reader.specs.declared.Current.{Current}
-use Rattle.reader.specs.declared.Current.the-variants.{Record as There, End}
+use Rattle.reader.specs.declared.Current.the-variants.{Event as There, End}
 
 -- ---- places
 
@@ -50,7 +50,7 @@ unfolding currentOf
 end-there s t k l = simp (le-leb _ _ l)
 
 -- no record is the end
-not-end : (r : Record) → There r ≡ End → true ≡ false
+not-end : (r : Event) → There r ≡ End → true ≡ false
 not-end r h = cc
 
 module _ (bytes : RefT (List ℕ)) (t : Trailer) where
@@ -66,7 +66,7 @@ module _ (bytes : RefT (List ℕ)) (t : Trailer) where
       let below : k < t .events = omega arith in
       ap (λ (c : Current). andThen c (gathered m (nextOf (held bytes t k)))) (record-there (now bytes) t k below)
       ∙ ap (λ (i : ℕ). recordIn (now bytes) t k ∷ gathered m (held bytes t i)) (goes-on t k below)
-      ∙ ap (λ (rs : List Record). recordIn (now bytes) t k ∷ rs) (rest n (k + 1) m (omega arith) (omega arith))
+      ∙ ap (λ (rs : List Event). recordIn (now bytes) t k ∷ rs) (rest n (k + 1) m (omega arith) (omega arith))
       ∙ sym (records-more (now bytes) t k n)
 
   event : (k : ℕ) → k < t .events → standing (moved k (held bytes t 0)) ≡ There (recordIn (now bytes) t k)

@@ -2,8 +2,8 @@
 ghost use mathlib.Core.Path.{_≡_};
 ghost use Rattle.tape.specs.rules.Tape.{orderIn};
 ghost use Rattle.reader.specs.rules.Reader.{currentOf, nextPlace, held, nextOf};
+use tape::Event;
 use tape::ReadOrder;
-use tape::Record;
 use tape::Trailer;
 
 // The bytes of a tape, its trailer, and the place of an event, counted from 0.
@@ -13,9 +13,9 @@ pub struct Tape<'a> {
     pub place: usize,
 }
 
-// What stands at a place: an event's record, or the end of the events.
+// What stands at a place: an event, in form or not, or the end of the events.
 pub enum Current {
-    Record(Record),
+    Event(Event),
     End,
 }
 
@@ -28,7 +28,7 @@ fn current_at(s: &[u8], t: Trailer, place: usize) -> Current
     if t.events as usize <= place {
         return Current::End;
     }
-    Current::Record(tape::record_in(s, t, place))
+    Current::Event(tape::record_in(s, t, place))
 }
 
 // The place after one; the end is the last.

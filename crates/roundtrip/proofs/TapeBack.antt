@@ -12,16 +12,15 @@ use Rattle.words.proofs.ByteLaws.{length-wordBytes}
 use Rattle.tape.specs.declared.order.Order.{Order}
 use Rattle.tape.specs.declared.event.Event.{Event}
 use Rattle.tape.specs.declared.trailer.Trailer.{Trailer}
-use Rattle.tape.specs.declared.records.Record.{Record}
 use Rattle.tape.specs.declared.trailer.ReadTrailer.the-variants.{Trailer as GotTrailer}
 use Rattle.tape.specs.declared.order.ReadOrder.the-variants.{Order as GotOrder}
 use Rattle.tape.specs.declared.event.ReadEvent.the-variants.{Event as GotEvent}
 use Rattle.tape.specs.declared.trailer.Opened.the-variants.{Tape}
 use Rattle.tape.specs.rules.Form.{eventFormed}
-use Rattle.tape.specs.rules.Records.{withRecord, orderWords, eventWords, trailerWords, orderWrote, eventWrote, trailerWrote, readOrder, readEvent, readTrailer}
-use Rattle.tape.specs.rules.Tape.{lengthOf, openTape, eventPlace, orderIn, recordAt, recordIn, recordsFrom, recordsOf, recordFor, recordsFor, trailerFor, eventsBytes, tapeOf, wroteEvents, wroteTape}
+use Rattle.tape.specs.rules.Records.{withRecord, orderWords, eventWords, trailerWords, orderWrote, eventWrote, trailerWrote, readOrder, recordAt, readTrailer}
+use Rattle.tape.specs.rules.Tape.{lengthOf, openTape, eventPlace, orderIn, recordIn, recordsFrom, recordsOf, trailerFor, eventsBytes, tapeOf, wroteEvents, wroteTape}
 use Rattle.roundtrip.specs.promises.Demands.{Word, AllFormed, none, more, Tapeable, TapeBack, Demands}
-use Rattle.tape.proofs.HoldsLaws.{event-sequence, records-none, records-more, recorded, holds}
+use Rattle.tape.proofs.HoldsLaws.{event-stands, records-none, records-more, recorded, holds}
 use Rattle.roundtrip.proofs.RoundTrip.{wrote-is, order-length, order-written, event-length, event-written, trailer-length, trailer-written, values-back, bytes-back, refusals-keep}
 
 -- ---- lengths
@@ -43,12 +42,9 @@ events-append : (es fs : List Event) → eventsBytes (es ++ fs) ≡ eventsBytes 
 events-append [] fs = refl
 events-append (e ∷ es) fs = ap (λ (l : List ℕ). wordBytes (eventWords e) ++ l) (events-append es fs) ∙ sym (append-assoc (wordBytes (eventWords e)) (eventsBytes es) (eventsBytes fs))
 
--- an event that was written is read, in its record with its sequence
-record-written : (e : Event) (l : List ℕ) → Word (e .sequence) → eventFormed e ≡ true → recordAt (wordBytes (eventWords e) ++ l) ≡ recordFor e
-record-written e l q ok =
-    let s : List ℕ = wordBytes (eventWords e) ++ l in
-    let got : readEvent s ≡ GotEvent e = event-written e l q ok in
-    simp (event-sequence s e got, got)
+-- an event that was written stands in its record
+record-written : (e : Event) (l : List ℕ) → Word (e .sequence) → eventFormed e ≡ true → recordAt (wordBytes (eventWords e) ++ l) ≡ e
+record-written e l q ok = event-stands (wordBytes (eventWords e) ++ l) e (event-written e l q ok)
 
 -- ---- the writers, one after the other
 
@@ -128,7 +124,7 @@ module _ (own : List ℕ) (o : Order) (es : List Event) (fine : Tapeable own o e
       ap readOrder (drop-at own (wordBytes (orderWords o) ++ body) (length own) refl) ∙ order-written o body (fine .order)
 
   -- record k: the event that stands there, after those before it
-  record-back : (before : List Event) (e : Event) (after : List Event) → es ≡ before ++ (e ∷ after) → Word (e .sequence) → eventFormed e ≡ true → recordIn (tapeOf own o es) (trailerFor own es) (length before) ≡ recordFor e
+  record-back : (before : List Event) (e : Event) (after : List Event) → es ≡ before ++ (e ∷ after) → Word (e .sequence) → eventFormed e ≡ true → recordIn (tapeOf own o es) (trailerFor own es) (length before) ≡ e
   unfolding recordIn
   record-back before e after h q ok =
       let end : List ℕ = wordBytes (trailerWords (trailerFor own es)) in
@@ -137,16 +133,16 @@ module _ (own : List ℕ) (o : Order) (es : List Event) (fine : Tapeable own o e
       ∙ record-written e (eventsBytes after ++ end) q ok
 
   -- the records from k on, after the k events before them
-  records-from : (before : List Event) {after : List Event} → AllFormed after → es ≡ before ++ after → (k : ℕ) → k ≡ length before → recordsFrom (tapeOf own o es) (trailerFor own es) k (length after) ≡ recordsFor after
+  records-from : (before : List Event) {after : List Event} → AllFormed after → es ≡ before ++ after → (k : ℕ) → k ≡ length before → recordsFrom (tapeOf own o es) (trailerFor own es) k (length after) ≡ after
   records-from before none h k n = records-none _ _ k
   records-from before (more {e} {es = after} q ok f) h k n =
       let next : es ≡ (before ++ (e ∷ [])) ++ after = h ∙ sym (append-assoc before (e ∷ []) after) in
-      let there : recordIn (tapeOf own o es) (trailerFor own es) k ≡ recordFor e = ap (recordIn (tapeOf own o es) (trailerFor own es)) n ∙ record-back before e after h q ok in
+      let there : recordIn (tapeOf own o es) (trailerFor own es) k ≡ e = ap (recordIn (tapeOf own o es) (trailerFor own es)) n ∙ record-back before e after h q ok in
       records-more _ _ k (length after)
-      ∙ ap (λ (r : Record). r ∷ recordsFrom (tapeOf own o es) (trailerFor own es) (k + 1) (length after)) there
-      ∙ ap (λ (rs : List Record). recordFor e ∷ rs) (records-from (before ++ (e ∷ [])) f next (k + 1) (omega (arith, length-append before (e ∷ []))))
+      ∙ ap (λ (r : Event). r ∷ recordsFrom (tapeOf own o es) (trailerFor own es) (k + 1) (length after)) there
+      ∙ ap (λ (rs : List Event). e ∷ rs) (records-from (before ++ (e ∷ [])) f next (k + 1) (omega (arith, length-append before (e ∷ []))))
 
-  records-back : recordsOf (tapeOf own o es) (trailerFor own es) ≡ recordsFor es
+  records-back : recordsOf (tapeOf own o es) (trailerFor own es) ≡ es
   unfolding recordsOf
   records-back = records-from [] (fine .events) refl 0 refl
 

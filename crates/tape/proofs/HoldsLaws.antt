@@ -6,7 +6,7 @@ use Prim.Native.Nat.{ℕ, zero, suc, _+_, _-_, _≤_}
 use native.Mathlib.Omega.{arith}
 use lib.Dec.{ltb, eqb}
 use lib.ListN.{length, drop}
-use borrow.Author.Tests.{ltb-false, eqb-true}
+use borrow.Author.Tests.{ltb-false, le-ltb, eqb-true}
 use Rattle.words.specs.rules.Bytes.{wordAt}
 use Rattle.tape.specs.declared.event.Event.{Event}
 use Rattle.tape.specs.declared.event.ReadEvent.the-variants.{Event as GotEvent, Refused as NoEvent}
@@ -14,11 +14,11 @@ use Rattle.tape.specs.declared.trailer.Trailer.{Trailer}
 use Rattle.tape.specs.declared.trailer.ReadTrailer.{ReadTrailer}
 use Rattle.tape.specs.declared.trailer.ReadTrailer.the-variants.{Trailer as GotTrailer, Refused as NoTrailer}
 use Rattle.tape.specs.declared.trailer.Opened.the-variants.{Tape, Refused}
-use Rattle.tape.specs.rules.Form.{eventFormed}
-use Rattle.tape.specs.rules.Records.{eventOf, eventSpare, readEvent, readTrailer}
+use Rattle.tape.specs.rules.Form.{eventFormed, shapeOf, shapeTests}
+use Rattle.tape.specs.rules.Records.{eventOf, eventSpare, ofNoKind, recordAt, readEvent, readTrailer}
 use Rattle.tape.specs.rules.Tape.{lengthOf, openedBy, openTape, eventPlace, recordIn, recordsFrom, recordsOf}
 use Rattle.tape.specs.promises.Holds.{Holds, Recorded}
-use Rattle.base.proofs.Bools.{and-right, or-right}
+use Rattle.base.proofs.Bools.{and-left, and-right, or-right}
 
 -- ---- an event that is read
 
@@ -35,13 +35,29 @@ event-took s e h = took (ltb (length s) 32) (eventSpare s && eventFormed (eventO
 pub event-formed : (s : List ℕ) (e : Event) → readEvent s ≡ GotEvent e → eventFormed e ≡ true
 event-formed s e h = let t = event-took s e h in ap eventFormed (sym (t .2)) ∙ and-right (eventSpare s) (eventFormed (eventOf s)) (t .1)
 
-pub event-sequence : (s : List ℕ) (e : Event) → readEvent s ≡ GotEvent e → wordAt s 0 ≡ e .sequence
-unfolding eventOf
-event-sequence s e h = ap (λ (x : Event). x .sequence) (event-took s e h .2)
+-- an event that is read stands there
+pub event-stands : (s : List ℕ) (e : Event) → readEvent s ≡ GotEvent e → recordAt s ≡ e
+unfolding recordAt
+event-stands s e h = let t = event-took s e h in simp (t .0, and-left (eventSpare s) (eventFormed (eventOf s)) (t .1)) (t .2)
 
-pub recorded : (s : List ℕ) (t : Trailer) (k : ℕ) → Recorded (recordIn s t k)
-unfolding recordIn
-recorded s t k = let rest : List ℕ = drop (eventPlace (t .order) k) s in record { formed = event-formed rest; sequence = event-sequence rest }
+-- nothing is of no kind
+no-kind : (q : ℕ) → eventFormed (ofNoKind q) ≡ false
+unfolding eventFormed shapeTests shapeOf
+no-kind q = refl
+
+pub recorded : (s : List ℕ) → Recorded s
+unfolding readEvent recordAt eventOf
+recorded s = record { reads = λ h. rw (le-ltb (length s) 32 h) (reads (eventSpare s)); sequence = same (ltb (length s) 32) (eventSpare s) }
+  where
+    reads : (b : Bool) → cond (b && eventFormed (eventOf s)) (GotEvent (eventOf s)) (NoEvent 32)
+        ≡ cond (eventFormed (cond b (eventOf s) (ofNoKind (wordAt s 0)))) (GotEvent (cond b (eventOf s) (ofNoKind (wordAt s 0)))) (NoEvent 32)
+    reads true = refl
+    reads false = rw (no-kind (wordAt s 0)) refl
+
+    same : (b c : Bool) → cond b (ofNoKind (wordAt s 0)) (cond c (eventOf s) (ofNoKind (wordAt s 0))) .sequence ≡ wordAt s 0
+    same true c = refl
+    same false true = refl
+    same false false = refl
 
 -- ---- a tape's records, step by step
 

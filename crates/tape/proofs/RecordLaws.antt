@@ -8,12 +8,12 @@ use lib.ListN.{length, take, drop, length-drop, drop-of-length-le}
 use borrow.Author.Tests.{le-ltb, lt-ltb}
 use Rattle.words.specs.rules.Bytes.{wordAt, withWords}
 use Rattle.words.proofs.ByteLaws.{row-front}
-use Rattle.tape.specs.rules.Tape.{eventPlace, orderIn, recordAt, recordIn}
-use Rattle.tape.specs.rules.Records.{wroteAnswer, wroteBytes, readOrder, readEvent}
+use Rattle.tape.specs.rules.Tape.{eventPlace, orderIn, recordIn}
+use Rattle.tape.specs.rules.Records.{wroteAnswer, wroteBytes, readOrder, readEvent, ofNoKind, recordAt}
 use Rattle.tape.specs.declared.order.ReadOrder.{ReadOrder}
 use Rattle.tape.specs.declared.order.ReadOrder.the-variants.{Refused as NoOrder}
 use Rattle.tape.specs.declared.event.ReadEvent.the-variants.{Refused as NoEvent}
-use Rattle.tape.specs.declared.records.Record.{Record}
+use Rattle.tape.specs.declared.event.Event.{Event}
 use Rattle.tape.specs.declared.trailer.Trailer.{Trailer}
 use Rattle.tape.specs.declared.Written.the-variants.{Done, Refused}
 use Rattle.base.proofs.SetsLaws.{rest-is}
@@ -58,10 +58,10 @@ module _ (s : List ℕ) (t : Trailer) where
   order-there e = e ∙ ap readOrder (rest-is s (t .order))
 
   -- nothing is left to read
-  pub record-past : (k : ℕ) → length s < eventPlace (t .order) k → record { sequence = 0; event = NoEvent 24 } ≡ recordIn s t k
-  unfolding recordIn readEvent wordAt
+  pub record-past : (k : ℕ) → length s < eventPlace (t .order) k → ofNoKind 0 ≡ recordIn s t k
+  unfolding recordIn recordAt wordAt
   record-past k h = let past : length s ≤ eventPlace (t .order) k = omega arith in ap recordAt (sym (drop-of-length-le s past))
 
-  pub record-there : (k : ℕ) {r : Record} → r ≡ recordAt (take (length s - eventPlace (t .order) k) (drop (eventPlace (t .order) k) s)) → r ≡ recordIn s t k
+  pub record-there : (k : ℕ) {r : Event} → r ≡ recordAt (take (length s - eventPlace (t .order) k) (drop (eventPlace (t .order) k) s)) → r ≡ recordIn s t k
   unfolding recordIn
   record-there k e = e ∙ ap recordAt (rest-is s (eventPlace (t .order) k))

@@ -27,12 +27,6 @@ order-in κs a = (tt, λ y z v w p q. (p ∙ sym q, refl))
 pub record-in : Settled contracts.records.record_in.ended contracts.records.record_in.Reads.Asked contracts.records.record_in.Reads.Learnt
 record-in κs a = (tt, λ y z v w p q. (p ∙ sym q, refl))
 
-pub order-at : Settled contracts.records.order_at.ended contracts.records.order_at.Reads.Asked contracts.records.order_at.Reads.Learnt
-order-at κs a = (tt, λ y z v w p q. (p ∙ sym q, refl))
-
-pub event-at : Settled contracts.records.event_at.ended contracts.records.event_at.Reads.Asked contracts.records.event_at.Reads.Learnt
-event-at κs a = (tt, λ y z v w p q. (p ∙ sym q, refl))
-
 pub read-trailer : Settled contracts.trailer.read_trailer.ended contracts.trailer.read_trailer.Reads.Asked contracts.trailer.read_trailer.Reads.Learnt
 read-trailer κs a = (tt, λ y z v w p q. (p ∙ sym q, refl))
 

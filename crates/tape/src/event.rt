@@ -2,7 +2,7 @@
 ghost use mathlib.Core.Path.{_≡_};
 ghost use Prim.Native.Nat.{_≤_};
 ghost use lib.ListN.{length};
-ghost use Rattle.tape.specs.rules.Records.{eventOf, eventSpare, readEvent, eventAnswer, eventWrote};
+ghost use Rattle.tape.specs.rules.Records.{eventOf, eventSpare, ofNoKind, recordAt, readEvent, eventAnswer, eventWrote};
 use crate::Written;
 use crate::form::event_form;
 use words::bytes::join;
@@ -52,6 +52,36 @@ fn event_of(s: &[u8]) -> Event
         f20: read_word(s, 20),
         f24: read_word(s, 24),
     }
+}
+
+// An event of no kind, which no auction takes.
+pub(crate) fn of_no_kind(sequence: u32) -> Event
+    ensures { λ r. ⌜ r ≡ ofNoKind sequence ⌝ }
+{
+    Event {
+        sequence,
+        time: 0,
+        kind: 0,
+        marks: 0,
+        side: 0,
+        f12: 0,
+        f16: 0,
+        f20: 0,
+        f24: 0,
+    }
+}
+
+// The event that stands in the record at the start of lent bytes, in form or not.
+pub(crate) fn record_at(s: &[u8]) -> Event
+    ensures { λ r. ⌜ r ≡ recordAt (now (s .entry)) ⌝ }
+{
+    if s.len() < 32 {
+        return of_no_kind(read_word(s, 0));
+    }
+    if event_spare(s) {
+        return event_of(s);
+    }
+    of_no_kind(read_word(s, 0))
 }
 
 // The event at the start of lent bytes: 24, then 32.

@@ -5,11 +5,11 @@ use Prim.Native.Nat.{ℕ, zero, suc, _≤_, _<_, min}
 use denote.Ref.{RefT, now}
 use Rattle.tape.specs.rules.Tape.{recordIn, recordsOf}
 use Rattle.tape.specs.declared.trailer.Trailer.{Trailer}
-use Rattle.tape.specs.declared.records.Record.{Record}
+use Rattle.tape.specs.declared.event.Event.{Event}
 use Rattle.reader.specs.rules.Reader.{held, nextOf, standing}
 use Rattle.reader.specs.declared.Tape.{Tape}
 use Rattle.reader.specs.declared.Current.{Current}
-use Rattle.reader.specs.declared.Current.the-variants.{Record as There, End}
+use Rattle.reader.specs.declared.Current.the-variants.{Event as There, End}
 
 -- the tape after k moves
 abbrev pub moved : ℕ → Tape → Tape
@@ -17,11 +17,11 @@ moved zero t = t
 moved (suc k) t = nextOf (moved k t)
 
 -- what is read up to the end, in at most n moves
-abbrev pub andThen : Current → List Record → List Record
+abbrev pub andThen : Current → List Event → List Event
 andThen (There r) rs = r ∷ rs
 andThen End rs = []
 
-abbrev pub gathered : ℕ → Tape → List Record
+abbrev pub gathered : ℕ → Tape → List Event
 gathered zero t = []
 gathered (suc n) t = andThen (standing t) (gathered n (nextOf t))
 

@@ -8,11 +8,11 @@ use Rattle.tape.specs.rules.Tape.{recordIn}
 use Rattle.tape.specs.declared.trailer.Trailer.{Trailer}
 use Rattle.reader.specs.declared.Tape.{Tape}
 use Rattle.reader.specs.declared.Current.{Current}
-use Rattle.reader.specs.declared.Current.the-variants.{Record, End}
+use Rattle.reader.specs.declared.Current.the-variants.{Event, End}
 
 -- record k, and the end from the number of events on
 unfoldable pub currentOf : List ℕ → Trailer → ℕ → Current
-currentOf s t k = cond (leb (t .events) k) End (Record (recordIn s t k))
+currentOf s t k = cond (leb (t .events) k) End (Event (recordIn s t k))
 
 -- the place after one; the end is the last
 unfoldable pub nextPlace : Trailer → ℕ → ℕ

@@ -7,7 +7,7 @@ use lib.ListN.{length, take, drop}
 use Rattle.words.specs.rules.Bytes.{AllBytes}
 use Rattle.tape.specs.rules.Form.{orderFormed, eventFormed}
 use Rattle.tape.specs.rules.Records.{readOrder, orderAnswer, orderWrote, readEvent, eventAnswer, eventWrote, readTrailer, trailerAnswer, trailerWrote}
-use Rattle.tape.specs.rules.Tape.{lengthOf, openTape, orderIn, recordIn, recordsOf, recordsFor, tapeOf, wroteTape, trailerFor}
+use Rattle.tape.specs.rules.Tape.{lengthOf, openTape, orderIn, recordsOf, tapeOf, wroteTape, trailerFor}
 use Rattle.tape.specs.promises.Holds.{Holds, Recorded}
 use Rattle.tape.specs.declared.order.Order.{Order}
 use Rattle.tape.specs.declared.event.Event.{Event}
@@ -51,12 +51,12 @@ pub record Tapeable (own : List ℕ) (o : Order) (es : List Event) : Type 0 wher
   pub events : AllFormed es
   pub fits : lengthOf (trailerFor own es) ≤ 65536
 
--- a tape that the writers put together is that tape, opens, and gives back its order and its events, each in its record with its sequence
+-- a tape that the writers put together is that tape, opens, and gives back its order and its events
 pub record TapeBack (own : List ℕ) (o : Order) (es : List Event) : Type 0 where
   pub written : (room : List ℕ) → length own + length room ≡ lengthOf (trailerFor own es) → wroteTape own o es room ≡ tapeOf own o es
   pub opens : openTape (tapeOf own o es) ≡ Tape (trailerFor own es)
   pub order : orderIn (tapeOf own o es) (trailerFor own es) ≡ GotOrder o
-  pub records : recordsOf (tapeOf own o es) (trailerFor own es) ≡ recordsFor es
+  pub records : recordsOf (tapeOf own o es) (trailerFor own es) ≡ es
 
 pub record Demands : Type 0 where
   pub values-back : ValuesBack
@@ -64,4 +64,4 @@ pub record Demands : Type 0 where
   pub refusals-keep : RefusalsKeep
   pub tape-back : (own : List ℕ) (o : Order) (es : List Event) → Tapeable own o es → TapeBack own o es
   pub holds : (s : List ℕ) (t : Trailer) → openTape s ≡ Tape t → Holds s t
-  pub recorded : (s : List ℕ) (t : Trailer) (k : ℕ) → Recorded (recordIn s t k)
+  pub recorded : (s : List ℕ) → Recorded s

@@ -108,6 +108,17 @@ readEvent s =
     (cond (eventSpare s && eventFormed (eventOf s)) (GotEvent (eventOf s))
     (NoEvent 32))
 
+-- an event of no kind, which no auction takes
+abbrev pub ofNoKind : ℕ → Event
+ofNoKind sequence = record { sequence = sequence; time = 0; kind = 0; marks = 0; side = 0; f12 = 0; f16 = 0; f20 = 0; f24 = 0 }
+
+-- the event that stands in a record, in form or not: one of no kind where the bytes that should be zero are not, or end before the record does
+unfoldable pub recordAt : List ℕ → Event
+recordAt s =
+    cond (ltb (length s) 32) (ofNoKind (wordAt s 0))
+    (cond (eventSpare s) (eventOf s)
+    (ofNoKind (wordAt s 0)))
+
 unfoldable pub eventAnswer : Event → List ℕ → Written
 eventAnswer e out = wroteAnswer (eventFormed e) 32 (eventWords e) out
 

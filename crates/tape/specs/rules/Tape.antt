@@ -4,13 +4,11 @@ use mathlib.Core.List.{List, [], _∷_, _++_}
 use Prim.Native.Nat.{ℕ, zero, suc, _+_, _*_, _-_}
 use lib.Dec.{ltb, eqb}
 use lib.ListN.{length, take, drop}
-use Rattle.words.specs.rules.Bytes.{wordBytes, wordAt}
-use Rattle.tape.specs.rules.Records.{orderWords, eventWords, trailerWords, orderWrote, eventWrote, trailerWrote, readOrder, readEvent, readTrailer}
+use Rattle.words.specs.rules.Bytes.{wordBytes}
+use Rattle.tape.specs.rules.Records.{orderWords, eventWords, trailerWords, orderWrote, eventWrote, trailerWrote, readOrder, recordAt, readTrailer}
 use Rattle.tape.specs.declared.order.Order.{Order}
 use Rattle.tape.specs.declared.event.Event.{Event}
 use Rattle.tape.specs.declared.order.ReadOrder.{ReadOrder}
-use Rattle.tape.specs.declared.event.ReadEvent.the-variants.{Event as GotEvent}
-use Rattle.tape.specs.declared.records.Record.{Record}
 use Rattle.tape.specs.declared.trailer.Trailer.{Trailer}
 use Rattle.tape.specs.declared.trailer.ReadTrailer.{ReadTrailer}
 use Rattle.tape.specs.declared.trailer.ReadTrailer.the-variants.{Trailer as GotTrailer, Refused as NoTrailer}
@@ -40,21 +38,17 @@ eventPlace at k = at + 64 + k * 32
 unfoldable pub orderIn : List ℕ → Trailer → ReadOrder
 orderIn s t = readOrder (drop (t .order) s)
 
--- the event record at the start of s, as it stands
-abbrev pub recordAt : List ℕ → Record
-recordAt s = record { sequence = wordAt s 0; event = readEvent s }
-
--- event record k, counted from 0
-unfoldable pub recordIn : List ℕ → Trailer → ℕ → Record
+-- the event that stands in record k, counted from 0
+unfoldable pub recordIn : List ℕ → Trailer → ℕ → Event
 recordIn s t k = recordAt (drop (eventPlace (t .order) k) s)
 
 -- n records, from record k on
-unfoldable pub recordsFrom : List ℕ → Trailer → ℕ → ℕ → List Record
+unfoldable pub recordsFrom : List ℕ → Trailer → ℕ → ℕ → List Event
 recordsFrom s t k zero = []
 recordsFrom s t k (suc n) = recordIn s t k ∷ recordsFrom s t (k + 1) n
 
 -- all of them
-unfoldable pub recordsOf : List ℕ → Trailer → List Record
+unfoldable pub recordsOf : List ℕ → Trailer → List Event
 recordsOf s t = recordsFrom s t 0 (t .events)
 
 -- ---- a tape that is put together
@@ -65,14 +59,6 @@ trailerFor own es = record { order = length own; events = length es }
 abbrev pub eventsBytes : List Event → List ℕ
 eventsBytes [] = []
 eventsBytes (e ∷ es) = wordBytes (eventWords e) ++ eventsBytes es
-
--- the record that an event makes, and the records of a list of them
-abbrev pub recordFor : Event → Record
-recordFor e = record { sequence = e .sequence; event = GotEvent e }
-
-abbrev pub recordsFor : List Event → List Record
-recordsFor [] = []
-recordsFor (e ∷ es) = recordFor e ∷ recordsFor es
 
 -- the whole tape of an order and its events after the recorder's own bytes
 unfoldable pub tapeOf : List ℕ → Order → List Event → List ℕ

@@ -1,5 +1,6 @@
 use native.Mathlib.Omega.{arith}
 use denote.Ref.{now}
+use mathlib.Core.Path.{_∙_}
 use Rattle.tape.proofs.RecordLaws.{record-past, record-there}
 use borrow.Author.Needs.{needs}
 use Rattle.tape.proofs.records.record_in.Statement.{statement}
@@ -11,15 +12,21 @@ cast-first c = search needs
 add-first : tie.Need-add-first
 add-first c = search needs
 
+of-no-kind-requires : tie.Need-of-no-kind-requires
+of-no-kind-requires c κs = search needs
+
 returns : tie.Need-returns
 returns c =
-    let a = c .before .before .before .args in
-    record-past (now (a .s)) (a .t) (a .k) (omega arith)
+    let a = c .before .before .before .before .args in
+    c .of-no-kind .ensures ∙ record-past (now (a .s)) (a .t) (a .k) (omega arith)
+
+of-no-kind-requires-2 : tie.Need-of-no-kind-requires-2
+of-no-kind-requires-2 c κs = search needs
 
 returns-2 : tie.Need-returns-2
 returns-2 c =
-    let a = c .before .before .before .before .args in
-    record-past (now (a .s)) (a .t) (a .k) (omega arith)
+    let a = c .before .before .before .before .before .args in
+    c .of-no-kind2 .ensures ∙ record-past (now (a .s)) (a .t) (a .k) (omega arith)
 
 mul-place : tie.Need-mul-place
 mul-place c = search needs
@@ -50,7 +57,9 @@ record-in-spec =
     (tie.spec
     cast-first
     add-first
+    of-no-kind-requires
     returns
+    of-no-kind-requires-2
     returns-2
     mul-place
     add-place
