@@ -15,7 +15,7 @@ use Rattle.tape.specs.declared.order.Order.{Order}
 use Rattle.tape.specs.declared.event.Event.{Event}
 use Rattle.trade.specs.Demands.{In, Distinct}
 use Rattle.trade.proofs.Lists.{all-map}
-use Rattle.auction.specs.Mirror.{buyOrder, buyEvent}
+use Rattle.mirror.specs.rules.Mirror.{buyOrder, buyEvent}
 use Rattle.auction.specs.Accept.{openedBy, acceptOf}
 use Rattle.auction.specs.Step.{isOpen, responseOf, after, endedByTime, carried, isFull, stepOf}
 use Rattle.auction.specs.Run.{run, isTaken, takenOf}
@@ -26,7 +26,7 @@ use Rattle.auction.specs.declared.Ending.{Ending}
 use Rattle.auction.specs.declared.Stepped.{Stepped}
 use Rattle.auction.specs.declared.Entry.the-variants.{Accepted}
 use Rattle.auction.proofs.StepLaws.{by, no, Outcomes, Ordinary, Cases, cases}
-use Rattle.auction.proofs.EventLaws.{buy-sequence, buy-kind}
+use Rattle.mirror.proofs.EventLaws.{buy-sequence, buy-kind}
 use Rattle.auction.proofs.BoardSteps.{place-every, clear-every}
 use Rattle.auction.proofs.Accepted.{Opened, opened}
 use Rattle.auction.proofs.Resend.{any-change, taken-any, again, one}

@@ -12,7 +12,7 @@ use Rattle.board.specs.declared.Board.{Board}
 use Rattle.board.specs.rules.Board.{findGtx, placed}
 use Rattle.tape.specs.declared.event.Event.{Event}
 use Rattle.tape.specs.rules.Form.{eventFormed}
-use Rattle.auction.specs.Mirror.{buyEvent}
+use Rattle.mirror.specs.rules.Mirror.{buyEvent}
 use Rattle.auction.specs.Step.{isOpen, eventRefusal, outcomeOf, after, endedByTime, gives, carried, stepOf, closeOf}
 use Rattle.auction.specs.Head.{headOf, wholeOf, headRefusal, headByTime, turnBy, stays, turnOf, outOfFormOf, turned, Heads, closeTurn, foundFor, turnIn}
 use Rattle.auction.specs.Code.{turnFor}
@@ -25,7 +25,7 @@ use Rattle.auction.specs.declared.Answer.the-variants.{Late, Refused}
 use Rattle.auction.specs.declared.Change.the-variants.{Nothing, Place, Clear, Quote, Sell}
 use Rattle.auction.specs.declared.Outcome.{Outcome}
 use Rattle.auction.specs.declared.Outcome.the-variants.{Refuses, Does}
-use Rattle.auction.proofs.EventLaws.{buy-kind}
+use Rattle.mirror.proofs.EventLaws.{buy-kind}
 
 -- the decision looks at `found` for a cancel alone
 found-counts : (t : Terms) (q : Quotes) (full : Bool) (found other : ℕ) (m : Event) → (m .kind ≡ 2 → found ≡ other) → outcomeOf t q full found m ≡ outcomeOf t q full other m

@@ -1,14 +1,13 @@
 -- A sell auction is the mirror of the buy auction on mirrored input, fills and all. Assumes nothing.
 use mathlib.Core.Path.{_≡_, refl, sym, ap, subst, _∙_}
-use mathlib.Core.Bool.{Bool, true, false, cond, not, _&&_, _||_}
+use mathlib.Core.Bool.{Bool, true, false, cond, not, _||_}
 use mathlib.Core.List.{List, [], _∷_, _++_}
-use Prim.Native.Nat.{ℕ, zero, suc, _+_, _-_, _≤_, _<_, min, max}
+use Prim.Native.Nat.{ℕ, zero, suc, _+_, _-_, min, max}
 use native.Mathlib.Omega.{arith}
 use lib.Dec.{leb, ltb, eqb}
-use borrow.Author.Tests.{eqb-true, eqb-false, eq-eqb, ne-eqb}
+use borrow.Author.Tests.{eqb-true, ne-eqb}
 use Rattle.base.specs.Lists.{Every}
 use Rattle.board.specs.rules.Board.{findGtx}
-use Rattle.board.specs.declared.Board.{Board}
 use Rattle.board.specs.declared.Response.{Response}
 use Rattle.share.specs.rules.Fills.{Fill, fillOf}
 use Rattle.tape.specs.declared.order.Order.{Order}
@@ -16,9 +15,10 @@ use Rattle.tape.specs.declared.event.Event.{Event}
 use Rattle.tape.specs.rules.Form.{orderFormed, eventFormed}
 use Rattle.trade.specs.declared.Deal.{Deal}
 use Rattle.trade.specs.Trade.{Level, offers, fills, top, entry, next, offersAt, matches, isFinal, wants, levelAt, walk, marketPrice, levels, flat, total, levelFills, contra}
-use Rattle.trade.specs.Write.{shown, reported, fillsOf}
-use Rattle.auction.specs.Mirror.{mirrored, mirroredOrder, mirroredEvent, buyOrder, buyEvent}
-use Rattle.auction.specs.Accept.{orderRefusal, buyRefusal, termsOf, openedBy, noAuction, acceptOf}
+use Rattle.trade.specs.Write.{reported, fillsOf}
+use Rattle.base.specs.Price.{mirrored}
+use Rattle.mirror.specs.rules.Mirror.{mirroredOrder, mirroredEvent, buyOrder, buyEvent}
+use Rattle.auction.specs.Accept.{orderRefusal, termsOf, openedBy, noAuction, acceptOf}
 use Rattle.auction.specs.Step.{isOpen, eventRefusal, gtxOutcome, cancelOutcome, sellLimitOutcome, buyLimitOutcome, limitOutcome, marketOutcome, quotesOutcome, outcomeOf, after, endedByTime, gives, carried, isFull, stepOf, closeOf}
 use Rattle.auction.specs.Fills.{boundNow, rangeOf, dealOf, auctionFills}
 use Rattle.auction.specs.Run.{run, played}
@@ -33,10 +33,10 @@ use Rattle.auction.specs.declared.Opening.{Opening}
 use Rattle.auction.specs.declared.Stepped.{Stepped}
 use Rattle.auction.specs.declared.Outcome.{Outcome}
 use Rattle.auction.specs.declared.Outcome.the-variants.{Refuses, Does}
-use Rattle.auction.proofs.StepLaws.{by, no}
-use Rattle.auction.proofs.EventLaws.{mirror-sequence, mirror-time, buy-kind, mirror-rest}
-use Rattle.auction.proofs.Accepted.{Opened, opened}
-use Rattle.auction.proofs.MirrorForm.{marks-bits, order-twice, order-form, buy-mirrored, other-side, event-twice, event-form}
+use Rattle.auction.proofs.StepLaws.{no}
+use Rattle.mirror.proofs.EventLaws.{mirror-sequence, mirror-time, buy-kind, mirror-rest}
+use Rattle.auction.proofs.Accepted.{opened}
+use Rattle.mirror.proofs.MirrorForm.{order-form, buy-mirrored, other-side, event-twice, event-form}
 
 -- ---- orders
 
@@ -233,9 +233,6 @@ ranges a z = pick (a .terms .sell) z (a .terms .initiating) (boundNow a)
 pub mirrors : Mirrors
 mirrors =
     record {
-      marks = marks-bits;
-      order-twice = order-twice;
-      event-twice = event-twice;
       answers = answers;
       opens = opens;
       steps = steps;

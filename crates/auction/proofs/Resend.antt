@@ -16,7 +16,7 @@ use Rattle.tape.specs.declared.order.Order.{Order}
 use Rattle.tape.specs.rules.Form.{orderFormed, eventFormed}
 use Rattle.trade.specs.Demands.{In}
 use Rattle.trade.proofs.Lists.{all-in, all-map}
-use Rattle.auction.specs.Mirror.{buyOrder, buyEvent}
+use Rattle.mirror.specs.rules.Mirror.{buyOrder, buyEvent}
 use Rattle.auction.specs.Accept.{initiatingOf, firstBound, guaranteedOf, rangeRefusal, buyRefusal, orderRefusal, acceptOf}
 use Rattle.auction.specs.Step.{isOpen, eventRefusal, after, endedByTime, gives, carried, isFull, stepOf, closeOf}
 use Rattle.auction.specs.Run.{run, isTaken, takenOf}

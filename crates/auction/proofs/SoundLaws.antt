@@ -26,7 +26,8 @@ use Rattle.trade.specs.Demands.{Absent, Distinct, InRange, Demand3, Sound as So
 use Rattle.trade.proofs.Lists.{all-map}
 use Rattle.trade.proofs.Theorems.{demand3}
 use Rattle.trade.proofs.Plans.{plans}
-use Rattle.auction.specs.Mirror.{mirrored, mirroredOrder, buyOrder, buyEvent}
+use Rattle.base.specs.Price.{mirrored}
+use Rattle.mirror.specs.rules.Mirror.{mirroredOrder, buyOrder, buyEvent}
 use Rattle.auction.specs.Accept.{initiatingOf, boundOf, firstBound, termsOf, quotesOf, openedBy, acceptOf}
 use Rattle.auction.specs.Step.{isOpen, boundBy, responseOf, boardAfter, quotesAfter, marketAfter, after, endedByTime, gives, carried, isFull, stepOf, closeOf}
 use Rattle.auction.specs.Fills.{word, boundNow, rangeOf, dealOf, auctionFills}
@@ -41,7 +42,7 @@ use Rattle.auction.specs.declared.Change.the-variants.{Nothing, Place, C
 use Rattle.auction.specs.declared.Stepped.{Stepped}
 use Rattle.auction.specs.declared.Entry.the-variants.{Accepted}
 use Rattle.auction.proofs.StepLaws.{by, no, Outcomes, Ordinary, Cases, cases}
-use Rattle.auction.proofs.EventLaws.{buy-sequence, buy-kind, mirror-one, mirror-three, priced-size}
+use Rattle.mirror.proofs.EventLaws.{buy-sequence, buy-kind, mirror-one, mirror-three, priced-size}
 use Rattle.auction.proofs.BoardSteps.{place-every, clear-every, place-distinct, clear-distinct}
 use Rattle.auction.proofs.Accepted.{Passed, bound-fits, Opened, opened, price-fits}
 use Rattle.auction.proofs.Resend.{keeps}

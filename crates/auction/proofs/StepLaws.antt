@@ -9,7 +9,7 @@ use Rattle.words.specs.rules.Bits.{bitAt}
 use Rattle.board.specs.rules.Board.{firstFree, findGtx}
 use Rattle.tape.specs.declared.event.Event.{Event}
 use Rattle.tape.specs.rules.Form.{eventFormed}
-use Rattle.auction.specs.Mirror.{buyEvent}
+use Rattle.mirror.specs.rules.Mirror.{buyEvent}
 use Rattle.auction.specs.Accept.{tickOf, boundOf}
 use Rattle.auction.specs.Step.{isOpen, eventRefusal, isCustomer, isNonRoutable, responseOf, gtxOutcome, cancelOutcome, sellLimitOutcome, bidQuotes, moves, boundBy, buyLimitOutcome, limitOutcome, marketOutcome, newQuotes, quotesOutcome, outcomeOf, after, endedByTime, gives, carried, isFull, stepOf, closeOf}
 use Rattle.auction.specs.declared.Auction.{Auction}

@@ -6,7 +6,7 @@ use Rattle.words.specs.rules.Bits.{bitAt}
 use Rattle.board.specs.rules.Board.{emptyBoard}
 use Rattle.tape.specs.declared.order.Order.{Order}
 use Rattle.tape.specs.rules.Form.{orderFormed}
-use Rattle.auction.specs.Mirror.{buyOrder}
+use Rattle.mirror.specs.rules.Mirror.{buyOrder}
 use Rattle.auction.specs.declared.Auction.{Auction}
 use Rattle.auction.specs.declared.Terms.{Terms}
 use Rattle.auction.specs.declared.Quotes.{Quotes}

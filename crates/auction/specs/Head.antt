@@ -10,7 +10,7 @@ use Rattle.board.specs.declared.Response.{Response}
 use Rattle.board.specs.rules.Board.{noResponse, findGtx}
 use Rattle.tape.specs.declared.event.Event.{Event}
 use Rattle.tape.specs.rules.Form.{eventFormed}
-use Rattle.auction.specs.Mirror.{buyEvent}
+use Rattle.mirror.specs.rules.Mirror.{buyEvent}
 use Rattle.auction.specs.Step.{isOpen, outcomeOf, gives, stepOf, closeOf}
 use Rattle.auction.specs.declared.Auction.{Auction}
 use Rattle.auction.specs.declared.Head.{Head}

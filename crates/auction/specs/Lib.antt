@@ -1,5 +1,4 @@
 -- What the contracts of `auction` cite, and the statements of its theorems.
-pub mod Mirror
 pub mod Accept
 pub mod Step
 pub mod Head

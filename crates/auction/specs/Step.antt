@@ -8,7 +8,7 @@ use Rattle.board.specs.declared.Board.{Board}
 use Rattle.board.specs.rules.Board.{firstFree, placed, cleared, findGtx}
 use Rattle.tape.specs.declared.event.Event.{Event}
 use Rattle.tape.specs.rules.Form.{eventFormed}
-use Rattle.auction.specs.Mirror.{buyEvent}
+use Rattle.mirror.specs.rules.Mirror.{buyEvent}
 use Rattle.auction.specs.Accept.{boundOf, bidMark, offerMark}
 use Rattle.auction.specs.declared.Auction.{Auction}
 use Rattle.auction.specs.declared.Terms.{Terms}

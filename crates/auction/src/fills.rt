@@ -7,9 +7,9 @@ ghost use Rattle.auction.specs.Fills.{hasEnded, word, boundNow, rangeOf,
 use crate::Auction;
 use crate::Ending;
 use crate::Range;
-use crate::mirror::mirror;
 use crate::orders::bound;
 use crate::turns::is_open;
+use base::mirror;
 use trade::Deal;
 use trade::Filled;
 

@@ -6,7 +6,6 @@ mod decide;
 mod events;
 mod fills;
 mod lent;
-mod mirror;
 mod orders;
 mod turns;
 

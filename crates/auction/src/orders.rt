@@ -12,7 +12,7 @@ use crate::Market;
 use crate::Opening;
 use crate::Quotes;
 use crate::Terms;
-use crate::mirror::buy_order;
+use mirror::buy_order;
 use tape::Order;
 use words::bits;
 

@@ -14,9 +14,9 @@ use crate::Outcome;
 use crate::Quotes;
 use crate::Turn;
 use crate::decide::decide;
-use crate::mirror::buy_event;
 use board::Board;
 use board::Response;
+use mirror::buy_event;
 use tape::Event;
 use words::bits;
 

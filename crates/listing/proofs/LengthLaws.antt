@@ -37,7 +37,7 @@ use Rattle.auction.specs.declared.Change.the-variants.{Nothing, Place, Clear, Q
 use Rattle.auction.specs.declared.Outcome.{Outcome}
 use Rattle.auction.specs.declared.Outcome.the-variants.{Refuses, Does}
 use Rattle.auction.specs.declared.Opening.{Opening}
-use Rattle.auction.specs.Mirror.{buyOrder, buyEvent}
+use Rattle.mirror.specs.rules.Mirror.{buyOrder, buyEvent}
 use Rattle.auction.specs.Accept.{orderRefusal, openedBy, noAuction, acceptOf}
 use Rattle.auction.specs.Step.{isOpen, eventRefusal, boardAfter, after, endedByTime, gives, carried, isFull, outcomeOf, inTime, stepOf, closeOf}
 use Rattle.auction.specs.Fills.{rangeOf, dealOf, auctionFills}
