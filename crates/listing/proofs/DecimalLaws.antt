@@ -12,7 +12,7 @@ use lib.ListN.{length, set, length-append, length-set}
 use lib.Seq.{sets}
 use Rattle.listing.specs.Text.{digit, digits, decimal}
 use Rattle.listing.specs.Demands.{valueFrom}
-use Rattle.listing.proofs.WroteLaws.{sets-append, sets-set}
+use Rattle.base.proofs.SetsLaws.{sets-append, sets-set}
 
 digits-none : (k : ℕ) → digits k 0 ≡ []
 unfolding digits

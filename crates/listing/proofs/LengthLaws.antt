@@ -21,26 +21,28 @@ use Rattle.tape.specs.declared.event.ReadEvent.{ReadEvent}
 use Rattle.tape.specs.declared.event.ReadEvent.the-variants.{Event as GotEvent, Refused as NoEvent}
 use Rattle.tape.specs.rules.Records.{readEvent, readOrder}
 use Rattle.tape.specs.rules.Tape.{openTape, eventPlace}
-use Rattle.trade.specs.Trade.{total}
+use Rattle.trade.specs.rules.Trade.{traded}
 use Rattle.trade.proofs.WholeLaws.{fills-few}
 use Rattle.auction.specs.declared.Auction.{Auction}
-use Rattle.auction.specs.declared.Answer.{Answer}
-use Rattle.auction.specs.declared.Answer.the-variants.{Taken, Ended, Late, Refused}
+use Rattle.events.specs.declared.Answer.{Answer}
+use Rattle.events.specs.declared.Answer.the-variants.{Taken, Ended, Late, Refused}
 use Rattle.auction.specs.declared.Ending.{Ending}
 use Rattle.auction.specs.declared.Ending.the-variants.{Open, Time, Same, Opposite, Improve}
 use Rattle.auction.specs.declared.Entry.{Entry}
 use Rattle.auction.specs.declared.Entry.the-variants.{Accepted, Refused as NoEntry}
 use Rattle.auction.specs.declared.Range.{Range}
-use Rattle.auction.specs.declared.Stepped.{Stepped}
-use Rattle.auction.specs.declared.Change.{Change}
-use Rattle.auction.specs.declared.Change.the-variants.{Nothing, Place, Clear, Quote, Sell}
-use Rattle.auction.specs.declared.Outcome.{Outcome}
-use Rattle.auction.specs.declared.Outcome.the-variants.{Refuses, Does}
+use Rattle.events.specs.declared.Stepped.{Stepped}
+use Rattle.events.specs.declared.Change.{Change}
+use Rattle.events.specs.declared.Change.the-variants.{Nothing, Seat, Free, Quote, Sell}
+use Rattle.events.specs.declared.Outcome.{Outcome}
+use Rattle.events.specs.declared.Outcome.the-variants.{Refuses, Does}
 use Rattle.auction.specs.declared.Opening.{Opening}
 use Rattle.mirror.specs.rules.Mirror.{buyOrder, buyEvent}
-use Rattle.auction.specs.Accept.{orderRefusal, openedBy, noAuction, acceptOf}
-use Rattle.auction.specs.Step.{isOpen, eventRefusal, boardAfter, after, endedByTime, gives, carried, isFull, outcomeOf, inTime, stepOf, closeOf}
-use Rattle.auction.specs.Fills.{rangeOf, dealOf, auctionFills}
+use Rattle.auction.specs.rules.Accept.{orderRefusal, openedBy, noAuction, acceptOf}
+use Rattle.auction.specs.rules.Range.{isOpen}
+use Rattle.events.specs.rules.Step.{eventRefusal, boardAfter, after, endedByTime, gives, carried, isFull, outcomeOf, inTime, stepOf, closeOf}
+use Rattle.auction.specs.rules.Range.{rangeOf}
+use Rattle.fills.specs.rules.Fills.{dealOf, auctionFills}
 use Rattle.listing.specs.Text.{text, decimal, newline}
 use Rattle.listing.specs.Run.{Said, heard, answers, heardAll, refused, closed, runEntry, runOrder, runTape, runOf}
 use Rattle.listing.specs.Listing.{field, refusedLine, rangeText, sideText, auctionLine, answerText, eventLine, endText, endLine, partyText, fillLine, totalLine, eventLines, fillLines, endLines, linesOf, listingOf, roomOf}
@@ -141,12 +143,12 @@ places a = length (a .board .places)
 board-kept : (b : Board) (c : Change) → length (boardAfter b c .places) ≡ length (b .places)
 unfolding placed
 board-kept b Nothing = refl
-board-kept b (Place r) = go (ltb (firstFree b) 64)
+board-kept b (Seat r) = go (ltb (firstFree b) 64)
   where
     go : (t : Bool) → length (cond t (record { places = set (b .places) (firstFree b) r; live = withBit (b .live) (firstFree b) }) b .places) ≡ length (b .places)
     go true = length-set (b .places) (firstFree b) r
     go false = refl
-board-kept b (Clear i) = refl
+board-kept b (Free i) = refl
 board-kept b (Quote q) = refl
 board-kept b (Sell m) = refl
 
@@ -196,8 +198,8 @@ end-lines-short : (a : Auction) → places a ≡ 64 → length (endLines a) ≤ 
 unfolding endLines
 end-lines-short a h =
     let fs : List Fill = auctionFills a in
-    then-short 64 8867 (endLine a) (fillLines fs ++ totalLine (total fs)) (end-short a)
-    (then-short 8840 27 (fillLines fs) (totalLine (total fs)) (omega (arith, fills-short fs, fills-few (dealOf a) (a .board) h)) (total-short (total fs)))
+    then-short 64 8867 (endLine a) (fillLines fs ++ totalLine (traded fs)) (end-short a)
+    (then-short 8840 27 (fillLines fs) (totalLine (traded fs)) (omega (arith, fills-short fs, fills-few (dealOf a) (a .board) h)) (total-short (traded fs)))
 
 entry-short : (n : ℕ) (s : List ℕ) (a : Auction) (r : Entry) → n ≤ 2045 → places a ≡ 64 → length (linesOf (runEntry n s a r)) ≤ roomOf
 entry-short n s a (NoEntry number) h p = omega (arith, refused-short number)

@@ -21,14 +21,15 @@ use Rattle.tape.specs.promises.Holds.{Holds}
 use Rattle.tape.proofs.HoldsLaws.{holds}
 use Rattle.tape.proofs.HoldsLaws.{event-formed}
 use Rattle.auction.specs.declared.Auction.{Auction}
-use Rattle.auction.specs.declared.Stepped.{Stepped}
-use Rattle.auction.specs.Step.{isOpen, gives, endedByTime, closeOf}
-use Rattle.auction.specs.declared.Answer.the-variants.{Late, Refused}
+use Rattle.events.specs.declared.Stepped.{Stepped}
+use Rattle.auction.specs.rules.Range.{isOpen}
+use Rattle.events.specs.rules.Step.{gives, endedByTime, closeOf}
+use Rattle.events.specs.declared.Answer.the-variants.{Late, Refused}
 use Rattle.auction.specs.declared.Head.{Head}
-use Rattle.auction.specs.declared.Turn.{Turn}
-use Rattle.auction.specs.Head.{wholeOf, stays, headByTime, outOfFormOf, closeTurn, placesAfter, turned}
+use Rattle.events.specs.declared.Turn.{Turn}
+use Rattle.events.specs.rules.Step.{wholeOf, stays, headByTime, outOfFormOf, closeTurn, placesAfter, turned}
 use Rattle.auction.proofs.HeadLaws.{heads}
-use Rattle.auction.specs.Fills.{hasEnded}
+use Rattle.fills.specs.rules.Fills.{hasEnded}
 use Rattle.listing.specs.Run.{Said, said, heard, answers, heardAll, closed}
 use Rattle.listing.specs.Code.{heardTurn}
 use Rattle.listing.specs.Listing.{eventLine, eventLines}

@@ -11,8 +11,8 @@ use Rattle.share.specs.rules.Fills.{Fill}
 use Rattle.trade.specs.declared.Filled.{Filled}
 use Rattle.trade.specs.declared.Filled.the-variants.{Count, Refused as NoFills}
 use Rattle.auction.specs.declared.Head.{Head}
-use Rattle.auction.specs.declared.Turn.{Turn}
-use Rattle.auction.specs.Head.{turnIn, outOfFormOf}
+use Rattle.events.specs.declared.Turn.{Turn}
+use Rattle.events.specs.rules.Step.{turnIn, outOfFormOf}
 use Rattle.listing.specs.declared.Listed.{Listed}
 use Rattle.listing.specs.Run.{Run}
 use Rattle.listing.specs.Listing.{linesOf, answerOf}

@@ -6,14 +6,15 @@ use Prim.Native.String.{String}
 use lib.Dec.{eqb, ltb}
 use lib.ListN.{length, drop}
 use Rattle.share.specs.rules.Fills.{Fill}
-use Rattle.trade.specs.Trade.{total}
+use Rattle.trade.specs.rules.Trade.{total}
 use Rattle.auction.specs.declared.Auction.{Auction}
 use Rattle.auction.specs.declared.Range.{Range}
 use Rattle.auction.specs.declared.Ending.{Ending}
 use Rattle.auction.specs.declared.Ending.the-variants.{Open, Time, Same, Opposite, Improve}
-use Rattle.auction.specs.declared.Answer.{Answer}
-use Rattle.auction.specs.declared.Answer.the-variants.{Taken, Ended, Late, Refused}
-use Rattle.auction.specs.Fills.{rangeOf, auctionFills}
+use Rattle.events.specs.declared.Answer.{Answer}
+use Rattle.events.specs.declared.Answer.the-variants.{Taken, Ended, Late, Refused}
+use Rattle.auction.specs.rules.Range.{rangeOf}
+use Rattle.fills.specs.rules.Fills.{auctionFills}
 use Rattle.listing.specs.Text.{text, newline, decimal}
 use Rattle.listing.specs.Run.{Said, Run, refused, ended, runOf}
 use Rattle.listing.specs.declared.Listed.{Listed}

@@ -15,11 +15,12 @@ use Rattle.tape.specs.rules.Tape.{openTape, eventPlace}
 use Rattle.auction.specs.declared.Auction.{Auction}
 use Rattle.auction.specs.declared.Entry.{Entry}
 use Rattle.auction.specs.declared.Entry.the-variants.{Accepted, Refused as NoEntry}
-use Rattle.auction.specs.declared.Answer.{Answer}
-use Rattle.auction.specs.declared.Answer.the-variants.{Refused}
-use Rattle.auction.specs.declared.Stepped.{Stepped}
-use Rattle.auction.specs.Accept.{acceptOf}
-use Rattle.auction.specs.Step.{isOpen, gives, stepOf, closeOf}
+use Rattle.events.specs.declared.Answer.{Answer}
+use Rattle.events.specs.declared.Answer.the-variants.{Refused}
+use Rattle.events.specs.declared.Stepped.{Stepped}
+use Rattle.auction.specs.rules.Accept.{acceptOf}
+use Rattle.auction.specs.rules.Range.{isOpen}
+use Rattle.events.specs.rules.Step.{gives, stepOf, closeOf}
 
 -- ---- the event records
 

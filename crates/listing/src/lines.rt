@@ -1,7 +1,7 @@
 // The lines of a listing, each written at a place of lent bytes; each writer answers the next place.
 ghost use Prim.Native.Nat.{_+_, _≤_};
 ghost use lib.ListN.{length};
-ghost use Rattle.auction.specs.Fills.{rangeOf};
+ghost use Rattle.auction.specs.rules.Range.{rangeOf};
 ghost use Rattle.listing.specs.Run.{said};
 ghost use Rattle.listing.specs.Listing.{refusedLine, rangeText, sideText, auctionLine, answerText, eventLine, endText, endLine, partyText, fillLine, totalLine};
 ghost use Rattle.listing.specs.Code.{Wrote, fill};

@@ -15,7 +15,7 @@ use Rattle.base.specs.Lists.{filter, sum}
 use Rattle.board.specs.rules.Board.{noResponse, liveIn}
 use Rattle.board.proofs.LiveLaws.{Sifted, sift-start, sift-end, sift-step}
 use Rattle.share.specs.rules.Fills.{sizes}
-use Rattle.trade.specs.Code.{customerAt, otherAt, lastSequence, Adds, foundAt, Takes, FoundAt}
+use Rattle.trade.specs.inside.Code.{customerAt, otherAt, lastSequence, Adds, foundAt, Takes, FoundAt}
 use Rattle.trade.specs.declared.Found.{Found}
 use Rattle.trade.proofs.CodeLaws.{Turn, sizes-turn, sizes-none, last-turn, last-none, adds-of, adds-none}
 

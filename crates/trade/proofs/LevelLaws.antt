@@ -19,14 +19,14 @@ use Rattle.trade.specs.declared.Deal.{Deal}
 use Rattle.trade.specs.declared.Found.{Found}
 use Rattle.trade.specs.declared.Price.{Price}
 use Rattle.trade.specs.declared.Walked.{Walked}
-use Rattle.trade.specs.Trade.{isCustomer, isOther, Level, customers, others, shared, given, first, contra, levelFills, total, flat, working, top, entry, next, guarantee}
-use Rattle.trade.specs.Write.{shown, reported}
-use Rattle.trade.specs.Demands.{sizeHere}
-use Rattle.trade.specs.Code.{matchOf, lastOf, wantOf, sharedOf, contraOf, leftOf, worksAt, customerAt, otherAt, lastSequence, FoundAt, leastOf, eachFills, dealt, shareFills, placeFills, levelOf, Looks, Stepped, walkFrom}
+use Rattle.trade.specs.rules.Trade.{isCustomer, isOther, Level, customers, others, shared, given, first, contra, levelFills, total, flat, working, top, entry, next, guarantee, sizeHere}
+use Rattle.trade.specs.rules.Write.{shown, reported}
+use Rattle.trade.specs.inside.Code.{matchOf, lastOf, wantOf, sharedOf, contraOf, leftOf, worksAt, customerAt, otherAt, lastSequence, FoundAt, leastOf, eachFills, dealt, shareFills, placeFills, levelOf, Looks, Stepped, walkFrom}
 use Rattle.trade.proofs.Lists.{sizes-split}
 use Rattle.trade.proofs.Levels.{given-sum, traded-is}
 use Rattle.trade.proofs.WriteLaws.{sizes-sequence}
-use Rattle.trade.proofs.StepLaws.{word-parts, word-le, filter-step, ahead, least-next, walk-turn, from-none, from-past}
+use Rattle.trade.proofs.StepLaws.{word-parts, word-le, ahead, least-next, walk-turn, from-none, from-past}
+use Rattle.base.proofs.ListLaws.{filter-filter}
 use Rattle.trade.proofs.Walk.{next-above, next-top}
 
 -- ---- the numbers of any level
@@ -94,10 +94,10 @@ reported-level sell l =
 module _ (d : Deal) (ps : List Response) (G : ℕ) (s : Walked) (e : length ps ≡ 64) (fit : s .rest < 2 ^ 64) where
   -- Customers and others at a price
   customers-word : (p : ℕ) → filter (customerAt (d .bound) p) (liveIn (s .rest) ps) ≡ filter isCustomer (filter (worksAt (d .bound) p) (liveIn (s .rest) ps))
-  customers-word p = sym (filter-step isCustomer (worksAt (d .bound) p) (customerAt (d .bound) p) (liveIn (s .rest) ps) (λ x m. refl))
+  customers-word p = sym (filter-filter isCustomer (worksAt (d .bound) p) (customerAt (d .bound) p) (liveIn (s .rest) ps) (λ x m. refl))
 
   others-word : (p : ℕ) → filter (otherAt (d .bound) p) (liveIn (s .rest) ps) ≡ filter isOther (filter (worksAt (d .bound) p) (liveIn (s .rest) ps))
-  others-word p = sym (filter-step isOther (worksAt (d .bound) p) (otherAt (d .bound) p) (liveIn (s .rest) ps) (λ x m. refl))
+  others-word p = sym (filter-filter isOther (worksAt (d .bound) p) (otherAt (d .bound) p) (liveIn (s .rest) ps) (λ x m. refl))
 
   pub looks : (l : Price) (f : Found) (m T E : ℕ) → T ≡ top d → E ≡ entry d
       → l .price ≡ leastOf (d .bound) T (liveIn (s .rest) ps)

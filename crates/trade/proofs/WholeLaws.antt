@@ -9,7 +9,8 @@ use native.Mathlib.Omega.{arith}
 use borrow.Author.Tests.{eq-eqb, ne-eqb, le-leb, lt-leb}
 use borrow.Rule.Slice.PartMut.{putMid}
 use lib.ListN.{length, take, drop, length-drop, drop-of-length-le}
-use lib.Seq.{take-all, drop-drop}
+use lib.Seq.{drop-drop}
+use Rattle.base.proofs.SetsLaws.{rest-is}
 use Rattle.words.specs.rules.Bits.{trailingZeros, onesIn}
 use Rattle.board.specs.declared.Response.{Response}
 use Rattle.board.specs.declared.Board.{Board}
@@ -22,9 +23,9 @@ use Rattle.share.specs.inside.Fills.{written}
 use Rattle.share.proofs.FillsLaws.{written-words}
 use Rattle.trade.specs.declared.Deal.{Deal}
 use Rattle.trade.specs.declared.Filled.the-variants.{Count, Refused}
-use Rattle.trade.specs.Trade.{offers, Level, flat, workingStop, top, next, guaranteeOf, guarantee, marketPrice, marketTakes, marketFill, levels, fills}
-use Rattle.trade.specs.Write.{shown, reported, fillsOf, roomy, answer, after}
-use Rattle.trade.specs.Code.{leastOf, walkFrom}
+use Rattle.trade.specs.rules.Trade.{offers, Level, flat, workingStop, top, next, guaranteeOf, guarantee, marketPrice, marketTakes, marketFill, levels, fills}
+use Rattle.trade.specs.rules.Write.{shown, reported, fillsOf, roomy, answer, after}
+use Rattle.trade.specs.inside.Code.{leastOf, walkFrom}
 use Rattle.trade.proofs.CodeLaws.{turn-of, count-turn, live-short}
 use Rattle.trade.proofs.StepLaws.{least-next, next-sequence, from-start}
 use Rattle.trade.proofs.LevelLaws.{ahead-all, reported-append, reported-length, reported-fill}
@@ -79,16 +80,12 @@ fills-few d b l =
 
 -- ---- a part that was lent from a start place on
 
--- the part is all that stands from a on
-whole-tail : (a : ℕ) (xs : List ℕ) → take (length xs - a) (drop a xs) ≡ drop a xs
-whole-tail a xs = take-all (length xs - a) (drop a xs) (le-of-eq (length-drop a xs))
-
 -- once it is back, the words stand before it as they were, and after the fills as they were
 pub words-back : (a : ℕ) (xs ys : List ℕ) (fs : List Fill) → 3 * length fs ≤ length xs - a → ys ≡ written (take (length xs - a) (drop a xs)) 0 fs
     → putMid a (length xs - a) xs ys ≡ take a xs ++ (words fs ++ drop (a + 3 * length fs) xs)
 words-back a xs ys fs h e =
     let w : ys ≡ words fs ++ drop (a + 3 * length fs) xs =
-    e ∙ ap (λ (l : List ℕ). written l 0 fs) (whole-tail a xs)
+    e ∙ ap (λ (l : List ℕ). written l 0 fs) (rest-is xs a)
     ∙ written-words (drop a xs) 0 fs (omega (arith, length-drop a xs))
     ∙ rw (zero-add (3 * length fs), drop-drop (3 * length fs) a xs) in
     ap {B = List ℕ} (λ r. take a xs ++ r) (ap {B = List ℕ} (λ r. ys ++ r) (drop-of-length-le (drop a xs) (le-of-eq (length-drop a xs))) ∙ append-nil ys ∙ w)

@@ -10,7 +10,7 @@ use lib.Dec.{leb, ltb}
 use lib.ListN.{length, getD}
 use lib.Pow.{pow-pos}
 use Rattle.words.specs.rules.Bits.{bitAt, withoutBit, trailingZeros}
-use Rattle.words.proofs.BitLaws.{no-bit, without-le, lowest-set}
+use Rattle.words.proofs.BitLaws.{no-bit, without-le, lowest-set, without-lt}
 use Rattle.board.specs.declared.Response.{Response}
 use Rattle.base.specs.Lists.{Inserts, Shuffles, sum}
 use Rattle.base.specs.Lists.Inserts.{here, there}
@@ -24,9 +24,9 @@ use Rattle.board.proofs.FirstLaws.{some-first, first-earliest, earliest-sequenc
 use Rattle.share.specs.rules.Share.{floors, leftover, shares, inTurn}
 use Rattle.share.specs.rules.Fills.{fillOf, sizes}
 use Rattle.share.proofs.ShareLaws.{room, floors-at-most, shares-sum, shares-length}
-use Rattle.trade.specs.Code.{eachFills, dealt, shareFills, isRising, lastSequence, Known, Gives}
+use Rattle.trade.specs.inside.Code.{eachFills, dealt, shareFills, isRising, lastSequence, Known, Gives}
 use Rattle.trade.specs.declared.Given.{Given}
-use Rattle.trade.proofs.CodeLaws.{cut-less, Turn, turn-of}
+use Rattle.trade.proofs.CodeLaws.{Turn, turn-of}
 
 -- ---- a turn of a loop by sequence: i is the place of the lowest sequence of rest
 
@@ -42,7 +42,7 @@ pick-of ps rest i e p h q =
     rw q
     (record {
       low = omega arith;
-      less = cut-less rest (firstInSequence ps rest) (f .set);
+      less = without-lt rest (firstInSequence ps rest) (f .set);
       cons = earliest-sequence ps rest (firstInSequence ps rest) l f;
     })
 

@@ -3,9 +3,9 @@ ghost use mathlib.Core.Path.{_≡_};
 ghost use mathlib.Core.Bool.{cond, _&&_};
 ghost use Prim.Native.Nat.{_+_, _*_, _/_, _≤_, _<_, min, max};
 ghost use lib.Dec.{leb, ltb, eqb};
-ghost use Rattle.trade.specs.Trade.{top, entry, guaranteeOf};
-ghost use Rattle.trade.specs.Write.{shown};
-ghost use Rattle.trade.specs.Code.{matchOf, lastOf, wantOf, sharedOf, contraOf, leftOf};
+ghost use Rattle.trade.specs.rules.Trade.{top, entry, guaranteeOf};
+ghost use Rattle.trade.specs.rules.Write.{shown};
+ghost use Rattle.trade.specs.inside.Code.{matchOf, lastOf, wantOf, sharedOf, contraOf, leftOf};
 use crate::Deal;
 
 // A u32 in 64 bits, with its range.
@@ -80,10 +80,11 @@ pub(crate) fn guarantee_of(size: u64, n: u32) -> u64
 pub(crate) fn matched(mode: u8, g: u64, held: u64, a: u64) -> u64
     ensures { λ r. ⌜ (r ≡ matchOf mode g held a) × (r ≤ a) ⌝ }
 {
-    if mode == 3 {
-        if g <= held {
-            return 0;
-        }
+    if mode == 2 {
+        return a;
+    }
+    if g <= held {
+        return 0;
     }
     a
 }

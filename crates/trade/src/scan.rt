@@ -5,7 +5,7 @@ ghost use Rattle.board.specs.rules.Board.{liveIn};
 ghost use Rattle.base.specs.Lists.{sum};
 ghost use Rattle.share.specs.rules.Share.{floors};
 ghost use Rattle.share.specs.rules.Fills.{sizes};
-ghost use Rattle.trade.specs.Code.{leastOf, foundAt, Takes, FoundAt};
+ghost use Rattle.trade.specs.inside.Code.{leastOf, foundAt, Takes, FoundAt};
 use crate::Found;
 use crate::numbers;
 use board::Response;

@@ -8,7 +8,7 @@ ghost use Rattle.words.specs.rules.Bits.{withoutBit, trailingZeros};
 ghost use Rattle.board.specs.rules.Board.{liveIn, inSequence};
 ghost use Rattle.share.specs.rules.Fills.{fillOf};
 ghost use Rattle.share.specs.inside.Fills.{WroteFills};
-ghost use Rattle.trade.specs.Code.{eachFills, shareFills, isRising, Known, Gives};
+ghost use Rattle.trade.specs.inside.Code.{eachFills, shareFills, isRising, Known, Gives};
 use crate::Given;
 use crate::numbers;
 use crate::scan;

@@ -3,7 +3,7 @@ use native.Mathlib.Omega.{arith}
 use denote.Ref.{now}
 use lib.ListN.{drop}
 use Rattle.tape.specs.rules.Tape.{eventPlace}
-use Rattle.auction.specs.Fills.{hasEnded}
+use Rattle.fills.specs.rules.Fills.{hasEnded}
 use Rattle.listing.specs.Run.{heardAll, closed}
 use Rattle.listing.proofs.RunLaws.{closed-ended}
 use Rattle.listing.proofs.ListsLaws.{auction-lists}

@@ -7,7 +7,7 @@ use lib.ListN.{length}
 use borrow.Author.Needs.{needs}
 use Rattle.auction.specs.declared.Auction.{Auction}
 use Rattle.auction.specs.declared.Head.{Head}
-use Rattle.auction.specs.Head.{wholeOf, placesAfter}
+use Rattle.events.specs.rules.Step.{wholeOf, placesAfter}
 use Rattle.listing.specs.Listing.{eventLines}
 use Rattle.listing.proofs.WroteLaws.{wrote-same, Left, left-start, left-wrote, left-same, left-done}
 use Rattle.listing.specs.Run.{closed}

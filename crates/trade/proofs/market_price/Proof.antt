@@ -3,7 +3,7 @@ use Prim.Native.Nat.{ℕ}
 use native.Mathlib.Omega.{arith}
 use lib.ListN.{length}
 use Rattle.trade.proofs.WholeLaws.{market-mid, market-low, market-stop}
-use Rattle.trade.specs.Code.{leastOf}
+use Rattle.trade.specs.inside.Code.{leastOf}
 use Rattle.board.specs.rules.Board.{liveIn}
 use borrow.Author.Needs.{needs}
 use Rattle.trade.proofs.market_price.Statement.{statement}

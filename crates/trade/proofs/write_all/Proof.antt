@@ -2,15 +2,14 @@ use mathlib.Core.Path.{_≡_, ap, ap₂, _∙_}
 use mathlib.Core.List.{_++_}
 use Prim.Native.Nat.{ℕ, _-_, min}
 use native.Mathlib.Omega.{arith}
-use lib.ListN.{length}
+use lib.ListN.{length, length-append}
 use Rattle.trade.proofs.WholeLaws.{guarantee-found, all-fills, fills-few}
-use Rattle.trade.specs.Code.{walkFrom}
-use Rattle.trade.specs.Trade.{offers, flat, marketPrice}
-use Rattle.trade.specs.Write.{shown, reported, fillsOf}
+use Rattle.trade.specs.inside.Code.{walkFrom}
+use Rattle.trade.specs.rules.Trade.{offers, flat, marketPrice}
+use Rattle.trade.specs.rules.Write.{shown, reported, fillsOf}
 use Rattle.share.specs.rules.Fills.{fillOf}
 use Rattle.share.proofs.FillsLaws.{wrote-append}
 use Rattle.base.proofs.ListLaws.{length-mapped}
-use lib.ListN.{length-append}
 use borrow.Author.Needs.{needs}
 use Rattle.trade.proofs.write_all.Statement.{statement}
 use Rattle.trade.proofs.write_all.Tie as tie

@@ -6,7 +6,7 @@ use lib.ListN.{length}
 use Rattle.board.specs.rules.Board.{liveIn, inSequence}
 use Rattle.share.specs.rules.Fills.{fillOf}
 use Rattle.share.proofs.FillsLaws.{wrote-append}
-use Rattle.trade.specs.Code.{eachFills, shareFills, placeFills, sharedOf}
+use Rattle.trade.specs.inside.Code.{eachFills, shareFills, placeFills, sharedOf}
 use Rattle.trade.proofs.LevelLaws.{place-length}
 use borrow.Author.Needs.{needs}
 use Rattle.trade.proofs.write_level.Statement.{statement}

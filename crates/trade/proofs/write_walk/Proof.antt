@@ -2,19 +2,18 @@ use mathlib.Core.Path.{_≡_, refl, sym, ap, _∙_}
 use mathlib.Core.Logic.{inl, inr, ⊎-elim}
 use Prim.Native.Nat.{_+_, _-_, _^_, _≤_, _<_}
 use native.Mathlib.Omega.{arith}
-use lib.ListN.{length}
+use lib.ListN.{length, length-append}
 use borrow.Author.Needs.{needs}
 use Rattle.trade.proofs.LevelLaws.{ahead-all, walk-fills, walk-done, level-above, contra-left, left-same}
 use Rattle.trade.proofs.StepLaws.{ahead, rest-is, goes, stays}
-use Rattle.trade.specs.Trade.{flat}
-use Rattle.trade.specs.Trade as trade
-use Rattle.trade.specs.Write.{reported}
-use Rattle.trade.specs.Code.{levelOf, walkFrom}
+use Rattle.trade.specs.rules.Trade.{flat}
+use Rattle.trade.specs.rules.Trade as trade
+use Rattle.trade.specs.rules.Write.{reported}
+use Rattle.trade.specs.inside.Code.{levelOf, walkFrom}
 use Rattle.share.specs.inside.Fills.{LeftFills}
 use Rattle.share.proofs.FillsLaws.{left-start, left-turn, left-done}
 use Rattle.base.specs.Lists.{filter}
 use Rattle.board.specs.rules.Board.{liveIn, inSequence}
-use lib.ListN.{length-append}
 use Rattle.trade.proofs.write_walk.Statement.{statement}
 use Rattle.trade.proofs.write_walk.Tie as tie
 

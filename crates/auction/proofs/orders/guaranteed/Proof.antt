@@ -1,7 +1,7 @@
 use mathlib.Core.Path.{_∙_}
 use borrow.Author.Tests.{eq-eqb, ne-eqb}
 use native.Mathlib.Omega.{arith}
-use Rattle.auction.specs.Accept.{guaranteedOf}
+use Rattle.auction.specs.rules.Accept.{guaranteedOf}
 use borrow.Author.Needs.{needs}
 use Rattle.auction.proofs.orders.guaranteed.Statement.{statement}
 use Rattle.auction.proofs.orders.guaranteed.Tie as tie

@@ -2,7 +2,7 @@ use mathlib.Core.Path.{_≡_, refl, ap, _∙_}
 use native.Mathlib.Omega.{arith}
 use lib.ListN.{length, replicate}
 use Rattle.base.proofs.ListLaws.{length-mapped}
-use Rattle.trade.specs.Trade.{total}
+use Rattle.trade.specs.rules.Trade.{total}
 use Rattle.listing.specs.Listing.{fillLines, totalLine, endLines}
 use Rattle.listing.proofs.WroteLaws.{wrote-append, wrote-same}
 use Rattle.listing.proofs.FillLaws.{Reported, reported}

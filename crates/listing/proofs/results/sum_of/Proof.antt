@@ -3,7 +3,7 @@ use Prim.Native.Nat.{_+_, _-_, _*_, _≤_}
 use native.Mathlib.Omega.{arith}
 use denote.Ref.{now}
 use borrow.Author.Needs.{needs}
-use Rattle.trade.specs.Trade.{total}
+use Rattle.trade.specs.rules.Trade.{total}
 use Rattle.listing.proofs.FillLaws.{fillsFrom, fills-all, fills-more, fills-none}
 use Rattle.listing.proofs.results.sum_of.Statement.{statement}
 use Rattle.listing.proofs.results.sum_of.Tie as tie

@@ -5,7 +5,7 @@ use lib.ListN.{length}
 use borrow.Author.Needs.{needs}
 use Rattle.words.proofs.BitLaws.{without-le}
 use Rattle.board.specs.rules.Board.{liveIn}
-use Rattle.trade.specs.Code.{leastOf}
+use Rattle.trade.specs.inside.Code.{leastOf}
 use Rattle.trade.proofs.CodeLaws.{Turn, turn-of, least-none, least-turn, least-le, count-turn, live-short}
 use Rattle.trade.proofs.FoundLaws.{Finds, finds-start, finds-step, finds-end}
 use Rattle.trade.proofs.scan.found_least.Statement.{statement}

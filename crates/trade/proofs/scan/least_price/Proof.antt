@@ -5,7 +5,7 @@ use lib.ListN.{length, getD}
 use borrow.Author.Needs.{needs}
 use Rattle.words.proofs.BitLaws.{without-le}
 use Rattle.board.specs.rules.Board.{noResponse, liveIn}
-use Rattle.trade.specs.Code.{leastOf}
+use Rattle.trade.specs.inside.Code.{leastOf}
 use Rattle.trade.proofs.CodeLaws.{Turn, turn-of, least-none, least-turn, least-le}
 use Rattle.trade.proofs.scan.least_price.Statement.{statement}
 use Rattle.trade.proofs.scan.least_price.Tie as tie

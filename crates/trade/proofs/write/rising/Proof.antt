@@ -5,7 +5,7 @@ use lib.ListN.{length}
 use borrow.Author.Needs.{needs}
 use Rattle.words.proofs.BitLaws.{without-le}
 use Rattle.board.specs.rules.Board.{liveIn}
-use Rattle.trade.specs.Code.{isRising}
+use Rattle.trade.specs.inside.Code.{isRising}
 use Rattle.trade.proofs.CodeLaws.{Turn, turn-of}
 use Rattle.trade.proofs.WriteLaws.{rising-turn, rising-not, rising-none}
 use Rattle.trade.proofs.write.rising.Statement.{statement}

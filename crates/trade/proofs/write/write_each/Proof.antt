@@ -3,7 +3,7 @@ use mathlib.Core.Bool.{true}
 use mathlib.Core.List.{_++_}
 use Prim.Native.Nat.{_+_, _*_, _^_, _≤_, _<_}
 use native.Mathlib.Omega.{arith}
-use lib.ListN.{length, getD}
+use lib.ListN.{length, getD, length-append}
 use borrow.Author.Needs.{needs}
 use Rattle.words.specs.rules.Bits.{withoutBit}
 use Rattle.words.proofs.BitLaws.{without-le, trailing-le}
@@ -13,10 +13,9 @@ use Rattle.board.proofs.FirstLaws.{Best}
 use Rattle.share.specs.rules.Fills.{fillOf}
 use Rattle.share.specs.inside.Fills.{LeftFills}
 use Rattle.share.proofs.FillsLaws.{left-start, left-turn, left-done}
-use Rattle.trade.specs.Code.{eachFills}
+use Rattle.trade.specs.inside.Code.{eachFills}
 use Rattle.trade.proofs.CodeLaws.{Turn, turn-of}
 use Rattle.trade.proofs.WriteLaws.{Pick, each-pick, each-none, rising-is, rising-without, unseen-le, hunt-start, hunt-step, hunt-end, gives-left}
-use lib.ListN.{length-append}
 use Rattle.trade.proofs.write.write_each.Statement.{statement}
 use Rattle.trade.proofs.write.write_each.Tie as tie
 

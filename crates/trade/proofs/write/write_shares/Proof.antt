@@ -7,7 +7,7 @@ use lib.ListN.{length}
 use Rattle.board.specs.rules.Board.{liveIn, inSequence}
 use Rattle.share.specs.rules.Fills.{fillOf}
 use Rattle.share.proofs.FillsLaws.{left-start, left-done}
-use Rattle.trade.specs.Code.{shareFills}
+use Rattle.trade.specs.inside.Code.{shareFills}
 use Rattle.trade.proofs.WriteLaws.{shares-all, shares-parts, shares-none, shares-one, parts-le}
 use borrow.Author.Needs.{needs}
 use Rattle.trade.proofs.write.write_shares.Statement.{statement}

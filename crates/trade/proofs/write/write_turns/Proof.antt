@@ -7,7 +7,7 @@ use lib.ListN.{length}
 use Rattle.board.specs.rules.Board.{liveIn, inSequence}
 use Rattle.share.specs.rules.Fills.{fillOf}
 use Rattle.share.proofs.FillsLaws.{left-start, left-done}
-use Rattle.trade.specs.Code.{eachFills}
+use Rattle.trade.specs.inside.Code.{eachFills}
 use Rattle.trade.proofs.WriteLaws.{each-none, turns-one}
 use borrow.Author.Needs.{needs}
 use Rattle.trade.proofs.write.write_turns.Statement.{statement}
