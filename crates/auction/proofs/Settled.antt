@@ -17,9 +17,3 @@ bound-now κs a = (tt, λ y z v w p q. (p ∙ sym q, refl))
 
 pub price-range : Settled contracts.bounds.price_range.ended contracts.bounds.price_range.Reads.Asked contracts.bounds.price_range.Reads.Learnt
 price-range κs a = (tt, λ y z v w p q. (p ∙ sym q, refl))
-
-pub mirror : Settled contracts.sides.mirror.ended contracts.sides.mirror.Reads.Asked contracts.sides.mirror.Reads.Learnt
-mirror κs a = (tt, λ y z v w p q. (p ∙ sym q, refl))
-
-pub buy-event : Settled contracts.sides.buy_event.ended contracts.sides.buy_event.Reads.Asked contracts.sides.buy_event.Reads.Learnt
-buy-event κs a = (tt, λ y z v w p q. (p ∙ sym q, refl))

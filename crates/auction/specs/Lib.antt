@@ -1,3 +1,2 @@
 -- What the contracts of `auction` cite.
-pub mod Mirror
 pub mod rules

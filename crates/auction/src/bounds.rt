@@ -7,8 +7,8 @@ use crate::Head;
 use crate::Quotes;
 use crate::Range;
 use crate::Terms;
-use crate::sides::mirror;
 use crate::orders::bound;
+use base::mirror;
 
 pub fn is_open(g: Ending) -> bool
     ensures { λ r. ⌜ r ≡ isOpen g ⌝ }

@@ -1,17 +1,14 @@
 // A CUBE auction: what it holds, which orders are accepted, and the range that holds. The engine knows only buys: a sell is its mirror.
 use board::Board;
 
-mod sides;
-mod orders;
 mod bounds;
+mod orders;
 
-pub use sides::buy_event;
-pub use sides::mirror;
-pub use orders::accept;
 pub use bounds::bound_by;
 pub use bounds::bound_now;
 pub use bounds::is_open;
 pub use bounds::price_range;
+pub use orders::accept;
 
 // What is fixed at acceptance. `floor` is the NBB at initiation, `stop` the stop or auto-match limit as it was given.
 pub struct Terms {

@@ -13,7 +13,7 @@ use crate::Market;
 use crate::Opening;
 use crate::Quotes;
 use crate::Terms;
-use crate::sides::buy_order;
+use mirror::buy_order;
 use tape::Order;
 use words::bits;
 

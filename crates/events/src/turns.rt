@@ -13,9 +13,9 @@ use auction::Ending;
 use auction::Head;
 use auction::Market;
 use auction::Quotes;
-use auction::buy_event;
 use auction::is_open;
 use board::Board;
+use mirror::buy_event;
 use tape::Event;
 
 // What the board tells of an event: it is looked over for a cancel alone.

@@ -21,7 +21,7 @@ use Rattle.tape.specs.rules.Form.{orderFormed, shapeOf, shapeTests, eventFormed
 use Rattle.tape.specs.rules.Records.{withRecord, wroteBytes, orderWords, orderOf, orderSpare, readOrder, orderAnswer, orderWrote, eventWords, eventOf, eventSpare, readEvent, eventAnswer, eventWrote, cubt, trailerWords, trailerOf, readTrailer, trailerAnswer, trailerWrote}
 use Rattle.roundtrip.specs.promises.Demands.{Word, ValuesBack, BytesBack, RefusalsKeep}
 use Rattle.base.proofs.Bools.{and-left, and-right}
-use Rattle.tape.proofs.FormLaws.{each, within-le, OrderBounds, order-bounds, RowBounds, row-bounds}
+use Rattle.tape.proofs.FormLaws.{each, within-le, OrderBounds, order-bounds, row-bounds}
 use Rattle.tape.proofs.HoldsLaws.{event-took, event-formed}
 
 -- ---- the words of what is in form fit 32 bits

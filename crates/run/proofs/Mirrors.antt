@@ -43,7 +43,7 @@ use Rattle.events.specs.declared.Outcome.{Outcome}
 use Rattle.events.specs.declared.Outcome.the-variants.{Refuses, Does}
 use Rattle.mirror.proofs.EventLaws.{mirror-sequence, mirror-time, mirror-kind, mirror-rest}
 use Rattle.run.proofs.Accepted.{Opened, opened}
-use Rattle.mirror.proofs.MirrorForm.{marks-bits, order-twice, order-form, buy-mirrored, other-side, event-twice, event-form}
+use Rattle.mirror.proofs.MirrorForm.{order-form, buy-mirrored, other-side, event-twice, event-form}
 
 -- ---- orders
 
@@ -289,9 +289,6 @@ ranges a z = pick (a .head .terms .sell) z (a .head .terms .initiating) (boundNo
 pub mirrors : Mirrors
 mirrors =
     record {
-      marks = marks-bits;
-      order-twice = order-twice;
-      event-twice = event-twice;
       answers = order-answers;
       opens = opens;
       steps = steps;

@@ -1,9 +1,9 @@
 -- What is promised of an auction, in the user's words.
 use mathlib.Core.Path.{_≡_}
-use mathlib.Core.Bool.{Bool, true, false, cond}
+use mathlib.Core.Bool.{true, false, cond}
 use mathlib.Core.List.{List, [], _∷_}
 use mathlib.Core.Logic.{_⊎_}
-use Prim.Native.Nat.{ℕ, _+_, _≤_, _<_, min}
+use Prim.Native.Nat.{ℕ, _≤_, _<_, min}
 use lib.Dec.{eqb}
 use Rattle.base.specs.Lists.{In, Every}
 use Rattle.board.specs.rules.Board.{responseAt, isLive, liveOf}
@@ -17,9 +17,8 @@ use Rattle.tape.specs.rules.Form.{orderFormed, eventFormed}
 use Rattle.trade.specs.rules.Trade.{offers, fills, traded}
 use Rattle.demand.specs.promises.Demands.{Absent, Distinct, Demand3}
 use Rattle.demand.specs.promises.Demands.{Planned}
-use Rattle.words.specs.rules.Bits.{bitAt}
 use Rattle.base.specs.Price.{mirrored}
-use Rattle.mirror.specs.rules.Mirror.{mirroredMarks, mirroredOrder, mirroredEvent, buyEvent}
+use Rattle.mirror.specs.rules.Mirror.{mirroredOrder, mirroredEvent, buyEvent}
 use Rattle.auction.specs.rules.Accept.{acceptOf}
 use Rattle.auction.specs.rules.Range.{isOpen, boundBy}
 use Rattle.events.specs.rules.Step.{sizeOf, sightOf, responseOf, gives, stepBy, stepOf, closeOf}
@@ -162,11 +161,6 @@ mirroredFills (f ∷ fs) = record { party = f .party; price = mirrored (f .price
 
 -- a sell auction is the mirror of the buy auction on mirrored input
 pub record Mirrors : Type 0 where
-  -- of the marks, bits 2 and 3 change places, and 0 and 1 stay
-  pub marks : (m : ℕ) → (bitAt (mirroredMarks m) 2 ≡ bitAt m 3) × (bitAt (mirroredMarks m) 3 ≡ bitAt m 2) × (bitAt (mirroredMarks m) 0 ≡ bitAt m 0) × (bitAt (mirroredMarks m) 1 ≡ bitAt m 1)
-  -- twice is once
-  pub order-twice : (o : Order) → orderFormed o ≡ true → mirroredOrder (mirroredOrder o) ≡ o
-  pub event-twice : (e : Event) → eventFormed e ≡ true → mirroredEvent (mirroredEvent e) ≡ e
   -- the mirrored order is answered alike, and opens the same auction for the other side
   pub answers : (o : Order) → orderFormed o ≡ true → acceptOf (mirroredOrder o) .answer ≡ acceptOf o .answer
   pub opens : (o : Order) → acceptOf o .answer ≡ Accepted → acceptOf (mirroredOrder o) .auction ≡ flipped (acceptOf o .auction)

@@ -12,3 +12,16 @@ priceOf e = e .f16
 -- of a cancel: the sequence of the GTX response that it names
 abbrev pub nameOf : Event → ℕ
 nameOf e = e .f12
+
+-- of quotes
+abbrev pub nbbOf : Event → ℕ
+nbbOf e = e .f12
+
+abbrev pub nboOf : Event → ℕ
+nboOf e = e .f16
+
+abbrev pub bbOf : Event → ℕ
+bbOf e = e .f20
+
+abbrev pub boOf : Event → ℕ
+boOf e = e .f24
