@@ -1,9 +1,7 @@
 // Acceptance: the numbers 1 to 12, and the auction that an accepted order opens.
 ghost use mathlib.Core.Path.{_≡_};
-ghost use mathlib.Core.Bool.{cond, _||_};
-ghost use Prim.Native.Nat.{_+_, _-_, _≤_, min, max};
-ghost use lib.Dec.{ltb, eqb};
-ghost use Rattle.words.specs.rules.Bits.{bitAt};
+ghost use Prim.Native.Nat.{_+_, _-_, _≤_};
+ghost use lib.Dec.{eqb};
 ghost use Rattle.auction.specs.rules.Accept.{initiatingOf, tickOf, boundOf, firstBound, guaranteedOf, rangeRefusal, buyRefusal, orderRefusal, termsOf, quotesOf, openedBy, noAuction, acceptOf};
 use crate::Auction;
 use crate::Ending;
@@ -13,29 +11,12 @@ use crate::Market;
 use crate::Opening;
 use crate::Quotes;
 use crate::Terms;
+use base::greater;
+use base::lower;
+use base::wide;
 use mirror::buy_order;
 use tape::Order;
-use words::bits;
-
-// A word in 64 bits, where no sum of two wraps.
-pub(crate) fn wide(x: u32) -> u64
-    ensures { λ r. ⌜ (r ≡ x) × (r ≤ 4294967295) ⌝ }
-{
-    x as u64
-}
-
-pub(crate) fn lower(x: u32, y: u32) -> u32
-    ensures { λ r. ⌜ r ≡ min x y ⌝ }
-{
-    if x < y { x } else { y }
-}
-
-// Mark bit i.
-pub(crate) fn mark(marks: u8, i: usize) -> bool
-    ensures { λ r. ⌜ r ≡ bitAt marks i ⌝ }
-{
-    bits::test(marks as u64, i)
-}
+use words::bits::mark;
 
 // One cent below.
 fn below(x: u32) -> u32
@@ -75,19 +56,13 @@ fn first_bound(o: Order) -> u64
     bound(o.size, o.nbb, o.bb, mark(o.marks, 2))
 }
 
-fn higher(x: u64, y: u64) -> u64
-    ensures { λ r. ⌜ r ≡ max x y ⌝ }
-{
-    if x < y { y } else { x }
-}
-
 fn guaranteed(o: Order) -> u64
     ensures { λ r. ⌜ (r ≡ guaranteedOf o) × (r ≤ 4294967296) ⌝ }
 {
     if o.mode == 2 {
         return wide(initiating(o));
     }
-    higher(wide(o.stop), first_bound(o))
+    greater(wide(o.stop), first_bound(o))
 }
 
 // Is y the price one cent above x?

@@ -1,12 +1,9 @@
 // What an event does to a buy's auction, decided on small values.
 ghost use mathlib.Core.Path.{_≡_};
 ghost use mathlib.Core.Bool.{cond};
-ghost use Prim.Native.Nat.{max};
 ghost use lib.Dec.{ltb};
 ghost use Rattle.events.specs.rules.Step.{seats, gtxOutcome, cancelOutcome, sellLimitOutcome, bidQuotes, moves, buyLimitOutcome, limitOutcome, marketOutcome, newQuotes, quotesOutcome, outcomeOf, responseOf, isNonRoutable};
 ghost use Rattle.auction.specs.rules.Range.{boundBy};
-ghost use Rattle.words.specs.rules.Bits.{bitAt};
-ghost use Prim.Native.Nat.{_≤_, min};
 use crate::Change;
 use crate::Outcome;
 use crate::Sight;
@@ -15,27 +12,12 @@ use auction::Market;
 use auction::Quotes;
 use auction::Terms;
 use auction::bound_by;
+use base::higher;
+use base::lower;
+use base::wide;
 use board::Response;
 use tape::Event;
-
-fn wide(x: u32) -> u64
-    ensures { λ r. ⌜ (r ≡ x) × (r ≤ 4294967295) ⌝ }
-{
-    x as u64
-}
-
-fn lower(x: u32, y: u32) -> u32
-    ensures { λ r. ⌜ r ≡ min x y ⌝ }
-{
-    if x < y { x } else { y }
-}
-
-// Mark bit i.
-fn mark(marks: u8, i: usize) -> bool
-    ensures { λ r. ⌜ r ≡ bitAt marks i ⌝ }
-{
-    words::bits::test(marks as u64, i)
-}
+use words::bits::mark;
 
 // A response of a size: a GTX one, or a limit order.
 fn response(gtx: bool, size: u32, e: Event) -> Response
@@ -110,12 +92,6 @@ fn sell_limit(t: Terms, q: Quotes, s: Sight, e: Event) -> Outcome
         return seat(s, response(false, e.f12, e), ending);
     }
     Outcome::Does(Change::Nothing, ending)
-}
-
-fn higher(x: u32, y: u32) -> u32
-    ensures { λ r. ⌜ r ≡ max x y ⌝ }
-{
-    if x < y { y } else { x }
 }
 
 // The mark at BB after a bid.

@@ -8,17 +8,18 @@ use lib.Dec.{leb}
 use borrow.Author.Tests.{le-leb}
 use Rattle.tape.specs.rules.Form.{eventFormed, shapeTests, shapeOf, allFrom, inside, anyNumber}
 use Rattle.tape.specs.declared.event.Event.{Event}
-use Rattle.events.specs.rules.Step.{stepOf}
-use Rattle.run.specs.rules.Run.{run}
-use Rattle.events.specs.rules.Lent.{cancelEvent, Applies, none, more, answers, InPlace}
 use Rattle.auction.specs.declared.Auction.{Auction}
+use Rattle.events.specs.rules.Step.{stepOf}
+use Rattle.events.specs.rules.Lent.{cancelEvent}
 use Rattle.events.specs.declared.Answer.{Answer}
+use Rattle.run.specs.rules.Run.{run, Said, said, heard}
+use Rattle.run.specs.promises.InPlace.{Applies, none, more, InPlace}
 
-applied : {a b : Auction} {es : List Event} {rs : List Answer} → Applies a es rs b → (rs ≡ answers a es) × (b ≡ run a es)
+applied : {a b : Auction} {es : List Event} {rs : List Said} → Applies a es rs b → (rs ≡ heard a es) × (b ≡ run a es)
 applied none = (refl, refl)
 applied (more {a} {b} {c} {e} {r} {es} {rs} one rest) =
     let ih = applied rest in
-    (ap (λ (x : Answer). x ∷ rs) (one .0) ∙ ap (λ (xs : List Answer). stepOf a e .answer ∷ xs) (ih .0 ∙ ap (λ (x : Auction). answers x es) (one .1)), ih .1 ∙ ap (λ (x : Auction). run x es) (one .1))
+    (ap (λ (x : Answer). said (e .sequence) x ∷ rs) (one .0) ∙ ap (λ (xs : List Said). said (e .sequence) (stepOf a e .answer) ∷ xs) (ih .0 ∙ ap (λ (x : Auction). heard x es) (one .1)), ih .1 ∙ ap (λ (x : Auction). run x es) (one .1))
 
 -- the field of a cancel may hold any number
 any-number : (n : ℕ) → n < 2 ^ 32 → inside n anyNumber ≡ true

@@ -25,7 +25,7 @@ use Rattle.auction.specs.rules.Range.{isOpen}
 use Rattle.events.specs.rules.Step.{foundFor, sightOf, eventRefusal, gtxOutcome, cancelOutcome, sellLimitOutcome, buyLimitOutcome, limitOutcome, marketOutcome, quotesOutcome, outcomeOf, stays, endedByTime, headAfter, boardAfter, carried, turnOf, closeTurn, seatedOn, stepBy, stepOf, closeOf}
 use Rattle.auction.specs.rules.Range.{boundNow, rangeOf}
 use Rattle.fills.specs.rules.Fills.{dealOf, auctionFills}
-use Rattle.run.specs.rules.Run.{run, answers, played}
+use Rattle.run.specs.rules.Run.{run, Said, said, heard, closed, played}
 use Rattle.run.specs.promises.Demands.{flippedTerms, flippedHead, flipped, mirroredRecord, mirroredRecords, mirroredFills, Mirrors}
 use Rattle.auction.specs.declared.Auction.{Auction}
 use Rattle.auction.specs.declared.Head.{Head}
@@ -199,21 +199,26 @@ run-same : (es : List Event) (a : Auction) → run (flipped a) (mirroredRecords 
 run-same [] a = refl
 run-same (e ∷ es) a = ap (λ (b : Auction). run b (mirroredRecords es)) (steps a e .1) ∙ run-same es (stepOf a e .auction)
 
-answers-same : (es : List Event) (a : Auction) → answers (flipped a) (mirroredRecords es) ≡ answers a es
-answers-same [] a = refl
-answers-same (e ∷ es) a =
-    ap (λ (b : Auction). stepOf (flipped a) (mirroredRecord e) .answer ∷ answers b (mirroredRecords es)) (steps a e .1)
-    ∙ ap (λ (rs : List Answer). stepOf (flipped a) (mirroredRecord e) .answer ∷ rs) (answers-same es (stepOf a e .auction))
-    ∙ ap (λ (r : Answer). r ∷ answers (stepOf a e .auction) es) (steps a e .0)
+-- a mirrored record bears the sequence of the record
+same-name : (e : Event) → mirroredRecord e .sequence ≡ e .sequence
+same-name e = by (λ (x : Event). x .sequence ≡ e .sequence) (eventFormed e) _ _ (λ _. mirror-sequence e) (λ _. refl)
+
+heard-same : (es : List Event) (a : Auction) → heard (flipped a) (mirroredRecords es) ≡ heard a es
+heard-same [] a = refl
+heard-same (e ∷ es) a =
+    let first : said (mirroredRecord e .sequence) (stepOf (flipped a) (mirroredRecord e) .answer) ≡ said (e .sequence) (stepOf a e .answer) = simp (same-name e, steps a e .0) in
+    ap (λ (b : Auction). said (mirroredRecord e .sequence) (stepOf (flipped a) (mirroredRecord e) .answer) ∷ heard b (mirroredRecords es)) (steps a e .1)
+    ∙ ap (λ (rs : List Said). said (mirroredRecord e .sequence) (stepOf (flipped a) (mirroredRecord e) .answer) ∷ rs) (heard-same es (stepOf a e .auction))
+    ∙ ap (λ (r : Said). r ∷ heard (stepOf a e .auction) es) first
 
 plays : (o : Order) (es : List Event) → acceptOf o .answer ≡ Accepted → played (mirroredOrder o) (mirroredRecords es) ≡ flipped (played o es)
 plays o es h =
-    ap (λ (b : Auction). closeOf (run b (mirroredRecords es)) .auction) (opens o h)
-    ∙ ap (λ (b : Auction). closeOf b .auction) (run-same es (acceptOf o .auction))
+    ap (λ (b : Auction). closed (run b (mirroredRecords es))) (opens o h)
+    ∙ ap closed (run-same es (acceptOf o .auction))
     ∙ closes (run (acceptOf o .auction) es) .1
 
-hears : (o : Order) (es : List Event) → acceptOf o .answer ≡ Accepted → answers (acceptOf (mirroredOrder o) .auction) (mirroredRecords es) ≡ answers (acceptOf o .auction) es
-hears o es h = ap (λ (b : Auction). answers b (mirroredRecords es)) (opens o h) ∙ answers-same es (acceptOf o .auction)
+hears : (o : Order) (es : List Event) → acceptOf o .answer ≡ Accepted → heard (acceptOf (mirroredOrder o) .auction) (mirroredRecords es) ≡ heard (acceptOf o .auction) es
+hears o es h = ap (λ (b : Auction). heard b (mirroredRecords es)) (opens o h) ∙ heard-same es (acceptOf o .auction)
 
 -- ---- fills: who trades does not look at the side
 
@@ -268,12 +273,12 @@ trades : (a : Auction) → a .head .terms .sell ≡ false → auctionFills (flip
 unfolding fillsOf dealOf boundNow
 trades a z =
     let rs : List Response = offers (a .board) in
-    ap (λ (t : Bool). reported (cond t false true) (fills (dealOf (flipped a)) rs)) z
+    ap (λ (t : Bool). reported (cond t false true) (fills (dealOf (flipped a .head)) rs)) z
     ∙ ap (reported true) (fills-same (dealOf (a .head)) (cond (a .head .terms .sell) false true) rs)
     ∙ reported-same (fills (dealOf (a .head)) rs)
     ∙ ap (λ (t : Bool). mirroredFills (reported t (fills (dealOf (a .head)) rs))) (sym z)
 
-ranges : (a : Auction) → a .head .terms .sell ≡ false → (rangeOf (flipped a) .low ≡ mirrored (rangeOf (a .head) .high)) × (rangeOf (flipped a) .high ≡ mirrored (rangeOf (a .head) .low))
+ranges : (a : Auction) → a .head .terms .sell ≡ false → (rangeOf (flipped a .head) .low ≡ mirrored (rangeOf (a .head) .high)) × (rangeOf (flipped a .head) .high ≡ mirrored (rangeOf (a .head) .low))
 unfolding rangeOf boundNow
 ranges a z = pick (a .head .terms .sell) z (a .head .terms .initiating) (boundNow (a .head))
   where
@@ -289,7 +294,7 @@ ranges a z = pick (a .head .terms .sell) z (a .head .terms .initiating) (boundNo
 pub mirrors : Mirrors
 mirrors =
     record {
-      answers = order-answers;
+      accepts = order-answers;
       opens = opens;
       steps = steps;
       closes = closes;

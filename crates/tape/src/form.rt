@@ -2,9 +2,9 @@
 ghost use mathlib.Core.Path.{_≡_};
 ghost use mathlib.Core.Bool.{true};
 ghost use Rattle.tape.specs.rules.Form.{allFrom, orderFormed, inside, shapeOf, shapeTests, eventFormed};
-ghost use Rattle.words.specs.rules.Bits.{bitAt};
 use crate::event::Event;
 use crate::order::Order;
+use words::bits::mark;
 
 // Every field of an order is in its range: one test with no branch.
 pub fn order_form(o: Order) -> bool
@@ -153,13 +153,6 @@ fn wide(x: u8) -> u32
     ensures { λ r. ⌜ r ≡ x ⌝ }
 {
     x as u32
-}
-
-// Mark bit i.
-fn mark(marks: u8, i: usize) -> bool
-    ensures { λ r. ⌜ r ≡ bitAt marks i ⌝ }
-{
-    words::bits::test(marks as u64, i)
 }
 
 // An event's fields fit a row of the table.

@@ -4,7 +4,7 @@ use denote.Ref.{now}
 use lib.ListN.{drop}
 use Rattle.tape.specs.rules.Tape.{eventPlace}
 use Rattle.fills.specs.rules.Fills.{hasEnded}
-use Rattle.listing.specs.Run.{heardAll, closed}
+use Rattle.run.specs.rules.Run.{heardAll, closed}
 use Rattle.listing.proofs.RunLaws.{closed-ended}
 use Rattle.listing.proofs.ListsLaws.{auction-lists}
 use borrow.Author.Needs.{needs}

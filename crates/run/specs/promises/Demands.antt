@@ -24,7 +24,7 @@ use Rattle.auction.specs.rules.Range.{isOpen, boundBy}
 use Rattle.events.specs.rules.Step.{sizeOf, sightOf, responseOf, gives, stepBy, stepOf, closeOf}
 use Rattle.fills.specs.rules.Fills.{dealOf, auctionFills}
 use Rattle.auction.specs.rules.Range.{rangeOf}
-use Rattle.run.specs.rules.Run.{run, answers, played, isTaken, takenOf}
+use Rattle.run.specs.rules.Run.{run, heard, played, isTaken, takenOf}
 use Rattle.auction.specs.declared.Auction.{Auction}
 use Rattle.auction.specs.declared.Head.{Head}
 use Rattle.auction.specs.declared.Terms.{Terms}
@@ -162,13 +162,13 @@ mirroredFills (f ∷ fs) = record { party = f .party; price = mirrored (f .price
 -- a sell auction is the mirror of the buy auction on mirrored input
 pub record Mirrors : Type 0 where
   -- the mirrored order is answered alike, and opens the same auction for the other side
-  pub answers : (o : Order) → orderFormed o ≡ true → acceptOf (mirroredOrder o) .answer ≡ acceptOf o .answer
+  pub accepts : (o : Order) → orderFormed o ≡ true → acceptOf (mirroredOrder o) .answer ≡ acceptOf o .answer
   pub opens : (o : Order) → acceptOf o .answer ≡ Accepted → acceptOf (mirroredOrder o) .auction ≡ flipped (acceptOf o .auction)
   -- mirrored records are answered alike, and do the same
   pub steps : (a : Auction) (e : Event) → (stepOf (flipped a) (mirroredRecord e) .answer ≡ stepOf a e .answer) × (stepOf (flipped a) (mirroredRecord e) .auction ≡ flipped (stepOf a e .auction))
   pub closes : (a : Auction) → (closeOf (flipped a) .answer ≡ closeOf a .answer) × (closeOf (flipped a) .auction ≡ flipped (closeOf a .auction))
   -- so a whole auction is the mirror, and a sell's fills are the buy's with mirrored prices
   pub plays : (o : Order) (es : List Event) → acceptOf o .answer ≡ Accepted → played (mirroredOrder o) (mirroredRecords es) ≡ flipped (played o es)
-  pub hears : (o : Order) (es : List Event) → acceptOf o .answer ≡ Accepted → answers (acceptOf (mirroredOrder o) .auction) (mirroredRecords es) ≡ answers (acceptOf o .auction) es
+  pub hears : (o : Order) (es : List Event) → acceptOf o .answer ≡ Accepted → heard (acceptOf (mirroredOrder o) .auction) (mirroredRecords es) ≡ heard (acceptOf o .auction) es
   pub trades : (a : Auction) → a .head .terms .sell ≡ false → auctionFills (flipped a) ≡ mirroredFills (auctionFills a)
-  pub ranges : (a : Auction) → a .head .terms .sell ≡ false → (rangeOf (flipped a) .low ≡ mirrored (rangeOf (a .head) .high)) × (rangeOf (flipped a) .high ≡ mirrored (rangeOf (a .head) .low))
+  pub ranges : (a : Auction) → a .head .terms .sell ≡ false → (rangeOf (flipped a .head) .low ≡ mirrored (rangeOf (a .head) .high)) × (rangeOf (flipped a .head) .high ≡ mirrored (rangeOf (a .head) .low))

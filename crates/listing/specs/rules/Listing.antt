@@ -8,6 +8,7 @@ use lib.ListN.{length, drop}
 use Rattle.share.specs.rules.Fills.{Fill}
 use Rattle.trade.specs.rules.Trade.{total}
 use Rattle.auction.specs.declared.Auction.{Auction}
+use Rattle.auction.specs.declared.Head.{Head}
 use Rattle.auction.specs.declared.Range.{Range}
 use Rattle.auction.specs.declared.Ending.{Ending}
 use Rattle.auction.specs.declared.Ending.the-variants.{Open, Time, Same, Opposite, Improve}
@@ -15,8 +16,8 @@ use Rattle.events.specs.declared.Answer.{Answer}
 use Rattle.events.specs.declared.Answer.the-variants.{Taken, Ended, Late, Refused}
 use Rattle.auction.specs.rules.Range.{rangeOf}
 use Rattle.fills.specs.rules.Fills.{auctionFills}
-use Rattle.listing.specs.Text.{text, newline, decimal}
-use Rattle.listing.specs.Run.{Said, Run, refused, ended, runOf}
+use Rattle.listing.specs.rules.Text.{text, newline, decimal}
+use Rattle.run.specs.rules.Run.{Said, Run, refused, ended, runOf}
 use Rattle.listing.specs.declared.Listed.{Listed}
 use Rattle.listing.specs.declared.Listed.the-variants.{Short, Refused as NoAuction, Ended as Auctioned}
 
@@ -38,8 +39,8 @@ abbrev pub sideText : Bool → List ℕ
 sideText sell = cond sell (text "AUCTION sell") (text "AUCTION buy")
 
 -- the order's side and size, and the range at the opening
-unfoldable pub auctionLine : Auction → List ℕ
-auctionLine a = sideText (a .terms .sell) ++ (field " size " (a .terms .size) ++ rangeText (rangeOf a))
+unfoldable pub auctionLine : Head → List ℕ
+auctionLine h = sideText (h .terms .sell) ++ (field " size " (h .terms .size) ++ rangeText (rangeOf h))
 
 unfoldable pub answerText : Answer → List ℕ
 answerText Taken = text " taken\n"
@@ -60,8 +61,8 @@ endText Improve = text "END improve"
 endText Open = text "END open"
 
 -- and the range that then holds
-unfoldable pub endLine : Auction → List ℕ
-endLine a = endText (a .ending) ++ rangeText (rangeOf a)
+unfoldable pub endLine : Head → List ℕ
+endLine h = endText (h .ending) ++ rangeText (rangeOf h)
 
 -- the party is 0 for the Contra Order
 unfoldable pub partyText : ℕ → List ℕ
@@ -86,11 +87,11 @@ fillLines (f ∷ fs) = fillLine f ++ fillLines fs
 
 -- the ending, the fills, and the sum of their quantities
 unfoldable pub endLines : Auction → List ℕ
-endLines a = endLine a ++ (fillLines (auctionFills a) ++ totalLine (total (auctionFills a)))
+endLines a = endLine (a .head) ++ (fillLines (auctionFills a) ++ totalLine (total (auctionFills a)))
 
 abbrev pub linesOf : Run → List ℕ
 linesOf (refused number) = refusedLine number
-linesOf (ended first said last) = auctionLine first ++ (eventLines said ++ endLines last)
+linesOf (ended first said last) = auctionLine (first .head) ++ (eventLines said ++ endLines last)
 
 unfoldable pub listingOf : List ℕ → List ℕ
 listingOf s = linesOf (runOf s)
@@ -104,7 +105,7 @@ roomOf = 131072
 -- what kind of result it is, and how long the listing
 abbrev pub answerOf : ℕ → Run → Listed
 answerOf n (refused number) = NoAuction number n
-answerOf n (ended first said last) = Auctioned (last .ending) n
+answerOf n (ended first said last) = Auctioned (last .head .ending) n
 
 -- the length in an answer
 abbrev pub lengthIn : Listed → ℕ

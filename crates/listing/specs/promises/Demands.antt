@@ -6,8 +6,8 @@ use lib.ListN.{length, drop}
 use Rattle.tape.specs.declared.order.Order.{Order}
 use Rattle.tape.specs.declared.event.Event.{Event}
 use Rattle.tape.specs.rules.Tape.{tapeOf}
-use Rattle.listing.specs.Text.{text, decimal}
-use Rattle.listing.specs.Listing.{listingOf, roomOf, lengthIn, listedOf, bytesOf}
+use Rattle.listing.specs.rules.Text.{text, decimal}
+use Rattle.listing.specs.rules.Listing.{listingOf, roomOf, lengthIn, listedOf, bytesOf}
 
 -- ---- the example of document 01 (case c): an order, a response, and the same record again
 
