@@ -23,7 +23,7 @@ use Rattle.base.proofs.Bools.{and-left, and-right, and-both}
 use Rattle.board.proofs.FindLaws.{find-le, find-is, find-first, find-unseen}
 
 -- a live place is one of the 64
-pub live-lt : (b : Board) (i : ℕ) → Good b → isLive b i ≡ true → i < 64
+live-lt : (b : Board) (i : ℕ) → Good b → isLive b i ≡ true → i < 64
 live-lt b i g t =
     ⊎-elim
     (λ le. absurd (true≢false (sym t ∙ past-bit (b .live) i (g .live-fits) le)))
