@@ -15,9 +15,9 @@ use Rattle.tape.specs.declared.Order.{Order}
 use Rattle.tape.specs.declared.Event.{Event}
 use Rattle.tape.specs.Form.{orderFormed, eventFormed}
 use Rattle.trade.specs.declared.Deal.{Deal}
-use Rattle.trade.specs.rules.Trade.{Level, offers, fills, top, entry, next, offersAt, levelAt, walk, marketPrice, levels, flat, total, levelFills, contra}
+use Rattle.trade.specs.rules.Trade.{Level, offers, fills, top, entry, next, offersAt, levelAt, walk, marketPrice, levels, flat, traded, levelFills, contra}
 use Rattle.trade.specs.rules.Plan.{mode1, mode2, mode3}
-use Rattle.trade.specs.rules.Write.{shown, reported, fillsOf}
+use Rattle.trade.specs.rules.Write.{reportedPrice, reported, fillsOf}
 use Rattle.auction.specs.Mirror.{mirrored, mirroredOrder, mirroredEvent, buyOrder, buyEvent}
 use Rattle.auction.specs.Accept.{orderRefusal, buyRefusal, termsOf, openedBy, noAuction, acceptOf}
 use Rattle.auction.specs.Step.{isOpen, eventRefusal, gtxOutcome, cancelOutcome, sellLimitOutcome, buyLimitOutcome, limitOutcome, marketOutcome, quotesOutcome, outcomeOf, after, endedByTime, gives, carried, isFull, stepOf, closeOf}
@@ -187,12 +187,12 @@ module _ (d : Deal) (t : Bool) where
 
         go : (b : Bool) (x y : Level) → x ≡ y → ((f l h : ℕ) → walk on rs n f l h ≡ walk d rs n f l h)
             → _≡_ {A = List Level}
-            (elim b [ true ↦ [] | false ↦ x ∷ walk on rs n (x .price + 1) (left - total (levelFills x)) (held + contra x) ])
-            (elim b [ true ↦ [] | false ↦ y ∷ walk d rs n (y .price + 1) (left - total (levelFills y)) (held + contra y) ])
+            (elim b [ true ↦ [] | false ↦ x ∷ walk on rs n (x .price + 1) (left - traded (levelFills x)) (held + contra x) ])
+            (elim b [ true ↦ [] | false ↦ y ∷ walk d rs n (y .price + 1) (left - traded (levelFills y)) (held + contra y) ])
         go true x y h ih = refl
         go false x y h ih =
-            ap (λ (ls : List Level). x ∷ ls) (ih (x .price + 1) (left - total (levelFills x)) (held + contra x))
-            ∙ ap (λ (l : Level). l ∷ walk d rs n (l .price + 1) (left - total (levelFills l)) (held + contra l)) h
+            ap (λ (ls : List Level). x ∷ ls) (ih (x .price + 1) (left - traded (levelFills x)) (held + contra x))
+            ∙ ap (λ (l : Level). l ∷ walk d rs n (l .price + 1) (left - traded (levelFills l)) (held + contra l)) h
 
     market-same : marketPrice on rs ≡ marketPrice d rs
     unfolding marketPrice

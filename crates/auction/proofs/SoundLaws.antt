@@ -20,9 +20,9 @@ use Rattle.tape.specs.declared.Order.{Order}
 use Rattle.tape.specs.Form.{eventFormed, shapeOf, shapeTests, orderFormed}
 use Rattle.tape.proofs.FormLaws.{each, within-ge, order-bounds}
 use Rattle.trade.specs.declared.Deal.{Deal}
-use Rattle.trade.specs.rules.Trade.{offers, fills, total}
-use Rattle.trade.specs.rules.Write.{shown, reported, fillsOf}
-use Rattle.demand.specs.promises.Demands.{Absent, Distinct, InRange, Demand3, Sound as SoundDeal}
+use Rattle.trade.specs.rules.Trade.{offers, fills, traded}
+use Rattle.trade.specs.rules.Write.{reportedPrice, reported, fillsOf}
+use Rattle.demand.specs.promises.Demands.{Absent, Distinct, InRange, Demand3, Tradable as SoundDeal}
 use Rattle.base.proofs.ListLaws.{every-map}
 use Rattle.demand.proofs.Theorems.{demand3}
 use Rattle.demand.proofs.Theorems.{plans}
@@ -206,16 +206,16 @@ sound-deal a s =
       market-apart = s .market-apart;
     }
 
-reported-total : (sell : Bool) (fs : List Fill) → total (reported sell fs) ≡ total fs
+reported-total : (sell : Bool) (fs : List Fill) → traded (reported sell fs) ≡ traded fs
 reported-total sell [] = refl
 reported-total sell (f ∷ fs) = ap (λ (n : ℕ). f .quantity + n) (reported-total sell fs)
 
--- a price of the range, as it is shown
-shown-in : (a : Auction) (f : Fill) → InRange (dealOf a) f → Within (rangeOf a) (record { party = f .party; price = shown (a .terms .sell) (f .price); quantity = f .quantity })
+-- a price of the range, as it is reported
+shown-in : (a : Auction) (f : Fill) → InRange (dealOf a) f → Within (rangeOf a) (record { party = f .party; price = reportedPrice (a .terms .sell) (f .price); quantity = f .quantity })
 unfolding rangeOf dealOf mirrored
 shown-in a f h = go (a .terms .sell)
   where
-    go : (sell : Bool) → Within (cond sell (record { low = 1000000 - a .terms .initiating; high = 1000000 - boundNow a }) (record { low = boundNow a; high = a .terms .initiating })) (record { party = f .party; price = shown sell (f .price); quantity = f .quantity })
+    go : (sell : Bool) → Within (cond sell (record { low = 1000000 - a .terms .initiating; high = 1000000 - boundNow a }) (record { low = boundNow a; high = a .terms .initiating })) (record { party = f .party; price = reportedPrice sell (f .price); quantity = f .quantity })
     go true = record { low = omega (arith, h .high); high = omega (arith, h .low) }
     go false = record { low = h .low; high = h .high }
 

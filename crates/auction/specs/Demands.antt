@@ -13,7 +13,7 @@ use Rattle.share.specs.rules.Fills.{Fill}
 use Rattle.tape.specs.declared.Order.{Order}
 use Rattle.tape.specs.declared.Event.{Event}
 use Rattle.tape.specs.Form.{orderFormed, eventFormed}
-use Rattle.trade.specs.rules.Trade.{offers, fills, total}
+use Rattle.trade.specs.rules.Trade.{offers, fills, traded}
 use Rattle.base.specs.Lists.{In}
 use Rattle.demand.specs.promises.Demands.{Absent, Distinct, Demand3}
 use Rattle.demand.specs.promises.Demands.{Planned}
@@ -107,7 +107,7 @@ pub record Trades (a : Auction) : Type 0 where
   pub clauses : Demand3 (dealOf a) (a .board) (fills (dealOf a) (offers (a .board)))
   -- each price of the walk has document 01's plan
   pub plans : Planned (dealOf a) (a .board)
-  pub adds-up : total (auctionFills a) ≡ a .terms .size
+  pub adds-up : traded (auctionFills a) ≡ a .terms .size
   pub in-range : Every (Within (rangeOf a)) (auctionFills a)
 
 pub record Demanded : Type 0 where

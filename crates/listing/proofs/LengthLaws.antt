@@ -21,7 +21,7 @@ use Rattle.tape.specs.declared.ReadEvent.{ReadEvent}
 use Rattle.tape.specs.declared.ReadEvent.the-variants.{Event as GotEvent, Refused as NoEvent}
 use Rattle.tape.specs.Records.{readEvent, readOrder}
 use Rattle.tape.specs.Tape.{openTape, eventPlace}
-use Rattle.trade.specs.rules.Trade.{total}
+use Rattle.trade.specs.rules.Trade.{traded}
 use Rattle.trade.proofs.WholeLaws.{fills-few}
 use Rattle.auction.specs.declared.Auction.{Auction}
 use Rattle.auction.specs.declared.Answer.{Answer}
@@ -196,8 +196,8 @@ end-lines-short : (a : Auction) → places a ≡ 64 → length (endLines a) ≤ 
 unfolding endLines
 end-lines-short a h =
     let fs : List Fill = auctionFills a in
-    then-short 64 8867 (endLine a) (fillLines fs ++ totalLine (total fs)) (end-short a)
-    (then-short 8840 27 (fillLines fs) (totalLine (total fs)) (omega (arith, fills-short fs, fills-few (dealOf a) (a .board) h)) (total-short (total fs)))
+    then-short 64 8867 (endLine a) (fillLines fs ++ totalLine (traded fs)) (end-short a)
+    (then-short 8840 27 (fillLines fs) (totalLine (traded fs)) (omega (arith, fills-short fs, fills-few (dealOf a) (a .board) h)) (total-short (traded fs)))
 
 entry-short : (n : ℕ) (s : List ℕ) (a : Auction) (r : Entry) → n ≤ 2045 → places a ≡ 64 → length (linesOf (runEntry n s a r)) ≤ roomOf
 entry-short n s a (NoEntry number) h p = omega (arith, refused-short number)

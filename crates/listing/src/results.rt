@@ -4,7 +4,7 @@ ghost use mathlib.Core.Bool.{true};
 ghost use Prim.Native.Nat.{_+_, _*_, _≤_};
 ghost use lib.ListN.{length, take};
 ghost use Rattle.share.specs.rules.Fills.{words};
-ghost use Rattle.trade.specs.rules.Trade.{total};
+ghost use Rattle.trade.specs.rules.Trade.{traded};
 ghost use Rattle.auction.specs.Fills.{hasEnded, auctionFills};
 ghost use Rattle.listing.specs.Listing.{fillLines, endLines};
 ghost use Rattle.listing.specs.Code.{Wrote, countIn, fillsIn};
@@ -51,7 +51,7 @@ fn put_fills(out: &mut [u8], at: usize, words: &[u32], n: usize) -> usize
 // The sum of their quantities.
 fn sum_of(words: &[u32], n: usize) -> u64
     requires { ⌜ (n ≤ 130) × (3 * n ≤ length (now words)) ⌝ }
-    ensures { λ r. ⌜ r ≡ total (fillsIn n (now (words .entry))) ⌝ }
+    ensures { λ r. ⌜ r ≡ traded (fillsIn n (now (words .entry))) ⌝ }
 {
     let mut sum = 0;
     let mut i = 0;

@@ -1,7 +1,7 @@
 use mathlib.Core.Bool.{Bool}
 use denote.Ref.{now}
 use Rattle.trade.specs.declared.Deal.{Deal}
-use Rattle.trade.specs.rules.Write.{answer, after}
+use Rattle.trade.specs.rules.Write.{fillAnswer, fillWords}
 use Rattle.auction.specs.Fills.{hasEnded}
 use mathlib.Core.Path.{ap, _∙_}
 use borrow.Author.Needs.{needs}
@@ -26,8 +26,8 @@ returns c =
     let e = c .before .before .before .before .before .has-ended .ensures in
     let d = c .before .before .before .before .deal-of .ensures in
     let w = c .before .before .write-fills in (
-      w .ensures .0 ∙ ap (λ (b : Bool). answer b (c .before .before .before .before .deal-of .result) (s .a .board) (now (s .out)) (s .start)) e ∙ ap (λ (x : Deal). answer (hasEnded (s .a)) x (s .a .board) (now (s .out)) (s .start)) d,
-      w .ensures .1 ∙ ap (λ (b : Bool). after b (c .before .before .before .before .deal-of .result) (s .a .board) (now (s .out)) (s .start)) e ∙ ap (λ (x : Deal). after (hasEnded (s .a)) x (s .a .board) (now (s .out)) (s .start)) d,
+      w .ensures .0 ∙ ap (λ (b : Bool). fillAnswer b (c .before .before .before .before .deal-of .result) (s .a .board) (now (s .out)) (s .start)) e ∙ ap (λ (x : Deal). fillAnswer (hasEnded (s .a)) x (s .a .board) (now (s .out)) (s .start)) d,
+      w .ensures .1 ∙ ap (λ (b : Bool). fillWords b (c .before .before .before .before .deal-of .result) (s .a .board) (now (s .out)) (s .start)) e ∙ ap (λ (x : Deal). fillWords (hasEnded (s .a)) x (s .a .board) (now (s .out)) (s .start)) d,
     )
 
 pub write-fills-spec : {M : Type 1} → statement M

@@ -2,7 +2,7 @@ use mathlib.Core.Path.{_≡_, refl, ap, _∙_}
 use native.Mathlib.Omega.{arith}
 use lib.ListN.{length, replicate}
 use Rattle.base.proofs.ListLaws.{length-mapped}
-use Rattle.trade.specs.rules.Trade.{total}
+use Rattle.trade.specs.rules.Trade.{traded}
 use Rattle.listing.specs.Listing.{fillLines, totalLine, endLines}
 use Rattle.listing.proofs.WroteLaws.{wrote-append, wrote-same}
 use Rattle.listing.proofs.FillLaws.{Reported, reported}
@@ -54,7 +54,7 @@ returns : tie.Need-returns
 unfolding endLines
 returns c =
     let f = found (c .before .before .before .before .before .before .before .before .before .before .before .before .before .before .before) in
-    wrote-append (c .before .before .before .before .before .before .before .before .before .before .before .before .before .put-end .ensures .0) (wrote-append (wrote-same (c .before .before .before .before .before .before .before .before .put-fills .ensures .0) (ap fillLines (f .fills))) (wrote-same (c .before .before .put-total .ensures) (ap totalLine (c .before .before .before .sum-of .ensures ∙ ap total (f .fills)))))
+    wrote-append (c .before .before .before .before .before .before .before .before .before .before .before .before .before .put-end .ensures .0) (wrote-append (wrote-same (c .before .before .before .before .before .before .before .before .put-fills .ensures .0) (ap fillLines (f .fills))) (wrote-same (c .before .before .put-total .ensures) (ap totalLine (c .before .before .before .sum-of .ensures ∙ ap traded (f .fills)))))
 
 pub put-results-spec : {M : Type 1} → statement M
 put-results-spec =
