@@ -15,12 +15,12 @@ use Rattle.base.specs.Lists.{Every, keep, filter}
 use Rattle.share.specs.rules.Share.{inTurn}
 use Rattle.share.specs.rules.Fills.{Fill, fillOf, fillsBy, sizes}
 use Rattle.trade.specs.declared.Deal.{Deal}
-use Rattle.trade.specs.rules.Trade.{isCustomer, Level, customers, others, given, contra, levelFills, flat, working, offersAt}
+use Rattle.trade.specs.rules.Trade.{fromCustomer, Level, customers, others, given, contra, levelFills, flat, working, offersAt}
 use Rattle.demand.specs.promises.Demands.{Absent, Distinct, times}
 use Rattle.trade.proofs.Counts.{length-fill}
 use Rattle.demand.proofs.Lists.{all-fill, distinct-keep}
 use Rattle.demand.proofs.Levels.{all-level}
-use Rattle.demand.proofs.Walk.{Fit, Good, Run}
+use Rattle.demand.proofs.Walk.{Walkable, Good, Run}
 use Rattle.demand.proofs.Runs.{no-contra, run-from}
 
 -- how many responses a party has
@@ -33,7 +33,7 @@ none-kept t xs a = ap length (filter-none t xs a)
 
 pub times-append : (k p : ℕ) (fs gs : List Fill) → times k p (fs ++ gs) ≡ times k p fs + times k p gs
 times-append k p fs gs =
-    let t = λ (f : Fill). eqb (f .party) k && eqb (f .price) p in
+    let t : Fill → Bool = λ f. eqb (f .party) k && eqb (f .price) p in
     ap length (filter-append t fs gs) ∙ length-append (filter t fs) (filter t gs)
 
 pub times-price : (k p : ℕ) (fs : List Fill) → Every (λ f. f .price ≢ p) fs → times k p fs ≡ 0
@@ -109,7 +109,7 @@ times-level l k p d z = go (eqb 0 k) refl
     c = fillsBy (l .price) (others l) (given l)
 
     both : times k p a + times k p c ≤ occ k (l .here)
-    both = omega (arith, times-by k p (l .price) (customers l) (inTurn (l .left) (sizes (customers l))), times-by k p (l .price) (others l) (given l), occ-keep k isCustomer (l .here))
+    both = omega (arith, times-by k p (l .price) (customers l) (inTurn (l .left) (sizes (customers l))), times-by k p (l .price) (others l) (given l), occ-keep k fromCustomer (l .here))
 
     go : (t : Bool) → eqb 0 k ≡ t → times k p (a ++ (b ++ c)) ≤ 1
     go true e =
@@ -131,7 +131,7 @@ times-level l k p d z = go (eqb 0 k) refl
           times-party k p b (all-fill (λ f. f .party ≢ k) 0 (l .price) (contra l) (λ h. eqb-false 0 k e)),
         )
 
-module _ (d : Deal) (rs : List Response) (s : Fit d rs) where
+module _ (d : Deal) (rs : List Response) (s : Walkable d rs) where
   distinct-here : (from left held : ℕ) (l : Level) → Good d rs from left held l → Distinct (l .here)
   unfolding offersAt
   distinct-here from left held l g = subst Distinct (sym (g .here-are)) (distinct-keep (λ x. eqb (working d x) (l .price)) rs (s .distinct))

@@ -14,13 +14,13 @@ use Rattle.share.specs.rules.Share.{shares}
 use Rattle.share.specs.promises.Share.{Near}
 use Rattle.share.specs.rules.Fills.{Fill, sizes}
 use Rattle.trade.specs.declared.Deal.{Deal}
-use Rattle.trade.specs.rules.Trade.{isOther, Level, others, first, shared, given, rest, contra, levelFills, total, flat, working, entry, guarantee, offersAt, walk, fills, sizeHere}
+use Rattle.trade.specs.rules.Trade.{fromOther, Level, others, first, shared, given, rest, contra, levelFills, traded, flat, working, entry, guarantee, offersAt, walk, fills, sizeHere}
 use Rattle.demand.specs.promises.Demands.{Distinct, got, gotBelow, gots, soldAbove, othersAt}
 use Rattle.base.proofs.ListLaws.{every-map, in-filter, filter-in, filter-test}
 use Rattle.demand.proofs.Lists.{tally-append, tally-all, gots-same}
 use Rattle.trade.proofs.Levels.{given-sum}
 use Rattle.demand.proofs.Levels.{traded-final, traded-open, got-contra, level-full, level-covered, level-near, level-first, level-some, level-customer, gots-level}
-use Rattle.demand.proofs.Walk.{Fit, Good, Run}
+use Rattle.demand.proofs.Walk.{Walkable, Good, Run}
 use Rattle.demand.proofs.Runs.{got-append, got-below, run-total, run-from, no-contra, positive, here-distinct, is-here, got-elsewhere, run-passed}
 
 -- ---- the quantities of a list of responses
@@ -52,11 +52,11 @@ took l w h e f =
 capped : (held G c n b : ℕ) → c ≤ G - held → n ≡ c → held + n ≤ max G (held + b)
 capped held G c n b h e = omega arith
 
-module _ (d : Deal) (rs : List Response) (s : Fit d rs) where
+module _ (d : Deal) (rs : List Response) (s : Walkable d rs) where
   pub at-price : (p : ℕ) (x : Response) → In x (othersAt d rs p) → In x rs × (working d x ≡ p)
   unfolding offersAt
   at-price p x m =
-      let n : In x (filter (λ o. eqb (working d o) p) rs) = filter-in isOther (filter (λ o. eqb (working d o) p) rs) x m in
+      let n : In x (filter (λ o. eqb (working d o) p) rs) = filter-in fromOther (filter (λ o. eqb (working d o) p) rs) x m in
       (filter-in (λ o. eqb (working d o) p) rs x n, eqb-true (working d x) p (filter-test (λ o. eqb (working d o) p) rs x n))
 
   module _ (o : Response) (m : In o rs) (c : o .customer ≡ false) where
@@ -75,7 +75,7 @@ module _ (d : Deal) (rs : List Response) (s : Fit d rs) where
             → Near (sum (gots (levelFills l ++ flat ls) os)) (sum (sizes os)) (o .size) (got (o .sequence) (levelFills l ++ flat ls))
         go true e ih =
             let w : working d o ≡ l .price = eqb-true (working d o) (l .price) e in
-            let h : othersAt d rs (working d o) ≡ others l = ap (λ n. othersAt d rs n) w ∙ ap (λ (x : List Response). filter isOther x) (sym (r .0 .here-are)) in
+            let h : othersAt d rs (working d o) ≡ others l = ap (λ n. othersAt d rs n) w ∙ ap (λ (x : List Response). filter fromOther x) (sym (r .0 .here-are)) in
             let g : gots (levelFills l ++ flat ls) os ≡ given l =
             gots-same (levelFills l ++ flat ls) (levelFills l) os
             (λ x n.
@@ -92,7 +92,7 @@ module _ (d : Deal) (rs : List Response) (s : Fit d rs) where
             split true f n =
                 let q : sum (given l) ≡ sum (sizes (others l)) = omega (arith, given-sum l, leb-true (sum (sizes (others l))) (shared l) f) in
                 rw (q, level-covered l o (positive d rs s o m) (here-distinct d rs s o m from left held l (r .0)) n c (leb-true (sum (sizes (others l))) (shared l) f))
-                (near-all (sum (sizes (others l))) (o .size) (size-in (others l) o (in-filter isOther (l .here) o n (ap not c))))
+                (near-all (sum (sizes (others l))) (o .size) (size-in (others l) o (in-filter fromOther (l .here) o n (ap not c))))
             split false f n =
                 let k : shared l < sum (sizes (others l)) = leb-false (sum (sizes (others l))) (shared l) f in
                 let q : sum (given l) ≡ shared l = omega (arith, given-sum l) in
@@ -195,12 +195,12 @@ module _ (d : Deal) (rs : List Response) (s : Fit d rs) where
             here w true f q = omega (arith, got-append 0 (levelFills l) (flat ls), got0, r .0 .final-want f)
             here w false f q =
                 -- something is left, and trades higher
-                let z : soldAbove (working d o) (flat ls) ≡ total (flat ls) =
+                let z : soldAbove (working d o) (flat ls) ≡ traded (flat ls) =
                 tally-all (λ f. ltb (working d o) (f .price)) (flat ls)
                 (every-map (λ f. l .price + 1 ≤ f .price) (λ f. ltb (working d o) (f .price) ≡ true) (flat ls) (λ f x. lt-ltb (working d o) (f .price) (omega arith)) (run-from d rs s _ _ _ ls (r .1))) in
                 part z (r .0 .open-want f)
               where
-                part : soldAbove (working d o) (flat ls) ≡ total (flat ls) → ((l .price < entry d) × (l .want ≡ 0)) ⊎ (sizeHere l + l .want < left) → guarantee d rs ≤ held + got 0 (levelFills l ++ flat ls)
+                part : soldAbove (working d o) (flat ls) ≡ traded (flat ls) → ((l .price < entry d) × (l .want ≡ 0)) ⊎ (sizeHere l + l .want < left) → guarantee d rs ≤ held + got 0 (levelFills l ++ flat ls)
                 part z (inl x) = absurd (omega (arith, x .0))
                 part z (inr x) = absurd (omega (arith, z, above, run-total d rs s _ _ _ ls (r .1), traded-open l f, r .0 .left-is))
         go false e ih =

@@ -14,7 +14,7 @@ use Rattle.share.specs.rules.Share.{inTurn}
 use Rattle.share.specs.promises.Share.{Each, Near}
 use Rattle.share.proofs.ShareLaws.{shares-fit, shares-near, each-flip, turn-fit, turn-full, shares-full, shares-length}
 use Rattle.share.specs.rules.Fills.{Fill, fillOf, fillsBy, sizes}
-use Rattle.trade.specs.rules.Trade.{isCustomer, isOther, Level, customers, others, first, shared, given, contra, levelFills, total, sizeHere}
+use Rattle.trade.specs.rules.Trade.{fromCustomer, fromOther, Level, customers, others, first, shared, given, contra, levelFills, traded, sizeHere}
 use Rattle.demand.specs.promises.Demands.{Absent, Distinct, got, gots}
 use Rattle.trade.proofs.Levels.{given-sum, traded-is}
 use Rattle.base.proofs.ListLaws.{every-append, every-any, every-in, every-filter, in-filter, filter-in, filter-test}
@@ -37,16 +37,16 @@ module _ (l : Level) where
 
   -- ---- how much trades
 
-  pub traded-final : l .final ≡ true → total (levelFills l) ≡ l .left
+  pub traded-final : l .final ≡ true → traded (levelFills l) ≡ l .left
   traded-final e = traded-is l ∙ ap (λ b. cond b (l .left) (min (l .left) (sizeHere l + l .want))) e
 
-  pub traded-open : l .final ≡ false → total (levelFills l) ≡ min (l .left) (sizeHere l + l .want)
+  pub traded-open : l .final ≡ false → traded (levelFills l) ≡ min (l .left) (sizeHere l + l .want)
   traded-open e = traded-is l ∙ ap (λ b. cond b (l .left) (min (l .left) (sizeHere l + l .want))) e
 
-  pub traded-fits : total (levelFills l) ≤ l .left
+  pub traded-fits : traded (levelFills l) ≤ l .left
   traded-fits = go (l .final) refl
     where
-      go : (b : Bool) → l .final ≡ b → total (levelFills l) ≤ l .left
+      go : (b : Bool) → l .final ≡ b → traded (levelFills l) ≤ l .left
       go true e = omega (arith, traded-final e)
       go false e = omega (arith, traded-open e)
 
@@ -70,9 +70,9 @@ module _ (l : Level) where
   unfolding byCustomers byContra byOthers
   all-who Q z a =
       all-three (λ f. Q (f .party))
-      (all-by (λ f. Q (f .party)) (λ o. Q (o .sequence)) (l .price) (λ o q u h. u) (customers l) (inTurn (l .left) (sizes (customers l))) (every-filter (λ o. Q (o .sequence)) isCustomer (l .here) a))
+      (all-by (λ f. Q (f .party)) (λ o. Q (o .sequence)) (l .price) (λ o q u h. u) (customers l) (inTurn (l .left) (sizes (customers l))) (every-filter (λ o. Q (o .sequence)) fromCustomer (l .here) a))
       (all-fill (λ f. Q (f .party)) 0 (l .price) (contra l) (λ h. z))
-      (all-by (λ f. Q (f .party)) (λ o. Q (o .sequence)) (l .price) (λ o q u h. u) (others l) (given l) (every-filter (λ o. Q (o .sequence)) isOther (l .here) a))
+      (all-by (λ f. Q (f .party)) (λ o. Q (o .sequence)) (l .price) (λ o q u h. u) (others l) (given l) (every-filter (λ o. Q (o .sequence)) fromOther (l .here) a))
 
   absent-customers : (k : ℕ) → Absent k (customers l) → Every (λ f. f .party ≢ k) byCustomers
   unfolding byCustomers
@@ -89,9 +89,9 @@ module _ (l : Level) where
   pub absent-level : (k : ℕ) → 0 < k → Absent k (l .here) → Every (λ f. f .party ≢ k) (levelFills l)
   absent-level k z a =
       all-three (λ f. f .party ≢ k)
-      (absent-customers k (every-filter (λ o. o .sequence ≢ k) isCustomer (l .here) a))
+      (absent-customers k (every-filter (λ o. o .sequence ≢ k) fromCustomer (l .here) a))
       (absent-contra k z)
-      (absent-others k (every-filter (λ o. o .sequence ≢ k) isOther (l .here) a))
+      (absent-others k (every-filter (λ o. o .sequence ≢ k) fromOther (l .here) a))
 
   got-parts : (k : ℕ) → got k (levelFills l) ≡ got k byCustomers + (got k byContra + got k byOthers)
   got-parts k = rw three (omega (arith, tally-append (λ f. eqb (f .party) k) byCustomers (byContra ++ byOthers), tally-append (λ f. eqb (f .party) k) byContra byOthers))
@@ -103,8 +103,8 @@ module _ (l : Level) where
         arith,
         got-parts 0,
         got-fill 0 (l .price) (contra l),
-        got-none 0 byCustomers (absent-customers 0 (every-filter (λ o. o .sequence ≢ 0) isCustomer (l .here) a)),
-        got-none 0 byOthers (absent-others 0 (every-filter (λ o. o .sequence ≢ 0) isOther (l .here) a)),
+        got-none 0 byCustomers (absent-customers 0 (every-filter (λ o. o .sequence ≢ 0) fromCustomer (l .here) a)),
+        got-none 0 byOthers (absent-others 0 (every-filter (λ o. o .sequence ≢ 0) fromOther (l .here) a)),
       )
 
   -- what the others get
@@ -112,18 +112,18 @@ module _ (l : Level) where
   unfolding byOthers
   gots-level z d =
       gots-same (levelFills l) byOthers (others l) (λ x m. same x m)
-      ∙ gots-by (l .price) (others l) (given l) (distinct-keep isOther (l .here) d) (shares-length (shared l) (sizes (others l)))
+      ∙ gots-by (l .price) (others l) (given l) (distinct-keep fromOther (l .here) d) (shares-length (shared l) (sizes (others l)))
     where
       same : (x : Response) → In x (others l) → got (x .sequence) (levelFills l) ≡ got (x .sequence) byOthers
       same x m =
-          let n : In x (l .here) = filter-in isOther (l .here) x m in
-          let c : x .customer ≡ false = not-true (x .customer) (filter-test isOther (l .here) x m) in
+          let n : In x (l .here) = filter-in fromOther (l .here) x m in
+          let c : x .customer ≡ false = not-true (x .customer) (filter-test fromOther (l .here) x m) in
           let k : x .sequence ≢ 0 = every-in (λ o. o .sequence ≢ 0) (l .here) x z n in
           omega (
             arith,
             got-parts (x .sequence),
             got-none (x .sequence) byContra (absent-contra (x .sequence) (omega arith)),
-            got-none (x .sequence) byCustomers (absent-customers (x .sequence) (absent-keep isCustomer (l .here) x d n c)),
+            got-none (x .sequence) byCustomers (absent-customers (x .sequence) (absent-keep fromCustomer (l .here) x d n c)),
           )
 
   module _ (o : Response) (positive : 0 < o .sequence) (d : Distinct (l .here)) (m : In o (l .here)) where
@@ -132,7 +132,7 @@ module _ (l : Level) where
 
     -- what a Customer gets
     pub customer-is : o .customer ≡ true → got (o .sequence) (levelFills l) ≡ got (o .sequence) byCustomers
-    customer-is c = omega (arith, got-parts (o .sequence), not-contra, got-none (o .sequence) byOthers (absent-others (o .sequence) (absent-keep isOther (l .here) o d m (ap not c))))
+    customer-is c = omega (arith, got-parts (o .sequence), not-contra, got-none (o .sequence) byOthers (absent-others (o .sequence) (absent-keep fromOther (l .here) o d m (ap not c))))
 
     -- a Customer gets its turn's quantity
     customer-got : (P : ℕ → ℕ → Type 0) → o .customer ≡ true → Each P (sizes (customers l)) (inTurn (l .left) (sizes (customers l))) → P (o .size) (got (o .sequence) (levelFills l))
@@ -141,16 +141,16 @@ module _ (l : Level) where
         let g = customer-is c in
         let qs = inTurn (l .left) (sizes (customers l)) in
         subst (λ n. P (o .size) n) (sym g)
-        (got-by (λ x q. P (x .size) q) (l .price) (customers l) qs o (distinct-keep isCustomer (l .here) d) (in-filter isCustomer (l .here) o m c) (pairs-of P (customers l) qs e))
+        (got-by (λ x q. P (x .size) q) (l .price) (customers l) qs o (distinct-keep fromCustomer (l .here) d) (in-filter fromCustomer (l .here) o m c) (pairs-of P (customers l) qs e))
 
     -- another gets its share
     pub other-got : (P : ℕ → ℕ → Type 0) → o .customer ≡ false → Each P (sizes (others l)) (given l) → P (o .size) (got (o .sequence) (levelFills l))
     unfolding byOthers
     other-got P c e =
-        let z : got (o .sequence) byCustomers ≡ 0 = got-none (o .sequence) byCustomers (absent-customers (o .sequence) (absent-keep isCustomer (l .here) o d m c)) in
+        let z : got (o .sequence) byCustomers ≡ 0 = got-none (o .sequence) byCustomers (absent-customers (o .sequence) (absent-keep fromCustomer (l .here) o d m c)) in
         let g : got (o .sequence) (levelFills l) ≡ got (o .sequence) byOthers = omega (arith, got-parts (o .sequence), not-contra) in
         subst (λ n. P (o .size) n) (sym g)
-        (got-by (λ x q. P (x .size) q) (l .price) (others l) (given l) o (distinct-keep isOther (l .here) d) (in-filter isOther (l .here) o m (ap not c)) (pairs-of P (others l) (given l) e))
+        (got-by (λ x q. P (x .size) q) (l .price) (others l) (given l) o (distinct-keep fromOther (l .here) d) (in-filter fromOther (l .here) o m (ap not c)) (pairs-of P (others l) (given l) e))
 
     -- no more than its size
     pub level-fits : got (o .sequence) (levelFills l) ≤ o .size

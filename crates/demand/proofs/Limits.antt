@@ -11,15 +11,15 @@ use lib.ListN.{length}
 use Rattle.board.specs.declared.Response.{Response}
 use Rattle.base.specs.Lists.{Every, sum, In}
 use Rattle.trade.specs.declared.Deal.{Deal}
-use Rattle.trade.specs.rules.Trade.{Level, shared, given, rest, contra, levelFills, total, flat, top, entry, offersAt}
+use Rattle.trade.specs.rules.Trade.{Level, shared, given, rest, contra, levelFills, traded, flat, top, entry, offersAt}
 use Rattle.demand.specs.promises.Demands.{soldAt}
 use Rattle.base.proofs.ListLaws.{every-append, every-map}
 use Rattle.demand.proofs.Lists.{tally-all, got-zero, soldAt-none}
 use Rattle.demand.proofs.Levels.{all-level, got-contra}
-use Rattle.demand.proofs.Walk.{Fit, Good, Run}
+use Rattle.demand.proofs.Walk.{Walkable, Good, Run}
 use Rattle.demand.proofs.Runs.{sold-append, run-from, run-above, no-contra}
 
-module _ (d : Deal) (rs : List Response) (s : Fit d rs) where
+module _ (d : Deal) (rs : List Response) (s : Walkable d rs) where
   -- below its entry price the Contra Order gets nothing
   pub none-early : (from left held : ℕ) (l : Level) → Good d rs from left held l → l .price < entry d → contra l ≡ 0
   none-early from left held l g h =
@@ -64,14 +64,14 @@ module _ (d : Deal) (rs : List Response) (s : Fit d rs) where
       go false e = inr (omega (arith, ltb-false (l .price) (top d) e, r .0 .in-top))
 
   -- what trades at a level's price trades at that level
-  pub run-sold : (from left held : ℕ) (ls : List Level) → Run d rs from left held ls → (l : Level) → In l ls → soldAt (l .price) (flat ls) ≡ total (levelFills l)
+  pub run-sold : (from left held : ℕ) (ls : List Level) → Run d rs from left held ls → (l : Level) → In l ls → soldAt (l .price) (flat ls) ≡ traded (levelFills l)
   run-sold from left held [] r l n = absurd n
   run-sold from left held (x ∷ xs) r l (inl q) =
-      let here : soldAt (x .price) (levelFills x) ≡ total (levelFills x) =
+      let here : soldAt (x .price) (levelFills x) ≡ traded (levelFills x) =
       tally-all (λ f. eqb (f .price) (x .price)) (levelFills x) (all-level x (λ f. eqb (f .price) (x .price) ≡ true) (λ k w h. eq-eqb (x .price) (x .price) refl)) in
       let later : soldAt (x .price) (flat xs) ≡ 0 =
       soldAt-none (x .price) (flat xs) (every-map (λ f. x .price + 1 ≤ f .price) (λ f. f .price ≢ x .price) (flat xs) (λ f h. omega arith) (run-from d rs s _ _ _ xs (r .1))) in
-      subst (λ (y : Level). soldAt (y .price) (flat (x ∷ xs)) ≡ total (levelFills y)) (sym q) (omega (arith, sold-append (x .price) (levelFills x) (flat xs)))
+      subst (λ (y : Level). soldAt (y .price) (flat (x ∷ xs)) ≡ traded (levelFills y)) (sym q) (omega (arith, sold-append (x .price) (levelFills x) (flat xs)))
   run-sold from left held (x ∷ xs) r l (inr n) =
       let h : x .price + 1 ≤ l .price = run-above d rs s _ _ _ xs (r .1) l n in
       omega (

@@ -13,7 +13,7 @@ use Rattle.base.proofs.ListLaws.{every-append, every-map, every-in, every-filte
 use Rattle.base.specs.Lists.{Every, keep, filter, In}
 use Rattle.share.specs.promises.Share.{Each}
 use Rattle.share.specs.rules.Fills.{Fill, fillOf, fillsBy, sizes}
-use Rattle.trade.specs.rules.Trade.{total, fills}
+use Rattle.trade.specs.rules.Trade.{traded, fills}
 use Rattle.demand.specs.promises.Demands.{Absent, Distinct, tally, got, gots, soldAt}
 
 -- responses and quantities side by side
@@ -57,15 +57,15 @@ pub tally-none : (t : Fill → Bool) (fs : List Fill) → Every (λ f. t f ≡ f
 tally-none t [] a = refl
 tally-none t (f ∷ fs) a = rw (a .0) (omega (arith, tally-none t fs (a .1)))
 
-pub tally-all : (t : Fill → Bool) (fs : List Fill) → Every (λ f. t f ≡ true) fs → tally t fs ≡ total fs
+pub tally-all : (t : Fill → Bool) (fs : List Fill) → Every (λ f. t f ≡ true) fs → tally t fs ≡ traded fs
 tally-all t [] a = refl
 tally-all t (f ∷ fs) a = rw (a .0) (omega (arith, tally-all t fs (a .1)))
 
-pub tally-le : (t : Fill → Bool) (fs : List Fill) → tally t fs ≤ total fs
+pub tally-le : (t : Fill → Bool) (fs : List Fill) → tally t fs ≤ traded fs
 tally-le t [] = omega arith
 tally-le t (f ∷ fs) = go (t f) (tally-le t fs)
   where
-    go : (b : Bool) → tally t fs ≤ total fs → cond b (f .quantity) 0 + tally t fs ≤ f .quantity + total fs
+    go : (b : Bool) → tally t fs ≤ traded fs → cond b (f .quantity) 0 + tally t fs ≤ f .quantity + traded fs
     go true h = omega arith
     go false h = omega arith
 

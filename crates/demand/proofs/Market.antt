@@ -13,7 +13,7 @@ use Rattle.base.specs.Lists.{Every, In}
 use Rattle.trade.specs.declared.Deal.{Deal}
 use Rattle.trade.specs.rules.Trade.{working, workingStop, top, next, marketPrice}
 use Rattle.base.proofs.ListLaws.{every-map}
-use Rattle.demand.proofs.Walk.{Fit, top-above, stop-top, next-bound, next-high}
+use Rattle.demand.proofs.Walk.{Walkable, top-above, stop-top, next-bound, next-high}
 use Rattle.trade.proofs.Walk.{next-top, next-least}
 
 module _ (d : Deal) (rs : List Response) where
@@ -46,7 +46,7 @@ module _ (d : Deal) (rs : List Response) where
       next-high d 0 (min (working d o) (top d)) (omega arith) rs (every-map (λ x. working d o ≤ working d x) (λ x. min (working d o) (top d) ≤ working d x) rs (λ x h. omega arith) a) in
       omega (arith, next-top d 0 rs, next-least d 0 rs o m (omega arith))
 
-  module _ (s : Fit d rs) where
+  module _ (s : Walkable d rs) where
     -- it lies in the range, and not above the last price
     pub market-bound : d .bound ≤ marketPrice d rs
     market-bound =

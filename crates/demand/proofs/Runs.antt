@@ -12,13 +12,13 @@ use Rattle.base.proofs.Bools.{and-no-right}
 use Rattle.base.specs.Lists.{Every, In}
 use Rattle.share.specs.rules.Fills.{Fill}
 use Rattle.trade.specs.declared.Deal.{Deal}
-use Rattle.trade.specs.rules.Trade.{Level, first, levelFills, total, flat, working, guarantee, offersAt, walk, levels, fills, sizeHere}
+use Rattle.trade.specs.rules.Trade.{Level, first, levelFills, traded, flat, working, guarantee, offersAt, walk, levels, fills, sizeHere}
 use Rattle.demand.specs.promises.Demands.{Absent, Distinct, got, gotBelow, soldAt, soldBelow, InRange}
 use Rattle.base.proofs.ListLaws.{every-append, every-map, every-in, every-filter, in-filter}
 use Rattle.demand.proofs.Lists.{distinct-keep, absent-keep, tally-append, tally-none, tally-all, got-none, soldAt-none}
 use Rattle.trade.proofs.Lists.{total-append}
 use Rattle.demand.proofs.Levels.{traded-final, traded-open, traded-fits, all-level, all-who, absent-level, got-contra, level-fits, level-full}
-use Rattle.demand.proofs.Walk.{Fit, Good, Run, top-below}
+use Rattle.demand.proofs.Walk.{Walkable, Good, Run, top-below}
 
 pub got-append : (k : ℕ) (fs gs : List Fill) → got k (fs ++ gs) ≡ got k fs + got k gs
 got-append k fs gs = tally-append (λ f. eqb (f .party) k) fs gs
@@ -26,10 +26,10 @@ got-append k fs gs = tally-append (λ f. eqb (f .party) k) fs gs
 pub sold-append : (p : ℕ) (fs gs : List Fill) → soldAt p (fs ++ gs) ≡ soldAt p fs + soldAt p gs
 sold-append p fs gs = tally-append (λ f. eqb (f .price) p) fs gs
 
-module _ (d : Deal) (rs : List Response) (s : Fit d rs) where
+module _ (d : Deal) (rs : List Response) (s : Walkable d rs) where
   -- ---- the whole walk
 
-  pub run-total : (from left held : ℕ) (ls : List Level) → Run d rs from left held ls → total (flat ls) ≡ left
+  pub run-total : (from left held : ℕ) (ls : List Level) → Run d rs from left held ls → traded (flat ls) ≡ left
   run-total from left held [] r = sym r
   run-total from left held (l ∷ ls) r =
       omega (arith, total-append (levelFills l) (flat ls), run-total _ _ _ ls (r .1), traded-fits l, r .0 .left-is)
@@ -273,7 +273,7 @@ module _ (d : Deal) (rs : List Response) (s : Fit d rs) where
             → got (o .sequence) (levelFills l ++ flat ls) ≡ o .size
         go true e ih =
             let w : working d o ≡ l .price = eqb-true (working d o) (l .price) e in
-            let z : 0 < left - total (levelFills l) = left-over _ _ _ ls (r .1) (later here) in
+            let z : 0 < left - traded (levelFills l) = left-over _ _ _ ls (r .1) (later here) in
             let c : sizeHere l + l .want ≤ l .left = covers (l .final) refl z in
             omega (
               arith,
@@ -282,7 +282,7 @@ module _ (d : Deal) (rs : List Response) (s : Fit d rs) where
               run-passed _ _ _ ls (r .1) (omega arith),
             )
           where
-            covers : (b : Bool) → l .final ≡ b → 0 < left - total (levelFills l) → sizeHere l + l .want ≤ l .left
+            covers : (b : Bool) → l .final ≡ b → 0 < left - traded (levelFills l) → sizeHere l + l .want ≤ l .left
             covers true e z = absurd (omega (arith, traded-final l e, r .0 .left-is))
             covers false e z = omega (arith, traded-open l e, r .0 .left-is)
         go false e ih =

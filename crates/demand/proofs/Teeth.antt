@@ -14,7 +14,7 @@ use Rattle.share.specs.rules.Fills.{Fill}
 use Rattle.trade.specs.declared.Deal.{Deal}
 use Rattle.trade.specs.rules.Plan.{mode1, mode2, mode3}
 use Rattle.trade.specs.rules.Trade.{offers, Level, guaranteeOf, top, entry, next, offersAt, levelAt, walk, marketPrice, levels, fills}
-use Rattle.demand.specs.promises.Demands.{got, soldAt, Sound, Demand3}
+use Rattle.demand.specs.promises.Demands.{got, soldAt, Tradable, Demand3}
 use Rattle.demand.proofs.Examples.{gtx, board, deal, ended}
 use Rattle.demand.proofs.Theorems.{demand3}
 
@@ -26,7 +26,7 @@ terms = deal false 100 1 110 100 108
 abbrev three : Board
 three = board (gtx 1 31 108 ∷ gtx 2 30 108 ∷ gtx 3 30 108 ∷ [])
 
-sound : Sound terms three
+sound : Tradable terms three
 unfolding liveIn
 sound =
     record {

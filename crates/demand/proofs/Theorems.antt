@@ -16,8 +16,8 @@ use Rattle.share.specs.promises.Share.{Near}
 use Rattle.share.specs.rules.Fills.{Fill, sizes}
 use Rattle.trade.specs.declared.Deal.{Deal}
 use Rattle.trade.specs.rules.Plan.{planOf}
-use Rattle.trade.specs.rules.Trade.{sizeHere, offers, Level, others, shared, levelFills, total, flat, working, workingStop, top, entry, guarantee, marketPrice, marketTakes, marketFill, levels, fills}
-use Rattle.demand.specs.promises.Demands.{planOn, Plans, Absent, Distinct, tally, got, gotAt, gotBelow, gots, soldAt, soldAbove, times, isMarket, walked, othersAt, InRange, Sound, Known, theContra, theMarket, aResponse, Lowest, MarketAt, ByLevel, Demand3, Demands, Few}
+use Rattle.trade.specs.rules.Trade.{sizeHere, offers, Level, others, shared, levelFills, traded, flat, working, workingStop, top, entry, guarantee, marketPrice, marketTakes, marketFill, levels, fills}
+use Rattle.demand.specs.promises.Demands.{planOn, Plans, Absent, Distinct, tally, got, gotAt, gotBelow, gots, soldAt, soldAbove, times, isMarket, walked, othersAt, InRange, Tradable, Party, theContra, theMarket, aResponse, Lowest, MarketAt, ByLevel, Demand3, Demands, Few}
 use Rattle.base.proofs.ListLaws.{filter-fail, shuffles-length, filter-all, every-any, every-append, every-map, every-in}
 use Rattle.board.proofs.SequenceLaws.{sequence-shuffles, sequence-rises}
 use Rattle.trade.proofs.CodeLaws.{live-short}
@@ -26,7 +26,7 @@ use Rattle.trade.proofs.Lists.{total-append, total-fill}
 use Rattle.demand.proofs.Order.{in-sequence, all-sequence, distinct-sequence}
 use Rattle.trade.proofs.Levels.{traded-is}
 use Rattle.demand.proofs.Levels.{level-covered, level-near, level-first}
-use Rattle.demand.proofs.Walk.{Fit, Run, top-below, runs}
+use Rattle.demand.proofs.Walk.{Walkable, Run, top-below, runs}
 use Rattle.demand.proofs.Runs.{run-left, run-held, run-who, got-append, sold-append, run-total, run-range, run-each, run-absent, run-guarantee, run-only, run-fits, run-level, run-priority, here-distinct, is-here}
 use Rattle.trade.proofs.Counts.{fills-short}
 use Rattle.demand.proofs.Counts.{times-append, times-party, times-fill, run-once}
@@ -35,7 +35,7 @@ use Rattle.demand.proofs.Turns.{run-earlier, run-before}
 use Rattle.demand.proofs.Limits.{run-early, run-entry, run-top, run-prices, run-sold}
 use Rattle.demand.proofs.Market.{market-bound, market-top, market-least, price-matched, price-midpoint, price-lower, price-alone}
 
-module _ (d : Deal) (rs : List Response) (s : Fit d rs) where
+module _ (d : Deal) (rs : List Response) (s : Walkable d rs) where
   -- ---- the market order
 
   -- the market order's fill is no response's
@@ -174,7 +174,7 @@ module _ (d : Deal) (rs : List Response) (s : Fit d rs) where
 
   -- ---- the clauses
 
-  adds-up-of : total (fills d rs) ≡ d .size
+  adds-up-of : traded (fills d rs) ≡ d .size
   adds-up-of = rw all-of (omega (arith, total-append (marketFill d rs) (flat (levels d rs)), total-fill (d .market) (marketPrice d rs) (marketTakes d rs), run-total d rs s _ _ _ (levels d rs) the-run))
 
   -- what holds of the market order's fill and of the levels'
@@ -275,8 +275,8 @@ module _ (d : Deal) (rs : List Response) (s : Fit d rs) where
 
 -- ---- of a board
 
-module _ (d : Deal) (b : Board) (s : Sound d b) where
-  pub fit : Fit d (offers b)
+module _ (d : Deal) (b : Board) (s : Tradable d b) where
+  pub fit : Walkable d (offers b)
   fit =
       record {
         bound-below = s .bound-below;
@@ -289,10 +289,10 @@ module _ (d : Deal) (b : Board) (s : Sound d b) where
   into : (r : Response) → In r (liveOf b) → In r (offers b)
   into r m = in-sequence r (liveOf b) m
 
-  known : Every (λ r. Known d b (r .sequence)) (offers b)
-  known = all-sequence (λ r. Known d b (r .sequence)) (liveOf b) (each (liveOf b) (λ r m. m))
+  known : Every (λ r. Party d b (r .sequence)) (offers b)
+  known = all-sequence (λ r. Party d b (r .sequence)) (liveOf b) (each (liveOf b) (λ r m. m))
     where
-      each : (os : List Response) → ((r : Response) → In r os → In r (liveOf b)) → Every (λ r. Known d b (r .sequence)) os
+      each : (os : List Response) → ((r : Response) → In r os → In r (liveOf b)) → Every (λ r. Party d b (r .sequence)) os
       each [] f = tt
       each (o ∷ os) f = (aResponse o (f o (inl refl)) refl, each os (λ x m. f x (inr m)))
 
@@ -333,9 +333,9 @@ module _ (d : Deal) (b : Board) (s : Sound d b) where
       record {
         adds-up = adds-up-of d (offers b) fit;
         in-range = in-range-of d (offers b) fit;
-        nobody-else = by-parts d (offers b) fit (λ f. Known d b (f .party))
-            (all-fill (λ f. Known d b (f .party)) (d .market) (marketPrice d (offers b)) (marketTakes d (offers b)) (λ h. theMarket refl (omega arith)))
-            (run-who d (offers b) fit (Known d b) (theContra refl) known _ _ _ (levels d (offers b)) (the-run d (offers b) fit));
+        nobody-else = by-parts d (offers b) fit (λ f. Party d b (f .party))
+            (all-fill (λ f. Party d b (f .party)) (d .market) (marketPrice d (offers b)) (marketTakes d (offers b)) (λ h. theMarket refl (omega arith)))
+            (run-who d (offers b) fit (Party d b) (theContra refl) known _ _ _ (levels d (offers b)) (the-run d (offers b) fit));
         once = λ k p. rw (all-of d (offers b) fit) (once-all d (offers b) fit k p);
         market-trades = market-trades-of d (offers b) fit;
         market-price = market-price-of d (offers b) fit (MarketAt d b) at-market;

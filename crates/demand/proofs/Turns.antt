@@ -13,7 +13,7 @@ use Rattle.share.specs.rules.Share.{inTurn}
 use Rattle.share.specs.rules.Fills.{Fill, fillOf, fillsBy, sizes}
 use Rattle.share.proofs.ShareLaws.{turn-sum, turn-length}
 use Rattle.trade.specs.declared.Deal.{Deal}
-use Rattle.trade.specs.rules.Trade.{isCustomer, Level, customers, shared, given, first, contra, levelFills, flat, working, offersAt}
+use Rattle.trade.specs.rules.Trade.{fromCustomer, Level, customers, shared, given, first, contra, levelFills, flat, working, offersAt}
 use Rattle.demand.specs.promises.Demands.{Distinct, got, gotAt}
 use Rattle.base.proofs.ListLaws.{every-map, every-in, in-filter}
 use Rattle.demand.proofs.Lists.{all-fill, distinct-keep, got-none, got-fill, tally-append, tally-none, tally-le, tally-and, absent-by}
@@ -21,7 +21,7 @@ use Rattle.trade.proofs.Lists.{total-by}
 use Rattle.board.specs.promises.Board.{RisingFrom}
 use Rattle.board.proofs.SequenceLaws.{rising-from, rising-filter}
 use Rattle.demand.proofs.Levels.{byCustomers, customer-is, all-level, got-contra, level-served}
-use Rattle.demand.proofs.Walk.{Fit, Good, Run}
+use Rattle.demand.proofs.Walk.{Walkable, Good, Run}
 use Rattle.demand.proofs.Runs.{run-from, no-contra, got-append, positive, here-distinct, is-here, got-elsewhere, run-passed}
 
 turnFills : ℕ → ℕ → List Response → List Fill
@@ -69,10 +69,10 @@ level-earlier : (l : Level) (r k : Response) → 0 < r .sequence → 0 < k .sequ
 unfolding turnFills byCustomers
 level-earlier l r k pr pk up d m n c e h t =
     customer-is l k pk d n e
-    ∙ turn-earlier (l .price) (l .left) 0 (customers l) r k (rising-filter isCustomer 0 (l .here) up) (distinct-keep isCustomer (l .here) d) (in-filter isCustomer (l .here) r m c)
-    (in-filter isCustomer (l .here) k n e) h (rw (customer-is l r pr d m c) at t)
+    ∙ turn-earlier (l .price) (l .left) 0 (customers l) r k (rising-filter fromCustomer 0 (l .here) up) (distinct-keep fromCustomer (l .here) d) (in-filter fromCustomer (l .here) r m c)
+    (in-filter fromCustomer (l .here) k n e) h (rw (customer-is l r pr d m c) at t)
 
-module _ (d : Deal) (rs : List Response) (s : Fit d rs) (up : RisingFrom 0 rs) (r k : Response) (m : In r rs) (n : In k rs) (c : r .customer ≡ true) (e : k .customer ≡ true)
+module _ (d : Deal) (rs : List Response) (s : Walkable d rs) (up : RisingFrom 0 rs) (r k : Response) (m : In r rs) (n : In k rs) (c : r .customer ≡ true) (e : k .customer ≡ true)
     (q : working d k ≡ working d r) (h : k .sequence < r .sequence) where
   rising-here : (from left held : ℕ) (l : Level) → Good d rs from left held l → RisingFrom 0 (l .here)
   unfolding offersAt
@@ -119,7 +119,7 @@ contra-after l h = go (l .final) h
     go true h = omega arith
     go false h = omega arith
 
-module _ (d : Deal) (rs : List Response) (s : Fit d rs) (k : Response) (n : In k rs) (e : k .customer ≡ true) where
+module _ (d : Deal) (rs : List Response) (s : Walkable d rs) (k : Response) (n : In k rs) (e : k .customer ≡ true) where
   elsewhere : (l : Level) → l .price ≢ working d k → gotAt 0 (working d k) (levelFills l) ≡ 0
   elsewhere l z =
       gotAt-none (working d k) (levelFills l)

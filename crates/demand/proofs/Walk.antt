@@ -12,7 +12,7 @@ use Rattle.board.specs.declared.Response.{Response}
 use Rattle.base.specs.Lists.{Every, In}
 use Rattle.trade.specs.declared.Deal.{Deal}
 use Rattle.trade.specs.rules.Plan.{Plan, planOf}
-use Rattle.trade.specs.rules.Trade.{Level, contra, levelFills, total, working, workingStop, top, entry, next, guarantee, offersAt, levelAt, walk, levels, sizeHere}
+use Rattle.trade.specs.rules.Trade.{Level, contra, levelFills, traded, working, workingStop, top, entry, next, guarantee, offersAt, levelAt, walk, levels, sizeHere}
 use Rattle.trade.specs.inside.Code.{matchOf, lastOf, wantOf}
 use Rattle.demand.specs.promises.Demands.{Absent, Distinct, planOn}
 use Rattle.trade.proofs.PlanLaws.{plan-is}
@@ -20,7 +20,7 @@ use Rattle.trade.proofs.Walk.{next-holds, next-above, next-top, next-least, nex
 use Rattle.demand.proofs.Levels.{traded-final}
 
 -- what an auction that ended has, over its live responses in any order
-pub record Fit (d : Deal) (rs : List Response) : Type 0 where
+pub record Walkable (d : Deal) (rs : List Response) : Type 0 where
   pub bound-below : d .bound ≤ d .initiating
   pub stop-below : d .stop ≤ d .initiating
   pub parties : Every (λ o. 0 < o .sequence) rs
@@ -29,7 +29,7 @@ pub record Fit (d : Deal) (rs : List Response) : Type 0 where
 
 -- ---- the range
 
-pub top-below : (d : Deal) (rs : List Response) → Fit d rs → top d ≤ d .initiating
+pub top-below : (d : Deal) (rs : List Response) → Walkable d rs → top d ≤ d .initiating
 unfolding top
 top-below d rs s = go (eqb (d .mode) 1)
   where
@@ -37,7 +37,7 @@ top-below d rs s = go (eqb (d .mode) 1)
     go true = omega arith
     go false = omega arith
 
-pub top-above : (d : Deal) (rs : List Response) → Fit d rs → d .bound ≤ top d
+pub top-above : (d : Deal) (rs : List Response) → Walkable d rs → d .bound ≤ top d
 unfolding top
 top-above d rs s = go (eqb (d .mode) 1)
   where
@@ -45,7 +45,7 @@ top-above d rs s = go (eqb (d .mode) 1)
     go true = omega arith
     go false = omega arith
 
-pub stop-top : (d : Deal) (rs : List Response) → Fit d rs → workingStop d ≤ top d
+pub stop-top : (d : Deal) (rs : List Response) → Walkable d rs → workingStop d ≤ top d
 unfolding top
 stop-top d rs s = go (eqb (d .mode) 1)
   where
@@ -53,7 +53,7 @@ stop-top d rs s = go (eqb (d .mode) 1)
     go true = omega arith
     go false = omega arith
 
-pub entry-below : (d : Deal) (rs : List Response) → Fit d rs → entry d ≤ top d
+pub entry-below : (d : Deal) (rs : List Response) → Walkable d rs → entry d ≤ top d
 unfolding entry
 entry-below d rs s = go (eqb (d .mode) 2)
   where
@@ -99,9 +99,9 @@ pub record Good (d : Deal) (rs : List Response) (from left held : ℕ) (l : Leve
 -- the levels of a walk from the price `from` on: it ends where nothing is left
 abbrev pub Run : Deal → List Response → ℕ → ℕ → ℕ → List Level → Type 0
 Run d rs from left held [] = left ≡ 0
-Run d rs from left held (l ∷ ls) = Good d rs from left held l × Run d rs (l .price + 1) (left - total (levelFills l)) (held + contra l) ls
+Run d rs from left held (l ∷ ls) = Good d rs from left held l × Run d rs (l .price + 1) (left - traded (levelFills l)) (held + contra l) ls
 
-module _ (d : Deal) (rs : List Response) (s : Fit d rs) where
+module _ (d : Deal) (rs : List Response) (s : Walkable d rs) where
   -- the plan of its mode, and by numbers
   abbrev plan : ℕ → ℕ → ℕ → ℕ → Plan
   plan p left held A = planOf (d .mode) (workingStop d) (d .initiating) (guarantee d rs) p left held A
@@ -198,13 +198,13 @@ module _ (d : Deal) (rs : List Response) (s : Fit d rs) where
       l = levelAt d rs (next d from rs) left held
 
       rest-of : List Level
-      rest-of = walk d rs n (l .price + 1) (left - total (levelFills l)) (held + contra l)
+      rest-of = walk d rs n (l .price + 1) (left - traded (levelFills l)) (held + contra l)
 
       on : (c : Bool) → l .final ≡ c → Good d rs from left held l
           → ((from left held : ℕ) → from ≤ top d → top d < from + n → Run d rs from left held (walk d rs n from left held))
-          → Run d rs (l .price + 1) (left - total (levelFills l)) (held + contra l) rest-of
-      on true c k r = ended n (l .price + 1) (left - total (levelFills l)) (held + contra l) (omega (arith, traded-final l c, k .left-is))
-      on false c k r = r (l .price + 1) (left - total (levelFills l)) (held + contra l) (omega (arith, k .goes-on c)) (omega (arith, k .above))
+          → Run d rs (l .price + 1) (left - traded (levelFills l)) (held + contra l) rest-of
+      on true c k r = ended n (l .price + 1) (left - traded (levelFills l)) (held + contra l) (omega (arith, traded-final l c, k .left-is))
+      on false c k r = r (l .price + 1) (left - traded (levelFills l)) (held + contra l) (omega (arith, k .goes-on c)) (omega (arith, k .above))
 
       go : (b : Bool) → eqb left 0 ≡ b
           → ((from left held : ℕ) → from ≤ top d → top d < from + n → Run d rs from left held (walk d rs n from left held))

@@ -14,16 +14,16 @@ use Rattle.base.specs.Lists.{keep, filter}
 use Rattle.share.specs.rules.Share.{inTurn}
 use Rattle.share.specs.rules.Fills.{Fill, fillOf, fillsBy, sizes}
 use Rattle.trade.specs.declared.Deal.{Deal}
-use Rattle.trade.specs.rules.Trade.{isCustomer, isOther, Level, customers, others, given, contra, levelFills, total, flat, working, top, next, offersAt, levelAt, walk, marketPrice, marketTakes, marketFill, levels, fills}
+use Rattle.trade.specs.rules.Trade.{fromCustomer, fromOther, Level, customers, others, given, contra, levelFills, traded, flat, working, top, next, offersAt, levelAt, walk, marketPrice, marketTakes, marketFill, levels, fills}
 use Rattle.trade.proofs.Walk.{next-some, next-above, walk-zero, walk-none, walk-past, walk-some}
 
-keep-split : (os : List Response) → length (filter isCustomer os) + length (filter isOther os) ≡ length os
+keep-split : (os : List Response) → length (filter fromCustomer os) + length (filter fromOther os) ≡ length os
 unfolding filter
 keep-split [] = refl
 keep-split (o ∷ os) = go (o .customer) (keep-split os)
   where
-    go : (b : Bool) → length (filter isCustomer os) + length (filter isOther os) ≡ length os
-        → length (keep b o (filter isCustomer os)) + length (keep (not b) o (filter isOther os)) ≡ suc (length os)
+    go : (b : Bool) → length (filter fromCustomer os) + length (filter fromOther os) ≡ length os
+        → length (keep b o (filter fromCustomer os)) + length (keep (not b) o (filter fromOther os)) ≡ suc (length os)
     go true h = omega arith
     go false h = omega arith
 
@@ -115,7 +115,7 @@ module _ (d : Deal) (rs : List Response) where
       l = levelAt d rs p left held
 
       ls : List Level
-      ls = walk d rs n (l .price + 1) (left - total (levelFills l)) (held + contra l)
+      ls = walk d rs n (l .price + 1) (left - traded (levelFills l)) (held + contra l)
 
       both : length (flat (l ∷ ls)) ≤ length (l .here) + 1 + length (flat ls)
       both = omega (arith, length-append (levelFills l) (flat ls), length-level l)
@@ -134,7 +134,7 @@ module _ (d : Deal) (rs : List Response) where
           let h : left ≢ 0 = eqb-false left 0 e in
           let k : from ≤ top d = leb-true from (top d) f in
           let z : length (flat ls) ≤ 2 * fromOn d rs (p + 1) + 1 =
-          omega (arith, ih (l .price + 1) (left - total (levelFills l)) (held + contra l), ap (λ (x : ℕ). fromOn d rs (x + 1)) (price-is p left held)) in
+          omega (arith, ih (l .price + 1) (left - traded (levelFills l)) (held + contra l), ap (λ (x : ℕ). fromOn d rs (x + 1)) (price-is p left held)) in
           rw (walk-some d rs n from left held (omega arith) k) (last (leb (top d) p) refl (next-above d from k rs) z)
 
   pub fills-short : length rs ≤ 64 → length (fills d rs) ≤ 130

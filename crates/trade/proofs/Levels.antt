@@ -8,7 +8,7 @@ use Rattle.base.specs.Lists.{sum}
 use Rattle.share.specs.rules.Share.{inTurn}
 use Rattle.share.proofs.ShareLaws.{shares-sum, turn-sum, turn-length, shares-length}
 use Rattle.share.specs.rules.Fills.{fillOf, fillsBy, sizes}
-use Rattle.trade.specs.rules.Trade.{Level, customers, others, shared, given, rest, contra, levelFills, total, sizeHere}
+use Rattle.trade.specs.rules.Trade.{Level, customers, others, shared, given, rest, contra, levelFills, traded, sizeHere}
 use Rattle.trade.proofs.Lists.{sizes-split, total-append, total-fill, total-by}
 
 module _ (l : Level) where
@@ -17,7 +17,7 @@ module _ (l : Level) where
   pub given-sum : sum (given l) ≡ min (shared l) (sum (sizes (others l)))
   given-sum = shares-sum (shared l) (sizes (others l))
 
-  parts : total (levelFills l) ≡ min (l .left) (sum (sizes (customers l))) + (contra l + sum (given l))
+  parts : traded (levelFills l) ≡ min (l .left) (sum (sizes (customers l))) + (contra l + sum (given l))
   unfolding levelFills
   parts =
       let a = fillsBy (l .price) (customers l) (inTurn (l .left) (sizes (customers l))) in
@@ -34,10 +34,10 @@ module _ (l : Level) where
       )
 
   -- what trades at a price: all that is left where it is final, else the responses and what the Contra Order wants
-  pub traded-is : total (levelFills l) ≡ cond (l .final) (l .left) (min (l .left) (sizeHere l + l .want))
+  pub traded-is : traded (levelFills l) ≡ cond (l .final) (l .left) (min (l .left) (sizeHere l + l .want))
   traded-is = go (l .final) refl
     where
-      go : (b : Bool) → l .final ≡ b → total (levelFills l) ≡ cond b (l .left) (min (l .left) (sizeHere l + l .want))
+      go : (b : Bool) → l .final ≡ b → traded (levelFills l) ≡ cond b (l .left) (min (l .left) (sizeHere l + l .want))
       go true e =
           let r : rest l ≡ shared l - sum (given l) = rw e in
           omega (arith, parts, given-sum, sizes-split (l .here))

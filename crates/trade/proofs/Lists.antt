@@ -10,31 +10,31 @@ use lib.ListN.{length}
 use Rattle.board.specs.declared.Response.{Response}
 use Rattle.base.specs.Lists.{keep, filter, sum}
 use Rattle.share.specs.rules.Fills.{Fill, fillOf, fillsBy, sizes}
-use Rattle.trade.specs.rules.Trade.{isCustomer, isOther, others, total, fills}
+use Rattle.trade.specs.rules.Trade.{fromCustomer, fromOther, others, traded, fills}
 
 -- Customers and others together are all
-pub sizes-split : (os : List Response) → sum (sizes (filter isCustomer os)) + sum (sizes (filter isOther os)) ≡ sum (sizes os)
+pub sizes-split : (os : List Response) → sum (sizes (filter fromCustomer os)) + sum (sizes (filter fromOther os)) ≡ sum (sizes os)
 unfolding filter sum
 sizes-split [] = refl
 sizes-split (o ∷ os) = go (o .customer) (sizes-split os)
   where
-    go : (b : Bool) → sum (sizes (filter isCustomer os)) + sum (sizes (filter isOther os)) ≡ sum (sizes os)
-        → sum (sizes (keep b o (filter isCustomer os))) + sum (sizes (keep (not b) o (filter isOther os))) ≡ o .size + sum (sizes os)
+    go : (b : Bool) → sum (sizes (filter fromCustomer os)) + sum (sizes (filter fromOther os)) ≡ sum (sizes os)
+        → sum (sizes (keep b o (filter fromCustomer os))) + sum (sizes (keep (not b) o (filter fromOther os))) ≡ o .size + sum (sizes os)
     go true h = omega arith
     go false h = omega arith
 
-pub total-append : (fs gs : List Fill) → total (fs ++ gs) ≡ total fs + total gs
+pub total-append : (fs gs : List Fill) → traded (fs ++ gs) ≡ traded fs + traded gs
 total-append [] gs = omega arith
 total-append (f ∷ fs) gs = omega (arith, total-append fs gs)
 
-pub total-fill : (k p q : ℕ) → total (fillOf k p q) ≡ q
+pub total-fill : (k p q : ℕ) → traded (fillOf k p q) ≡ q
 total-fill k p q = go (ltb 0 q) refl
   where
-    go : (b : Bool) → ltb 0 q ≡ b → total (keep b (record { party = k; price = p; quantity = q }) []) ≡ q
+    go : (b : Bool) → ltb 0 q ≡ b → traded (keep b (record { party = k; price = p; quantity = q }) []) ≡ q
     go true e = omega arith
     go false e = omega (arith, ltb-false 0 q e)
 
-pub total-by : (p : ℕ) (os : List Response) (qs : List ℕ) → length qs ≡ length (sizes os) → total (fillsBy p os qs) ≡ sum qs
+pub total-by : (p : ℕ) (os : List Response) (qs : List ℕ) → length qs ≡ length (sizes os) → traded (fillsBy p os qs) ≡ sum qs
 unfolding sum
 total-by p [] [] e = refl
 total-by p [] (q ∷ qs) e = let f : ⊥ = omega arith in absurd f

@@ -19,7 +19,7 @@ use Rattle.share.specs.rules.Fills.{sizes}
 use Rattle.trade.specs.declared.Deal.{Deal}
 use Rattle.trade.specs.declared.Walked.{Walked}
 use Rattle.trade.specs.rules.Plan.{Plan}
-use Rattle.trade.specs.rules.Trade.{Level, contra, levelFills, total, working, top, next, guarantee, offersAt, levelAt, walk, marketTakes, levels}
+use Rattle.trade.specs.rules.Trade.{Level, contra, levelFills, traded, working, top, next, guarantee, offersAt, levelAt, walk, marketTakes, levels}
 use Rattle.trade.specs.inside.Code.{worksAt, leastOf, levelOf, walkFrom}
 use Rattle.trade.proofs.PlanLaws.{plan-is}
 use Rattle.trade.proofs.Walk.{next-above, next-top, next-least, walk-none, walk-past, walk-some}
@@ -50,14 +50,14 @@ module _ (d : Deal) (rs : List Response) where
           let l = levelAt d rs (next d from rs) left held in
           let q : from ≤ l .price = rw (price-at (next d from rs) left held) (next-above d from y rs) in
           walk-some d rs n from left held (omega arith) y
-          ∙ ap {B = List Level} (λ ls. l ∷ ls) (ih (l .price + 1) (left - total (levelFills l)) (held + contra l) (omega arith) (omega arith))
+          ∙ ap {B = List Level} (λ ls. l ∷ ls) (ih (l .price + 1) (left - traded (levelFills l)) (held + contra l) (omega arith) (omega arith))
           ∙ sym (walk-some d rs m from left held (omega arith) y)
 
   -- a turn, and the end
   pub from-step : (from left held : ℕ) → 0 < left → from ≤ top d
       → walkFrom d rs from left held
       ≡ levelAt d rs (next d from rs) left held
-      ∷ walkFrom d rs (next d from rs + 1) (left - total (levelFills (levelAt d rs (next d from rs) left held))) (held + contra (levelAt d rs (next d from rs) left held))
+      ∷ walkFrom d rs (next d from rs + 1) (left - traded (levelFills (levelAt d rs (next d from rs) left held))) (held + contra (levelAt d rs (next d from rs) left held))
   unfolding walkFrom
   from-step from left held z h =
       let l = levelAt d rs (next d from rs) left held in
@@ -68,8 +68,8 @@ module _ (d : Deal) (rs : List Response) where
       ap (λ n. walk d rs n from left held) e
       ∙ walk-some d rs (top d - from) from left held z h
       ∙ ap {B = List Level} (λ ls. l ∷ ls)
-      (ap (λ n. walk d rs (top d - from) (n + 1) (left - total (levelFills l)) (held + contra l)) x
-      ∙ fuel (top d - from) (suc (top d) - (p + 1)) (p + 1) (left - total (levelFills l)) (held + contra l) (omega arith) (omega arith))
+      (ap (λ n. walk d rs (top d - from) (n + 1) (left - traded (levelFills l)) (held + contra l)) x
+      ∙ fuel (top d - from) (suc (top d) - (p + 1)) (p + 1) (left - traded (levelFills l)) (held + contra l) (omega arith) (omega arith))
 
   pub from-none : (from left held : ℕ) → left ≡ 0 → walkFrom d rs from left held ≡ []
   unfolding walkFrom
@@ -212,7 +212,7 @@ module _ (d : Deal) (ps : List Response) (live G : ℕ) (s : Walked) (g : G ≡ 
   -- a turn of the walk
   pub walk-turn : 0 < s .left
       → walkFrom d (inSequence (liveIn live ps)) (s .from) (s .left) (s .held)
-      ≡ levelOf d ps G s ∷ walkFrom d (inSequence (liveIn live ps)) (levelOf d ps G s .price + 1) (s .left - total (levelFills (levelOf d ps G s))) (s .held + contra (levelOf d ps G s))
+      ≡ levelOf d ps G s ∷ walkFrom d (inSequence (liveIn live ps)) (levelOf d ps G s .price + 1) (s .left - traded (levelFills (levelOf d ps G s))) (s .held + contra (levelOf d ps G s))
   unfolding levelAt
   walk-turn z = rw (price-is, level-is) (from-step d (inSequence (liveIn live ps)) (s .from) (s .left) (s .held) z h)
 

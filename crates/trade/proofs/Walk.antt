@@ -11,7 +11,7 @@ use lib.ListN.{length}
 use Rattle.board.specs.declared.Response.{Response}
 use Rattle.base.specs.Lists.{keep, filter, In}
 use Rattle.trade.specs.declared.Deal.{Deal}
-use Rattle.trade.specs.rules.Trade.{contra, levelFills, total, working, top, next, levelAt, walk}
+use Rattle.trade.specs.rules.Trade.{contra, levelFills, traded, working, top, next, levelAt, walk}
 
 -- ---- the next price
 
@@ -100,6 +100,6 @@ module _ (d : Deal) (rs : List Response) where
   pub walk-some : (n from left held : ℕ) → 0 < left → from ≤ top d
       → walk d rs (suc n) from left held
       ≡ levelAt d rs (next d from rs) left held
-      ∷ walk d rs n (levelAt d rs (next d from rs) left held .price + 1) (left - total (levelFills (levelAt d rs (next d from rs) left held))) (held + contra (levelAt d rs (next d from rs) left held))
+      ∷ walk d rs n (levelAt d rs (next d from rs) left held .price + 1) (left - traded (levelFills (levelAt d rs (next d from rs) left held))) (held + contra (levelAt d rs (next d from rs) left held))
   unfolding walk
   walk-some n from left held z h = rw (ne-eqb left 0 (omega arith), le-ltb (top d) from h, walk)

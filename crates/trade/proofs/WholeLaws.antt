@@ -24,7 +24,7 @@ use Rattle.share.proofs.FillsLaws.{written-words}
 use Rattle.trade.specs.declared.Deal.{Deal}
 use Rattle.trade.specs.declared.Filled.the-variants.{Count, Refused}
 use Rattle.trade.specs.rules.Trade.{offers, Level, flat, workingStop, top, next, guaranteeOf, guarantee, marketPrice, marketTakes, marketFill, levels, fills}
-use Rattle.trade.specs.rules.Write.{shown, reported, fillsOf, roomy, answer, after}
+use Rattle.trade.specs.rules.Write.{reportedPrice, reported, fillsOf, roomy, fillAnswer, fillWords}
 use Rattle.trade.specs.inside.Code.{leastOf, walkFrom}
 use Rattle.trade.proofs.CodeLaws.{turn-of, count-turn, live-short}
 use Rattle.trade.proofs.StepLaws.{least-next, next-sequence, from-start}
@@ -66,11 +66,11 @@ guarantee-found d ps live size n g l z e f =
     f ∙ ap₂ guaranteeOf z (e ∙ c ∙ sym (length-sequence (liveIn live ps)))
 
 pub all-fills : (d : Deal) (b : Board) (takes left : ℕ) → takes ≡ min (d .size) (d .selling) → left ≡ d .size - takes
-    → fillsOf d b ≡ fillOf (d .market) (shown (d .sell) (marketPrice d (offers b))) takes ++ reported (d .sell) (flat (walkFrom d (offers b) 0 left 0))
+    → fillsOf d b ≡ fillOf (d .market) (reportedPrice (d .sell) (marketPrice d (offers b))) takes ++ reported (d .sell) (flat (walkFrom d (offers b) 0 left 0))
 unfolding fillsOf fills
 all-fills d b takes left f g =
     reported-append (d .sell) (marketFill d (offers b)) (flat (levels d (offers b)))
-    ∙ ap₂ {C = List Fill} (λ x y. x ++ y) (reported-fill (d .sell) (d .market) (marketPrice d (offers b)) (marketTakes d (offers b)) ∙ ap {B = List Fill} (λ (q : ℕ). fillOf (d .market) (shown (d .sell) (marketPrice d (offers b))) q) (sym f))
+    ∙ ap₂ {C = List Fill} (λ x y. x ++ y) (reported-fill (d .sell) (d .market) (marketPrice d (offers b)) (marketTakes d (offers b)) ∙ ap {B = List Fill} (λ (q : ℕ). fillOf (d .market) (reportedPrice (d .sell) (marketPrice d (offers b))) q) (sym f))
     (ap (λ (ls : List Level). reported (d .sell) (flat ls)) (from-start d (offers b) ∙ ap (λ (n : ℕ). walkFrom d (offers b) 0 n 0) (ap (λ (n : ℕ). d .size - n) (sym f) ∙ sym g)))
 
 pub fills-few : (d : Deal) (b : Board) → length (b .places) ≡ 64 → length (fillsOf d b) ≤ 130
@@ -93,23 +93,23 @@ words-back a xs ys fs h e =
 -- ---- the answers
 
 module _ (ended : Bool) (d : Deal) (b : Board) (xs : List ℕ) (start : ℕ) where
-  pub not-ended : ended ≡ false → (Refused 40 ≡ answer ended d b xs start) × (xs ≡ after ended d b xs start)
-  unfolding answer after
+  pub not-ended : ended ≡ false → (Refused 40 ≡ fillAnswer ended d b xs start) × (xs ≡ fillWords ended d b xs start)
+  unfolding fillAnswer fillWords
   not-ended e = rw e (refl, refl)
 
-  pub start-past : ended ≡ true → length xs < start → (Refused 39 ≡ answer ended d b xs start) × (xs ≡ after ended d b xs start)
-  unfolding answer after roomy
+  pub start-past : ended ≡ true → length xs < start → (Refused 39 ≡ fillAnswer ended d b xs start) × (xs ≡ fillWords ended d b xs start)
+  unfolding fillAnswer fillWords roomy
   start-past e h = rw (e, lt-leb start (length xs) h) (refl, refl)
 
-  pub too-short : ended ≡ true → start ≤ length xs → length xs - start < 390 → (Refused 39 ≡ answer ended d b xs start) × (xs ≡ after ended d b xs start)
-  unfolding answer after roomy
+  pub too-short : ended ≡ true → start ≤ length xs → length xs - start < 390 → (Refused 39 ≡ fillAnswer ended d b xs start) × (xs ≡ fillWords ended d b xs start)
+  unfolding fillAnswer fillWords roomy
   too-short e h k = rw (e, le-leb start (length xs) h, lt-leb 390 (length xs - start) k) (refl, refl)
 
-  pub counted : ended ≡ true → start ≤ length xs → 390 ≤ length xs - start → (n : ℕ) → n ≡ length (fillsOf d b) → Count n ≡ answer ended d b xs start
-  unfolding answer roomy
+  pub counted : ended ≡ true → start ≤ length xs → 390 ≤ length xs - start → (n : ℕ) → n ≡ length (fillsOf d b) → Count n ≡ fillAnswer ended d b xs start
+  unfolding fillAnswer roomy
   counted e h k n f = rw (e, le-leb start (length xs) h, le-leb 390 (length xs - start) k, f)
 
   pub words-after : ended ≡ true → start ≤ length xs → 390 ≤ length xs - start
-      → take start xs ++ (words (fillsOf d b) ++ drop (start + 3 * length (fillsOf d b)) xs) ≡ after ended d b xs start
-  unfolding after roomy
+      → take start xs ++ (words (fillsOf d b) ++ drop (start + 3 * length (fillsOf d b)) xs) ≡ fillWords ended d b xs start
+  unfolding fillWords roomy
   words-after e h k = rw (e, le-leb start (length xs) h, le-leb 390 (length xs - start) k)

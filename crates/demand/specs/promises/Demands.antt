@@ -15,7 +15,7 @@ use Rattle.share.specs.promises.Share.{Near}
 use Rattle.share.specs.rules.Fills.{Fill, sizes}
 use Rattle.trade.specs.declared.Deal.{Deal}
 use Rattle.trade.specs.rules.Plan.{Plan, planOf}
-use Rattle.trade.specs.rules.Trade.{sizeHere, offers, isOther, Level, others, shared, total, working, workingStop, top, entry, guarantee, offersAt, marketTakes, marketFill, levels, fills}
+use Rattle.trade.specs.rules.Trade.{sizeHere, offers, fromOther, Level, others, shared, traded, working, workingStop, top, entry, guarantee, offersAt, marketTakes, marketFill, levels, fills}
 
 -- ---- words
 
@@ -71,7 +71,7 @@ walked d fs = filter (λ f. not (isMarket d f)) fs
 
 -- the responses at a price that are no Customer's
 abbrev pub othersAt : Deal → List Response → ℕ → List Response
-othersAt d rs p = filter isOther (offersAt d rs p)
+othersAt d rs p = filter fromOther (offersAt d rs p)
 
 -- the plan that a level has, and that of its mode by what is left and held on arriving there and the size of all responses at the price
 abbrev pub planOn : Level → Plan
@@ -82,7 +82,7 @@ planAt d b l = planOf (d .mode) (workingStop d) (d .initiating) (guarantee d (of
 
 -- ---- what every ended auction has
 
-pub record Sound (d : Deal) (b : Board) : Type 0 where
+pub record Tradable (d : Deal) (b : Board) : Type 0 where
   -- the bound has not passed the initiating price, and neither does the stop or limit
   pub bound-below : d .bound ≤ d .initiating
   pub stop-below : d .stop ≤ d .initiating
@@ -104,10 +104,10 @@ pub record InRange (d : Deal) (f : Fill) : Type 0 where
   pub some : 1 ≤ f .quantity
 
 -- the parties: the Contra Order, the market order, and the live responses'
-pub data Known (d : Deal) (b : Board) (k : ℕ) : Type 0 where
-  theContra : k ≡ 0 → Known d b k
-  theMarket : k ≡ d .market → 0 < d .selling → Known d b k
-  aResponse : (r : Response) → In r (liveOf b) → r .sequence ≡ k → Known d b k
+pub data Party (d : Deal) (b : Board) (k : ℕ) : Type 0 where
+  theContra : k ≡ 0 → Party d b k
+  theMarket : k ≡ d .market → 0 < d .selling → Party d b k
+  aResponse : (r : Response) → In r (liveOf b) → r .sequence ≡ k → Party d b k
 
 -- p is the lowest working price
 pub record Lowest (d : Deal) (b : Board) (p : ℕ) : Type 0 where
@@ -146,11 +146,11 @@ pub record ByLevel (d : Deal) (b : Board) (fs : List Fill) (l : Level) : Type 0 
 -- what fs must be, as the fills of d over b
 pub record Demand3 (d : Deal) (b : Board) (fs : List Fill) : Type 0 where
   -- the fills add up to the size
-  pub adds-up : total fs ≡ d .size
+  pub adds-up : traded fs ≡ d .size
   -- each price lies in the range, and none is of zero
   pub in-range : Every (InRange d) fs
   -- nobody else trades, and each party at most once at a price
-  pub nobody-else : Every (λ f. Known d b (f .party)) fs
+  pub nobody-else : Every (λ f. Party d b (f .party)) fs
   pub once : (k p : ℕ) → times k p fs ≤ 1
   -- the market order trades first, and once, as far as sizes go; then come the fills of the walk
   pub market-trades : fs ≡ marketFill d (offers b) ++ walked d fs
@@ -191,7 +191,7 @@ pub record Demand3 (d : Deal) (b : Board) (fs : List Fill) : Type 0 where
 
 -- the theorem: every sound auction's fills are these
 abbrev pub Demands : Type 0
-Demands = (d : Deal) (b : Board) → Sound d b → Demand3 d b (fills d (offers b))
+Demands = (d : Deal) (b : Board) → Tradable d b → Demand3 d b (fills d (offers b))
 
 -- and for every deal and board at all, sound or not, there are at most 130, so that 390 words always do
 abbrev pub Few : Type 0
@@ -202,4 +202,4 @@ abbrev pub Planned : Deal → Board → Type 0
 Planned d b = (l : Level) → In l (levels d (offers b)) → planOn l ≡ planAt d b l
 
 abbrev pub Plans : Type 0
-Plans = (d : Deal) (b : Board) → Sound d b → Planned d b
+Plans = (d : Deal) (b : Board) → Tradable d b → Planned d b

@@ -16,7 +16,7 @@ use Rattle.trade.specs.declared.Given.{Given}
 use Rattle.trade.specs.declared.Price.{Price}
 use Rattle.trade.specs.declared.Walked.{Walked}
 use Rattle.trade.specs.rules.Plan.{Plan}
-use Rattle.trade.specs.rules.Trade.{Level, customers, others, contra, levelFills, total, top, entry, walk}
+use Rattle.trade.specs.rules.Trade.{Level, customers, others, contra, levelFills, traded, top, entry, walk}
 
 -- ---- the plan of a price, without its mode's cases: entry is the price from which on the Contra Order takes part, top the last price
 
@@ -65,7 +65,7 @@ lastSequence m [] = m
 lastSequence m (r ∷ rs) = lastSequence (r .sequence) rs
 
 -- what is known of the responses of a word: the sequence of the last, and the sum of their sizes
-pub record Known (places : List Response) (word one total : ℕ) : Type 0 where
+pub record Summed (places : List Response) (word one total : ℕ) : Type 0 where
   pub one-is : one ≡ lastSequence 0 (liveIn word places)
   pub total-is : total ≡ sum (sizes (liveIn word places))
 
@@ -155,8 +155,8 @@ pub record Looks (d : Deal) (places : List Response) (G : ℕ) (s : Walked) (l :
   pub price-is : l .price ≡ levelOf d places G s .price
   pub customers-are : inSequence (liveIn (l .customers) places) ≡ customers (levelOf d places G s)
   pub others-are : inSequence (liveIn (l .others) places) ≡ others (levelOf d places G s)
-  pub customers-known : Known places (l .customers) (l .customer) (l .served)
-  pub others-known : Known places (l .others) (l .other) (l .total)
+  pub customers-known : Summed places (l .customers) (l .customer) (l .served)
+  pub others-known : Summed places (l .others) (l .other) (l .total)
   pub want-is : l .want ≡ levelOf d places G s .want
   pub last-is : l .last ≡ levelOf d places G s .final
   -- its places are places of the walk's word
@@ -166,10 +166,10 @@ pub record Looks (d : Deal) (places : List Response) (G : ℕ) (s : Walked) (l :
   pub small : l .served + l .total + l .want ≤ 1099511627520
 
 -- where the walk stands after it
-pub record Stepped (d : Deal) (places : List Response) (G : ℕ) (s r : Walked) : Type 0 where
+pub record WalkedOn (d : Deal) (places : List Response) (G : ℕ) (s r : Walked) : Type 0 where
   pub from-is : r .from ≡ levelOf d places G s .price + 1
   pub rest-is : r .rest + wordOf (worksAt (d .bound) (levelOf d places G s .price)) (s .rest) places ≡ s .rest
-  pub left-is : r .left ≡ s .left - total (levelFills (levelOf d places G s))
+  pub left-is : r .left ≡ s .left - traded (levelFills (levelOf d places G s))
   pub held-is : r .held ≡ s .held + contra (levelOf d places G s)
 
 -- the walk of the definition from a price on, without fuel

@@ -17,11 +17,11 @@ use Rattle.trade.specs.rules.Plan.{planOf}
 abbrev pub offers : Board → List Response
 offers b = inSequence (liveOf b)
 
-abbrev pub isCustomer : Response → Bool
-isCustomer r = r .customer
+abbrev pub fromCustomer : Response → Bool
+fromCustomer r = r .customer
 
-abbrev pub isOther : Response → Bool
-isOther r = not (r .customer)
+abbrev pub fromOther : Response → Bool
+fromOther r = not (r .customer)
 
 -- ---- one price
 
@@ -37,10 +37,10 @@ pub record Level : Type 0 where
   pub here : List Response
 
 abbrev pub customers : Level → List Response
-customers l = filter isCustomer (l .here)
+customers l = filter fromCustomer (l .here)
 
 abbrev pub others : Level → List Response
-others l = filter isOther (l .here)
+others l = filter fromOther (l .here)
 
 -- the size of all responses at a level: document 01's A
 abbrev pub sizeHere : Level → ℕ
@@ -71,9 +71,9 @@ levelFills l =
     fillsBy (l .price) (customers l) (inTurn (l .left) (sizes (customers l)))
     ++ (fillOf 0 (l .price) (contra l) ++ fillsBy (l .price) (others l) (given l))
 
-abbrev pub total : List Fill → ℕ
-total [] = 0
-total (f ∷ fs) = f .quantity + total fs
+abbrev pub traded : List Fill → ℕ
+traded [] = 0
+traded (f ∷ fs) = f .quantity + traded fs
 
 abbrev pub flat : List Level → List Fill
 flat [] = []
@@ -129,7 +129,7 @@ module _ (d : Deal) (rs : List Response) where
   walk zero from left held = []
   walk (suc n) from left held =
       let l = levelAt (next d from rs) left held in
-      elim (eqb left 0 || ltb (top d) from) [ true ↦ [] | false ↦ l ∷ walk n (l .price + 1) (left - total (levelFills l)) (held + contra l) ]
+      elim (eqb left 0 || ltb (top d) from) [ true ↦ [] | false ↦ l ∷ walk n (l .price + 1) (left - traded (levelFills l)) (held + contra l) ]
 
   -- ---- the market order that ended the auction
 
