@@ -47,8 +47,8 @@ use Rattle.events.proofs.Answer.Laws as N′
 use Rattle.events.specs.declared.Stepped.{Stepped}
 use Rattle.auction.proofs.Auction as T
 use Rattle.auction.proofs.Auction.Laws as T′
-use Rattle.tape.proofs.Event as E
-use Rattle.tape.proofs.Event.Laws as E′
+use Rattle.tape.proofs.event.Event as E
+use Rattle.tape.proofs.event.Event.Laws as E′
 use Rattle.events.proofs.Stepped as S
 use Rattle.events.proofs.Stepped.Laws as S′
 use Rattle.events.proofs.steps.step as step
