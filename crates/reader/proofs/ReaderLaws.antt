@@ -20,7 +20,7 @@ use Rattle.reader.specs.declared.Current.the-variants.{Event as There, E
 -- ---- places
 
 -- below the end a move counts on, at the end it stays
-goes-on : (t : Trailer) (k : ℕ) → k < t .events → nextPlace t k ≡ k + 1
+pub goes-on : (t : Trailer) (k : ℕ) → k < t .events → nextPlace t k ≡ k + 1
 unfolding nextPlace
 goes-on t k l = simp (lt-ltb _ _ l)
 
@@ -45,12 +45,12 @@ record-there : (s : List ℕ) (t : Trailer) (k : ℕ) → k < t .events → curr
 unfolding currentOf
 record-there s t k l = simp (lt-leb _ _ l)
 
-end-there : (s : List ℕ) (t : Trailer) (k : ℕ) → t .events ≤ k → currentOf s t k ≡ End
+pub end-there : (s : List ℕ) (t : Trailer) (k : ℕ) → t .events ≤ k → currentOf s t k ≡ End
 unfolding currentOf
 end-there s t k l = simp (le-leb _ _ l)
 
 -- no record is the end
-not-end : (r : Event) → There r ≡ End → true ≡ false
+pub not-end : (r : Event) → There r ≡ End → true ≡ false
 not-end r h = cc
 
 module _ (bytes : RefT (List ℕ)) (t : Trailer) where
