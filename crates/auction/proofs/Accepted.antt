@@ -12,7 +12,8 @@ use Rattle.tape.specs.declared.Order.{Order}
 use Rattle.tape.specs.Form.{orderTests, orderFormed}
 use Rattle.tape.proofs.RecordLaws.{or-left, or-right}
 use Rattle.tape.proofs.FormLaws.{each, within-ge, within-le, order-bounds}
-use Rattle.auction.specs.Mirror.{mirrored, mirroredOrder, buyOrder}
+use Rattle.base.specs.Price.{mirrored}
+use Rattle.auction.specs.Mirror.{mirroredOrder, buyOrder}
 use Rattle.auction.specs.Accept.{initiatingOf, tickOf, boundOf, firstBound, guaranteedOf, rangeRefusal, buyRefusal, orderRefusal, openedBy, acceptOf, bidMark}
 use Rattle.auction.specs.declared.Opening.{Opening}
 use Rattle.auction.specs.declared.Entry.the-variants.{Accepted, Refused}

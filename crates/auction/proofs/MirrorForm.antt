@@ -13,7 +13,8 @@ use Rattle.tape.specs.declared.Order.{Order}
 use Rattle.tape.specs.declared.Event.{Event}
 use Rattle.tape.specs.Form.{allFrom, within, inside, sides, prices, orderTests, orderFormed, shapeOf, shapeTests, eventFormed}
 use Rattle.tape.proofs.FormLaws.{each, within-ge, within-le, OrderBounds, order-bounds, RowBounds, row-bounds}
-use Rattle.auction.specs.Mirror.{mirrored, mirroredMarks, mirroredSide, mirroredOrder, mirroredPriced, mirroredMarket, mirroredQuotes, mirroredEvent, buyOrder, buyEvent}
+use Rattle.base.specs.Price.{mirrored}
+use Rattle.auction.specs.Mirror.{mirroredMarks, mirroredSide, mirroredOrder, mirroredPriced, mirroredMarket, mirroredQuotes, mirroredEvent, buyOrder, buyEvent}
 use Rattle.auction.proofs.StepLaws.{by, no}
 use Rattle.auction.proofs.EventLaws.{mirror-one, mirror-three, mirror-four, mirror-five, mirror-rest, mirror-by, mirror-kind}
 

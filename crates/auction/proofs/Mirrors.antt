@@ -18,7 +18,8 @@ use Rattle.trade.specs.declared.Deal.{Deal}
 use Rattle.trade.specs.rules.Trade.{Level, offers, fills, top, entry, next, offersAt, levelAt, walk, marketPrice, levels, flat, traded, levelFills, contra}
 use Rattle.trade.specs.rules.Plan.{mode1, mode2, mode3}
 use Rattle.trade.specs.rules.Write.{reportedPrice, reported, fillsOf}
-use Rattle.auction.specs.Mirror.{mirrored, mirroredOrder, mirroredEvent, buyOrder, buyEvent}
+use Rattle.base.specs.Price.{mirrored}
+use Rattle.auction.specs.Mirror.{mirroredOrder, mirroredEvent, buyOrder, buyEvent}
 use Rattle.auction.specs.Accept.{orderRefusal, buyRefusal, termsOf, openedBy, noAuction, acceptOf}
 use Rattle.auction.specs.Step.{isOpen, eventRefusal, gtxOutcome, cancelOutcome, sellLimitOutcome, buyLimitOutcome, limitOutcome, marketOutcome, quotesOutcome, outcomeOf, after, endedByTime, gives, carried, isFull, stepOf, closeOf}
 use Rattle.auction.specs.Fills.{boundNow, rangeOf, dealOf, auctionFills}

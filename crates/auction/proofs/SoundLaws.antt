@@ -26,7 +26,8 @@ use Rattle.demand.specs.promises.Demands.{Absent, Distinct, InRange, Demand3, T
 use Rattle.base.proofs.ListLaws.{every-map}
 use Rattle.demand.proofs.Theorems.{demand3}
 use Rattle.demand.proofs.Theorems.{plans}
-use Rattle.auction.specs.Mirror.{mirrored, mirroredOrder, buyOrder, buyEvent}
+use Rattle.base.specs.Price.{mirrored}
+use Rattle.auction.specs.Mirror.{mirroredOrder, buyOrder, buyEvent}
 use Rattle.auction.specs.Accept.{initiatingOf, boundOf, firstBound, termsOf, quotesOf, openedBy, acceptOf}
 use Rattle.auction.specs.Step.{isOpen, boundBy, responseOf, boardAfter, quotesAfter, marketAfter, after, endedByTime, gives, carried, isFull, stepOf, closeOf}
 use Rattle.auction.specs.Fills.{word, boundNow, rangeOf, dealOf, auctionFills}

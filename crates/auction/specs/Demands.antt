@@ -18,7 +18,8 @@ use Rattle.base.specs.Lists.{In}
 use Rattle.demand.specs.promises.Demands.{Absent, Distinct, Demand3}
 use Rattle.demand.specs.promises.Demands.{Planned}
 use Rattle.words.specs.rules.Bits.{bitAt}
-use Rattle.auction.specs.Mirror.{mirrored, mirroredMarks, mirroredOrder, mirroredEvent, buyEvent}
+use Rattle.base.specs.Price.{mirrored}
+use Rattle.auction.specs.Mirror.{mirroredMarks, mirroredOrder, mirroredEvent, buyEvent}
 use Rattle.auction.specs.Accept.{acceptOf}
 use Rattle.auction.specs.Step.{isOpen, boundBy, responseOf, gives, stepOf, closeOf}
 use Rattle.auction.specs.Fills.{dealOf, rangeOf, auctionFills}

@@ -6,7 +6,7 @@ use Rattle.share.specs.rules.Fills.{Fill}
 use Rattle.trade.specs.declared.Deal.{Deal}
 use Rattle.trade.specs.declared.Filled.{Filled}
 use Rattle.trade.specs.rules.Write.{fillsOf, fillAnswer, fillWords}
-use Rattle.auction.specs.Mirror.{mirrored}
+use Rattle.base.specs.Price.{mirrored}
 use Rattle.auction.specs.Step.{isOpen, boundBy}
 use Rattle.auction.specs.declared.Auction.{Auction}
 use Rattle.auction.specs.declared.Range.{Range}

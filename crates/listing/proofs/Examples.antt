@@ -13,7 +13,8 @@ use Rattle.share.specs.rules.Share.{shares}
 use Rattle.trade.specs.rules.Trade.{levelFills, top, entry, next, guaranteeOf, offersAt, levelAt, walk, marketPrice, levels, fills}
 use Rattle.trade.specs.rules.Plan.{mode1, mode2, mode3}
 use Rattle.trade.specs.rules.Write.{fillsOf}
-use Rattle.auction.specs.Mirror.{mirrored, mirroredMarks, mirroredSide, mirroredOrder, mirroredPriced, mirroredMarket, mirroredQuotes, mirroredEvent, buyOrder, buyEvent}
+use Rattle.base.specs.Price.{mirrored}
+use Rattle.auction.specs.Mirror.{mirroredMarks, mirroredSide, mirroredOrder, mirroredPriced, mirroredMarket, mirroredQuotes, mirroredEvent, buyOrder, buyEvent}
 use Rattle.auction.specs.Accept.{initiatingOf, tickOf, boundOf, guaranteedOf, rangeRefusal, buyRefusal, orderRefusal, termsOf, quotesOf, openedBy, noAuction, acceptOf}
 use Rattle.auction.specs.Step.{eventRefusal, gtxOutcome, cancelOutcome, sellLimitOutcome, bidQuotes, buyLimitOutcome, limitOutcome, marketOutcome, newQuotes, quotesOutcome, outcomeOf, after, endedByTime, stepOf, closeOf}
 use Rattle.auction.specs.Fills.{boundNow, rangeOf, dealOf}

@@ -1,4 +1,4 @@
-use Rattle.auction.specs.Mirror.{mirrored}
+use Rattle.base.specs.Price.{mirrored}
 use native.Mathlib.Omega.{arith}
 use borrow.Author.Needs.{needs}
 use Rattle.auction.proofs.mirror.mirror.Statement.{statement}
