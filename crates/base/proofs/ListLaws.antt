@@ -35,16 +35,7 @@ module _ {A : Type 0} where
   inserts-sum f here = refl
   inserts-sum f (there i) = omega (arith, inserts-sum f i)
 
-  pub inserts-keep : {r : A} {xs ys : List A} (t : Bool) (x : A) → Inserts r xs ys → Inserts r (keep t x xs) (keep t x ys)
-  inserts-keep true x i = there i
-  inserts-keep false x i = i
-
-  -- a filter that r passes gets one more, and another stays
-  pub inserts-pass : (p : A → Bool) {r : A} {xs ys : List A} → p r ≡ true → Inserts r xs ys → Inserts r (filter p xs) (filter p ys)
-  unfolding filter
-  inserts-pass p e here = rw e here
-  inserts-pass p e (there {x = x} i) = inserts-keep (p x) x (inserts-pass p e i)
-
+  -- a filter that r fails stays
   pub inserts-fail : (p : A → Bool) {r : A} {xs ys : List A} → p r ≡ false → Inserts r xs ys → filter p ys ≡ filter p xs
   unfolding filter
   inserts-fail p e here = rw e

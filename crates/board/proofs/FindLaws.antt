@@ -80,7 +80,7 @@ module _ {A : Type 0} (t : A → Bool) where
       (le-or-lt (findIn t w ps) i)
 
   -- the search goes by what is looked for alone
-  pub find-same : (w v : ℕ) (ps qs : List A) (d : A) → length ps ≡ length qs → ((j : ℕ) → hit w ps d j ≡ hit v qs d j) → findIn t w ps ≡ findIn t v qs
+  find-same : (w v : ℕ) (ps qs : List A) (d : A) → length ps ≡ length qs → ((j : ℕ) → hit w ps d j ≡ hit v qs d j) → findIn t w ps ≡ findIn t v qs
   unfolding findIn
   find-same w v [] [] d l h = refl
   find-same w v [] (y ∷ qs) d l h = absurd (omega arith)

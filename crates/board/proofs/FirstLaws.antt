@@ -38,17 +38,17 @@ unfolding lowestFrom
 from-most n m [] h e = h
 from-most n m (x ∷ xs) h e = from-most n (min m (x .sequence)) xs (omega (arith, e .0)) (e .1)
 
-pub lowest-le : (xs : List Response) → From (lowest xs) xs
+lowest-le : (xs : List Response) → From (lowest xs) xs
 lowest-le [] = tt
 lowest-le (x ∷ xs) = from-le (x .sequence) xs
 
 -- the greatest number that is no higher than any, where there is one
-pub lowest-most : {r : Response} {xs ys : List Response} → Inserts r xs ys → (n : ℕ) → From n ys → n ≤ lowest ys
+lowest-most : {r : Response} {xs ys : List Response} → Inserts r xs ys → (n : ℕ) → From n ys → n ≤ lowest ys
 lowest-most {r} (here {xs = xs}) n e = from-most n (r .sequence) xs (e .0) (e .1)
 lowest-most (there {x = x} {ys = ys} i) n e = from-most n (x .sequence) ys (e .0) (e .1)
 
 -- one of them bears it
-pub lowest-borne : {r : Response} {xs ys : List Response} → Inserts r xs ys → Every (λ (y : Response). y .sequence ≡ lowest ys → ⊥) ys → ⊥
+lowest-borne : {r : Response} {xs ys : List Response} → Inserts r xs ys → Every (λ (y : Response). y .sequence ≡ lowest ys → ⊥) ys → ⊥
 lowest-borne {ys = ys} i e = omega (arith, lowest-most i (suc (lowest ys)) (both ys (lowest ys) e (lowest-le ys)))
   where
     both : (ys : List Response) (n : ℕ) → Every (λ (y : Response). y .sequence ≡ n → ⊥) ys → From n ys → From (suc n) ys

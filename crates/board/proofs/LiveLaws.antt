@@ -131,7 +131,7 @@ module _ {A : Type 0} (t : A → Bool) where
       let b = eqb (w % 2) 1 in
       rw (digit (b && t x) n, halves (b && t x) n, word-filters (w / 2) ps) (sym (filter-keep t b x (liveIn (w / 2) ps)))
 
-  pub word-none : (ps : List A) → wordOf t 0 ps ≡ 0
+  word-none : (ps : List A) → wordOf t 0 ps ≡ 0
   unfolding wordOf
   word-none [] = refl
   word-none (x ∷ ps) = rw (word-none ps)
@@ -141,7 +141,7 @@ module _ {A : Type 0} (t : A → Bool) where
   word-cons w x ps b e = rw e
 
   -- a place more adds its bit, where it passes
-  pub more-word : (w i : ℕ) (ps : List A) (d : A) → i < length ps → bitAt w i ≡ false → wordOf t (w + 2 ^ i) ps ≡ cond (t (getD ps i d)) (2 ^ i) 0 + wordOf t w ps
+  more-word : (w i : ℕ) (ps : List A) (d : A) → i < length ps → bitAt w i ≡ false → wordOf t (w + 2 ^ i) ps ≡ cond (t (getD ps i d)) (2 ^ i) 0 + wordOf t w ps
   more-word w i [] d l h = absurd (not-suc-le-zero l)
   more-word w zero (p ∷ ps) d l h =
       let e = bit-zero w 0 h in

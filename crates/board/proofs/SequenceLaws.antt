@@ -25,7 +25,7 @@ pub inserted-high : (r x : Response) (xs : List Response) → x .sequence < r .s
 unfolding inserted
 inserted-high r x xs h = rw (lt-leb (r .sequence) (x .sequence) h)
 
-pub inserted-is : (r : Response) (xs : List Response) → Inserts r xs (inserted r xs)
+inserted-is : (r : Response) (xs : List Response) → Inserts r xs (inserted r xs)
 unfolding inserted
 inserted-is r [] = here
 inserted-is r (x ∷ xs) =
@@ -85,7 +85,7 @@ sequence-shuffles [] = none
 sequence-shuffles (x ∷ xs) = more (sequence-shuffles xs) (inserted-is x (inSequence xs))
 
 -- a list that rises stays
-pub rising-stays : (m : ℕ) (xs : List Response) → RisingFrom m xs → inSequence xs ≡ xs
+rising-stays : (m : ℕ) (xs : List Response) → RisingFrom m xs → inSequence xs ≡ xs
 unfolding inSequence
 rising-stays m [] r = refl
 rising-stays m (x ∷ xs) r =

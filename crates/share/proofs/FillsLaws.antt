@@ -13,7 +13,7 @@ use Rattle.share.specs.inside.Fills.{put, written, wordsOf, WroteFills, 
 -- ---- what is written: the laws of any writer, for fills
 
 -- a chain of writers: holds with room or without
-pub written-append : (xs : List ℕ) (at : ℕ) (fs gs : List Fill) → written xs at (fs ++ gs) ≡ written (written xs at fs) (at + 3 * length fs) gs
+written-append : (xs : List ℕ) (at : ℕ) (fs gs : List Fill) → written xs at (fs ++ gs) ≡ written (written xs at fs) (at + 3 * length fs) gs
 unfolding written
 written-append xs at [] gs = let e : at + 3 * 0 ≡ at = omega arith in rw e
 written-append xs at (f ∷ fs) gs =
@@ -45,7 +45,7 @@ pub length-words : (fs : List Fill) → length (words fs) ≡ 3 * length fs
 length-words [] = refl
 length-words (f ∷ fs) = omega (arith, length-words fs)
 
-pub written-sets : (xs : List ℕ) (at : ℕ) (fs : List Fill) → written xs at fs ≡ sets xs at (words fs)
+written-sets : (xs : List ℕ) (at : ℕ) (fs : List Fill) → written xs at fs ≡ sets xs at (words fs)
 unfolding written
 written-sets xs at [] = refl
 written-sets xs at (f ∷ fs) = written-sets (put xs at f) (at + 3) fs ∙ simp towards-suc

@@ -16,7 +16,7 @@ use Rattle.share.specs.promises.Share.{Each, Mark, Marks, Near, Fair, Pr
 -- ---- the whole parts
 
 -- together they are at most R
-pub floors-below : (R T : ℕ) (ss : List ℕ) → sum (floors R T ss) * T ≤ R * sum ss
+floors-below : (R T : ℕ) (ss : List ℕ) → sum (floors R T ss) * T ≤ R * sum ss
 unfolding sum
 floors-below R T [] = omega arith
 floors-below R T (s ∷ ss) =
@@ -26,24 +26,24 @@ pub floors-at-most : (R : ℕ) (ss : List ℕ) → 0 < sum ss → sum (floors R 
 floors-at-most R ss h = le-of-mul-le-mul-right (floors-below R (sum ss) ss) h
 
 -- how many members have a size
-abbrev pub present : List ℕ → ℕ
+abbrev present : List ℕ → ℕ
 present [] = 0
 present (s ∷ ss) = min s 1 + present ss
 
 -- one member: what its whole part leaves is less than T, and nothing where it has no size
-pub one-left : (R T s : ℕ) → 0 < T → R * s ≤ R * s / T * T + min s 1 * T
+one-left : (R T s : ℕ) → 0 < T → R * s ≤ R * s / T * T + min s 1 * T
 one-left R T zero h = simp mul-zero (omega arith)
 one-left R T (suc s) h =
     let e : min (suc s) 1 ≡ 1 = omega arith in
     rw e (omega (arith, lt-div-mul-add {a = R * suc s} h))
 
-pub floors-above : (R T : ℕ) (ss : List ℕ) → 0 < T → R * sum ss ≤ (sum (floors R T ss) + present ss) * T
+floors-above : (R T : ℕ) (ss : List ℕ) → 0 < T → R * sum ss ≤ (sum (floors R T ss) + present ss) * T
 unfolding sum
 floors-above R T [] h = simp mul-zero (omega arith)
 floors-above R T (s ∷ ss) h =
     simp (mul-add, add-mul) (omega (arith, one-left R T s h, simp add-mul at (floors-above R T ss h)))
 
-pub left-at-most : (R : ℕ) (ss : List ℕ) → 0 < sum ss → leftover R ss ≤ present ss
+left-at-most : (R : ℕ) (ss : List ℕ) → 0 < sum ss → leftover R ss ≤ present ss
 left-at-most R ss h =
     let e : R ≤ sum (floors R (sum ss) ss) + present ss = le-of-mul-le-mul-right (floors-above R (sum ss) ss h) h in
     omega arith
@@ -59,7 +59,7 @@ none R T = rw (mul-zero) (zero-div T)
 
 -- ---- the laws for any rule: `Marks` is all that they ask
 
-pub sum-plus : (R T : ℕ) (ss ms : List ℕ) → Each Mark ss ms → sum (plus (floors R T ss) ms) ≡ sum (floors R T ss) + sum ms
+sum-plus : (R T : ℕ) (ss ms : List ℕ) → Each Mark ss ms → sum (plus (floors R T ss) ms) ≡ sum (floors R T ss) + sum ms
 unfolding sum
 sum-plus R T [] [] e = refl
 sum-plus R T [] (m ∷ ms) e = absurd e
@@ -162,7 +162,7 @@ pub floor-le : (R T s : ℕ) → R < T → R * s / T ≤ s
 floor-le R T zero h = simp (mul-zero, zero-div) (omega arith)
 floor-le R T (suc s) h = omega (arith, room R T (suc s) h (omega arith))
 
-pub each-length : (P : ℕ → ℕ → Type 0) (xs ys : List ℕ) → Each P xs ys → length xs ≡ length ys
+each-length : (P : ℕ → ℕ → Type 0) (xs ys : List ℕ) → Each P xs ys → length xs ≡ length ys
 each-length P [] [] e = refl
 each-length P [] (y ∷ ys) e = absurd e
 each-length P (x ∷ xs) [] e = absurd e
@@ -174,7 +174,7 @@ each-flip P [] (y ∷ ys) e = absurd e
 each-flip P (x ∷ xs) [] e = absurd e
 each-flip P (x ∷ xs) (y ∷ ys) e = (e .0, each-flip P xs ys (e .1))
 
-pub each-same : (ss : List ℕ) → Each (λ s q. q ≡ s) ss ss
+each-same : (ss : List ℕ) → Each (λ s q. q ≡ s) ss ss
 each-same [] = tt
 each-same (s ∷ ss) = (refl, each-same ss)
 

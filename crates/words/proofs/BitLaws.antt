@@ -25,14 +25,14 @@ bit-one w i t = eqb-true (w / 2 ^ i % 2) 1 t
 pub bit-zero : (w i : ℕ) → bitAt w i ≡ false → w / 2 ^ i % 2 ≡ 0
 bit-zero w i t = let h : w / 2 ^ i % 2 ≡ 1 → ⊥ = eqb-false (w / 2 ^ i % 2) 1 t in omega arith
 
-pub one-bit : (w i : ℕ) → w / 2 ^ i % 2 ≡ 1 → bitAt w i ≡ true
+one-bit : (w i : ℕ) → w / 2 ^ i % 2 ≡ 1 → bitAt w i ≡ true
 one-bit w i e = eq-eqb (w / 2 ^ i % 2) 1 e
 
-pub zero-bit : (w i : ℕ) → w / 2 ^ i % 2 ≡ 0 → bitAt w i ≡ false
+zero-bit : (w i : ℕ) → w / 2 ^ i % 2 ≡ 0 → bitAt w i ≡ false
 zero-bit w i e = ne-eqb (w / 2 ^ i % 2) 1 (omega arith)
 
 -- ---- bit i + 1 of w is bit i of w / 2
-pub half-bit : (w i : ℕ) → w / 2 / 2 ^ i ≡ w / 2 ^ suc i
+half-bit : (w i : ℕ) → w / 2 / 2 ^ i ≡ w / 2 ^ suc i
 half-bit w i = div-div-eq-div-mul w 2 (2 ^ i) ∙ ap (λ (n : ℕ). w / n) (omega (arith, pow-suc 2 i))
 
 pub bit-half : (w i : ℕ) → bitAt (w / 2) i ≡ bitAt w (suc i)
@@ -55,7 +55,7 @@ bit-le w i t =
     omega (arith, split w i, one-mul (2 ^ i))
 
 -- ---- 2 ^ i more, where bit i is clear
-pub add-same : (w i : ℕ) → bitAt w i ≡ false → bitAt (w + 2 ^ i) i ≡ true
+add-same : (w i : ℕ) → bitAt w i ≡ false → bitAt (w + 2 ^ i) i ≡ true
 add-same w i t =
     let m : suc (w / 2 ^ i) * 2 ^ i ≡ w / 2 ^ i * 2 ^ i + 2 ^ i = suc-mul (w / 2 ^ i) (2 ^ i) in
     let e : w + 2 ^ i ≡ suc (w / 2 ^ i) * 2 ^ i + w % 2 ^ i = omega (arith, split w i) in
@@ -68,7 +68,7 @@ add-half w i = omega (arith, pow-suc 2 i)
 pub add-odd : (w i : ℕ) → (w + 2 ^ suc i) % 2 ≡ w % 2
 add-odd w i = omega (arith, pow-suc 2 i)
 
-pub add-other : (w i j : ℕ) → bitAt w i ≡ false → (j ≡ i → ⊥) → bitAt (w + 2 ^ i) j ≡ bitAt w j
+add-other : (w i j : ℕ) → bitAt w i ≡ false → (j ≡ i → ⊥) → bitAt (w + 2 ^ i) j ≡ bitAt w j
 add-other w zero zero t n = absurd (n refl)
 add-other w zero (suc j) t n =
     let h = bit-zero w 0 t in
@@ -79,7 +79,7 @@ add-other w (suc i) (suc j) t n =
     let ih = add-other (w / 2) i j (bit-half w i ∙ t) (λ e. n (ap suc e)) in
     rw (← half-bit (w + 2 ^ suc i) j, ← half-bit w j, add-half) ih
 
-pub add-ones : (k w i : ℕ) → i < k → bitAt w i ≡ false → onesIn k (w + 2 ^ i) ≡ suc (onesIn k w)
+add-ones : (k w i : ℕ) → i < k → bitAt w i ≡ false → onesIn k (w + 2 ^ i) ≡ suc (onesIn k w)
 unfolding onesIn
 add-ones zero w i l t = absurd (not-suc-le-zero l)
 add-ones (suc k) w zero l t =

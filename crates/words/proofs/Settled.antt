@@ -6,6 +6,9 @@ use Rattle.words.proofs as contracts
 pub test : Settled contracts.bits.test.ended contracts.bits.test.Reads.Asked contracts.bits.test.Reads.Learnt
 test κs a = (tt, λ y z v w p q. (p ∙ sym q, refl))
 
+pub mark : Settled contracts.bits.mark.ended contracts.bits.mark.Reads.Asked contracts.bits.mark.Reads.Learnt
+mark κs a = (tt, λ y z v w p q. (p ∙ sym q, refl))
+
 pub with-bit : Settled contracts.bits.with_bit.ended contracts.bits.with_bit.Reads.Asked contracts.bits.with_bit.Reads.Learnt
 with-bit κs a = (tt, λ y z v w p q. (p ∙ sym q, refl))
 

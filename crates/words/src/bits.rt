@@ -9,6 +9,13 @@ pub fn test(w: u64, i: usize) -> bool
     if i < 64 { (w >> i) & 1 == 1 } else { false }
 }
 
+// Mark bit i of a record.
+pub fn mark(marks: u8, i: usize) -> bool
+    ensures { λ r. ⌜ r ≡ bitAt marks i ⌝ }
+{
+    test(marks as u64, i)
+}
+
 // The word with bit i set.
 pub fn with_bit(w: u64, i: usize) -> u64
     ensures { λ r. ⌜ r ≡ withBit w i ⌝ }

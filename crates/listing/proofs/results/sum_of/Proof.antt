@@ -7,7 +7,7 @@ use Rattle.trade.specs.rules.Trade.{traded}
 use Rattle.listing.proofs.FillLaws.{fillsFrom, fills-all, fills-more, fills-none}
 use Rattle.listing.proofs.results.sum_of.Statement.{statement}
 use Rattle.listing.proofs.results.sum_of.Tie as tie
-use Rattle.listing.specs.Code.{fillsIn}
+use Rattle.listing.specs.inside.Code.{fillsIn}
 
 abbrev Inv-loop : tie.InvT-loop
 Inv-loop words n sum₀ i₀ sum i = (i ≤ n) × (sum ≤ 4294967295 * i) × (sum + traded (fillsFrom n words i) ≡ traded (fillsIn n words))
