@@ -1,0 +1,107 @@
+"""A listing taken apart for presentation: its lines as a row of fields. Nothing here decides what an auction answers."""
+import csv
+import io
+import json
+import os
+
+from . import reasons
+
+KEYS = ["name", "refused", "ending", "low", "high", "events_taken", "events_refused", "contra", "others", "average", "total"]
+
+
+class Unreadable:
+    """What is listed of a file that can't be read, and why."""
+
+    def __init__(self, name, why):
+        self.name, self.why = name, why
+
+    @classmethod
+    def by_number(cls, name, number):
+        return cls(name, os.strerror(number) if number else "a read failed")
+
+    def lines(self):
+        return ["UNREADABLE %s: %s" % (self.name, self.why)]
+
+
+class Listing:
+    """What the engine said of a tape."""
+
+    def __init__(self, name, text):
+        self.name, self.text = name, text
+
+    def lines(self):
+        return self.text.decode("ascii").splitlines()
+
+
+def scaled(price_times_quantity, quantity):
+    """An average in ten thousandths of a cent, to the nearest."""
+    return (2 * 10000 * price_times_quantity + quantity) // (2 * quantity)
+
+
+def decimals(n):
+    """Ten thousandths as a number with four decimals."""
+    return "%s%d.%04d" % ("-" if n < 0 else "", abs(n) // 10000, abs(n) % 10000)
+
+
+def row(listed):
+    """The fields of a listing; None where one does not apply. The average is in ten thousandths of a cent."""
+    found = dict.fromkeys(KEYS)
+    found["name"] = listed.name
+    if isinstance(listed, Unreadable):
+        found["refused"] = "unreadable"
+        return found
+    words = [line.split(" ") for line in listed.lines()]
+    if words[0][0] == "REFUSED":
+        found["refused"] = int(words[0][1])
+        return found
+    fills = [(w[1], int(w[2]), int(w[3])) for w in words if w[0] == "FILL"]
+    end = next(w for w in words if w[0] == "END")
+    found["ending"], found["low"], found["high"] = end[1], int(end[3]), int(end[5])
+    found["events_taken"] = sum(w[0] == "EVENT" and w[2] == "taken" for w in words)
+    found["events_refused"] = sum(w[0] == "EVENT" and w[2] == "refused" for w in words)
+    found["contra"] = sum(q for party, _, q in fills if party == "contra")
+    found["others"] = sum(q for party, _, q in fills if party != "contra")
+    found["total"] = int(words[-1][1])
+    if found["total"]:
+        found["average"] = scaled(sum(p * q for _, p, q in fills), found["total"])
+    return found
+
+
+# the fields that are held in ten thousandths
+FRACTIONS = ("average", "improvement")
+
+
+def csv_line(values):
+    text = io.StringIO()
+    csv.writer(text, lineterminator="\n").writerow(values)
+    return text.getvalue()
+
+
+def csv_row(found, keys):
+    """A row of csv: what does not apply is empty."""
+    return csv_line(["" if found[k] is None else decimals(found[k]) if k in FRACTIONS else found[k] for k in keys])
+
+
+def json_row(found, keys, **more):
+    """One JSON object: what does not apply is null."""
+    values = {k: found[k] / 10000 if k in FRACTIONS and found[k] is not None else found[k] for k in keys}
+    values.update(more)
+    return json.dumps(values) + "\n"
+
+
+def refusal(line):
+    """The number that a line of a listing refuses by, or None."""
+    words = line.split(" ")
+    if words[0] == "REFUSED":
+        return int(words[1])
+    if words[0] == "EVENT" and words[2] == "refused":
+        return int(words[3])
+    return None
+
+
+def with_reasons(lines):
+    """The lines, each refusal with its condition beside it."""
+    width = max(len(line) for line in lines)
+    for line in lines:
+        number = None if line.startswith("UNREADABLE") else refusal(line)
+        yield line if number is None else "%-*s  %s" % (min(width, 40), line, reasons.condition(number))
