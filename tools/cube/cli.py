@@ -1,9 +1,10 @@
 """The command line: the commands, their options and their help."""
 import argparse
+import os
 import sys
 
 from . import cmd_draw, cmd_list, cmd_sweep, cmd_text, cmd_why, files
-from .trouble import FINE, INTERRUPTED, TROUBLE, USAGE, Trouble, say
+from .trouble import FINE, INTERRUPTED, TROUBLE, USAGE, Trouble, put_error, say
 
 COMMANDS = [cmd_list, cmd_why, cmd_sweep, cmd_draw, cmd_text.Make, cmd_text.Show, cmd_text.Check]
 USAGE_LINES = ["cube [list] [OPTIONS] TAPE..", "cube < TAPE", "cube COMMAND [OPTIONS] ..", "cube COMMAND --help"]
@@ -31,7 +32,7 @@ class Parser(argparse.ArgumentParser):
     def error(self, message):
         usage = self.format_usage()
         say("%s: %s" % (self.command.NAME, message))
-        sys.stderr.write(usage)
+        put_error(usage)
         sys.exit(USAGE)
 
     def read(self, words):
@@ -71,8 +72,8 @@ def serve(words):
     if words[:1] in (["-h"], ["--help"], ["help"]):
         files.put_text(help_text())
         return FINE
-    if not words and files.stdin_is_terminal():
-        sys.stderr.write(help_text())
+    if not words and os.isatty(0):
+        put_error(help_text())
         return USAGE
     command, words = command_of(words)
     parser = Parser(command)
@@ -87,7 +88,7 @@ def main():
     except Trouble as t:
         say(str(t))
         status = TROUBLE
-    except (KeyboardInterrupt, BrokenPipeError):
+    except KeyboardInterrupt:
         status = INTERRUPTED
     except MemoryError:
         say("there is not enough memory")

@@ -1,7 +1,6 @@
 """cube draw: a picture of an auction."""
-from . import drawing, files, listing, runs
+from . import files, listing, runs
 from .engine import Engine
-from .picture import Picture
 from .trouble import FINE
 
 NAME = "draw"
@@ -18,12 +17,13 @@ def add(parser):
 
 
 def run(args, parser):
+    from . import drawing, picture
     tape, engine = files.read_tape(args.tape), Engine()
     lines = runs.one(engine, args.tape, tape=tape).lines()
     number = listing.refusal(lines[0])
     if number is not None:
         made = drawing.refused(args.tape, number)
     else:
-        made = drawing.auction(Picture(args.tape, tape, lines, runs.trace(engine, tape)))
+        made = drawing.auction(picture.Picture(args.tape, tape, lines, runs.trace(engine, tape)))
     files.write(args.output, made.encode("utf-8"))
     return FINE

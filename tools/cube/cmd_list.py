@@ -2,12 +2,11 @@
 import functools
 import itertools
 import os
-import sys
 import time
 
 from . import files, listing, names, pool, runs
 from .engine import Engine
-from .trouble import FINE, TROUBLE, Trouble, say
+from .trouble import FINE, TROUBLE, put_error, say
 
 NAME = "list"
 SUMMARY = "the listing of each tape, as text, csv or JSON"
@@ -47,7 +46,7 @@ jobs_of.__name__ = "number of jobs"
 def given(args, parser):
     """The blocks of names to list, and whether each listing stands under its name."""
     if not args.tapes and args.names is None:
-        if files.stdin_is_terminal():
+        if os.isatty(0):
             parser.error("no tape is named, and standard input is a terminal")
         args.tapes = ["-"]
     if args.names == "-" and "-" in args.tapes:
@@ -95,21 +94,19 @@ class Progress:
     """How far a long run is, on a terminal that nothing else is written to."""
 
     def __init__(self):
-        self.on = files.on_terminal(sys.stderr) and not files.on_terminal(sys.stdout)
+        self.on = os.isatty(2) and not os.isatty(1)
         self.began = self.last = time.time()
         self.shown = False
 
     def show(self, tapes):
         now = time.time()
         if self.on and now - self.began > 1 and now - self.last > 0.2:
-            sys.stderr.write("\r\033[K%d tapes, %d a second" % (tapes, tapes / (now - self.began)))
-            sys.stderr.flush()
+            put_error("\r\033[K%d tapes, %d a second" % (tapes, tapes / (now - self.began)))
             self.last, self.shown = now, True
 
     def clear(self):
         if self.shown:
-            sys.stderr.write("\r\033[K")
-            sys.stderr.flush()
+            put_error("\r\033[K")
 
 
 def list_all(blocks, headed, args):

@@ -63,13 +63,13 @@ def add(parser):
     parser.add_argument("--format", choices=["text", "csv", "json"], default="text", help="an aligned table, csv, or one JSON object to a line")
 
 
-def changed(tape, at, values):
-    """The tape with other values in its order record, which stands at `at`."""
+def changed(tape, at, swept, values):
+    """The tape with other values in its order record, which stands at `at`. Where modes are swept, or no stop is given, auto-match has stop 0."""
     out = bytearray(tape)
     for option, value in values.items():
         place, packing = FIELDS[option]
         struct.pack_into(packing, out, at + place, value)
-    if values.get("mode") == 2 and "stop" not in values:
+    if values.get("mode") == 2 and (swept == "mode" or "stop" not in values):
         struct.pack_into("<I", out, at + 12, 0)
     return bytes(out)
 
@@ -86,12 +86,12 @@ def wanted(args, parser):
     return swept, given[swept], {o: v[0] for o, v in given.items() if o != swept}
 
 
-def listed(engine, tape, at, values):
+def listed(engine, tape, at, swept, values):
     """What the engine says of the tape as it is, and of each changed tape: one run of evening over files of a passing folder."""
     try:
         with tempfile.TemporaryDirectory(prefix="cube-") as folder:
             names = []
-            for k, data in enumerate(itertools.chain([tape], (changed(tape, at, v) for v in values))):
+            for k, data in enumerate(itertools.chain([tape], (changed(tape, at, swept, v) for v in values))):
                 names.append(os.fsencode(os.path.join(folder, str(k))))
                 with open(names[-1], "wb") as f:
                     f.write(data)
@@ -141,7 +141,7 @@ def run(args, parser):
     swept, values, others = wanted(args, parser)
     tape = files.read_tape(args.tape)
     at, order = place_of_order(tape, args.tape)
-    results = listed(Engine(), tape, at, [dict(others, **{swept: v}) for v in values])[1:]
+    results = listed(Engine(), tape, at, swept, [dict(others, **{swept: v}) for v in values])[1:]
     for r in results:
         if isinstance(r, listing.Unreadable):
             raise Trouble("a changed tape can't be read again: " + r.why)

@@ -1,15 +1,16 @@
 """The picture of an auction: where each thing stands, and how it looks. It is to be read in print, so shapes differ and not colours alone."""
 from . import form, reasons
 from .listing import decimals
-from .svg import Canvas, ticks
+from .svg import Canvas, spread, ticks
 
-WIDTH, HEIGHT = 980, 620
+WIDTH, HEIGHT = 1040, 620
 LEFT, RIGHT, TOP, BOTTOM = 78, 690, 96, 440     # the plot
 LANE = 462                                      # events that have no price
-BARS, EDGE = 722, 960                           # the fills
+BARS, LABELS, EDGE = 722, 830, 1034             # the fills: their bars, and what they are
 STYLE = """
 text { font-family: Helvetica, Arial, sans-serif; font-size: 11px; fill: #222 }
 .title { font-size: 16px; font-weight: bold } .under { font-size: 12px } .axis { font-size: 12px; fill: #444 }
+.label { paint-order: stroke; stroke: #fff; stroke-width: 2.2px; stroke-linejoin: round; stroke-opacity: 0.75 }
 .band { fill: #d9e4ef } .edge { stroke: #3d5a80; stroke-width: 1.5; fill: none } .after { fill: #f1f1f1 }
 .grid { stroke: #ddd; stroke-width: 0.6 } .frame { stroke: #444; stroke-width: 1; fill: none }
 .response line { stroke: #222; stroke-width: 2 } .response circle { fill: #222; stroke: #222 } .customer circle { fill: #fff; stroke-width: 1.5 }
@@ -63,7 +64,7 @@ def frame(canvas, scales):
     """Grid, axes and their numbers."""
     for price in ticks(scales.low, scales.high, 11):
         canvas.line(LEFT, scales.y(price), RIGHT, scales.y(price), "grid")
-        canvas.line(BARS, scales.y(price), EDGE, scales.y(price), "grid")
+        canvas.line(BARS, scales.y(price), LABELS - 14, scales.y(price), "grid")
         canvas.text(LEFT - 7, scales.y(price) + 4, price, class_="axis price", anchor="end")
     for time in ticks(0, scales.length, 11):
         canvas.line(scales.x(time), BOTTOM, scales.x(time), BOTTOM + 5, "frame")
@@ -94,7 +95,7 @@ def band(canvas, picture, scales):
 
 def around(x, y):
     """Places for a label beside a point: close by first, then farther up and down."""
-    for far in range(0, 90, 12):
+    for far in range(0, 50, 12):
         for dy in ((-6 - far, 14 + far) if far else (-6, 14)):
             yield x + 5, y + dy, "start"
             yield x - 5, y + dy, "end"
@@ -110,6 +111,7 @@ def responses(canvas, picture, scales):
             span.sequence, span.size, span.price, span.begin, span.end, ", cancelled" if span.cancelled else ""),
             data_sequence=span.sequence, data_size=span.size, data_price=span.price, data_begin=span.begin, data_end=span.end)
         canvas.line(x, y, end, y, "line")
+        canvas.crossed(x, end, y)
         canvas.add("circle", cx=x, cy=y, r=3.2)
         canvas.taken(x - 4, y - 4, 8, 8)
         if span.cancelled:
@@ -126,7 +128,7 @@ def responses(canvas, picture, scales):
 def marks(canvas, picture, scales):
     """Events that placed nothing: refusals as triangles, others as diamonds; those without a price stand in the lane below."""
     for mark in picture.marks:
-        x, y = scales.x(mark.time), LANE if mark.price is None else scales.y(mark.price)
+        x, y = place_of(mark, scales)
         words = "%s %d" % (WORDS[mark.kind], mark.sequence)
         if mark.number is not None:
             canvas.open("refusal", "%s refused by %d: %s" % (words, mark.number, reasons.condition(mark.number)),
@@ -136,8 +138,15 @@ def marks(canvas, picture, scales):
             canvas.open("event", "%s, %s" % (words, mark.answer), data_sequence=mark.sequence, data_kind=mark.kind, data_time=mark.time)
             canvas.path([(x, y - 5), (x + 5, y), (x, y + 5), (x - 5, y)], "shape", closed=True)
         canvas.taken(x - 5, y - 5, 10, 10)
-        label_of(canvas, mark, x, y)
         canvas.close()
+    for mark in picture.marks:
+        canvas.open("refusal" if mark.number is not None else "event")
+        label_of(canvas, mark, *place_of(mark, scales))
+        canvas.close()
+
+
+def place_of(mark, scales):
+    return scales.x(mark.time), LANE if mark.price is None else scales.y(mark.price)
 
 
 def label_of(canvas, mark, x, y):
@@ -157,6 +166,7 @@ def label_of(canvas, mark, x, y):
 
 def ending(canvas, picture, scales):
     x = scales.x(picture.end)
+    canvas.taken(x - 1, TOP, 2, BOTTOM - TOP)
     canvas.line(x, TOP - 4, x, BOTTOM, "ending", data_ending=picture.row["ending"], data_time=picture.end)
     canvas.text(x, TOP - 10, "END %s" % picture.row["ending"], class_="ended", anchor="middle" if x < RIGHT - 60 else "end")
 
@@ -172,57 +182,76 @@ def stop(canvas, picture, scales):
 
 
 def fills(canvas, picture, scales):
-    """A bar for each price: the Contra Order's part dark, the others' light, each party with its quantity."""
+    """A bar for each price: the Contra Order's part dark, the others' light; beside it each party with its quantity."""
     levels = picture.levels()
     most = max(contra + sum(q for _, q in others) for _, (contra, others) in levels)
-    thick = min(12, max(3, scales.step * 0.7))
+    thick = min(12, max(2, scales.step * 0.7))
+    ends = {}
     for price, (contra, others) in levels:
         y, x = scales.y(price), BARS
         canvas.open("fills", data_price=price)
         canvas.line(scales.x(picture.end), y, BARS, y, "lead")
         for party, quantity in [("contra", contra)] * (contra > 0) + others:
-            width = (EDGE - 8 - BARS) * quantity / most
+            width = (LABELS - 20 - BARS) * quantity / most
             canvas.open("fill", "%s: %d at %d" % (party, quantity, price), data_party=party, data_price=price, data_quantity=quantity)
             canvas.add("rect", x=float(x), y=y - thick / 2, width=float(width), height=thick, class_="contra" if party == "contra" else "other")
             canvas.close()
             x += width
-        canvas.taken(BARS, y - thick / 2, x - BARS, thick)
+        ends[price] = x
         canvas.close()
-    for price, (contra, others) in levels:
-        y = scales.y(price)
+    fill_labels(canvas, sorted(levels, reverse=True), ends, scales)
+
+
+def fill_labels(canvas, levels, ends, scales):
+    """What stands beside the bars, spread so that no two meet; where there are too many prices, those of the largest fills."""
+    room = int((BOTTOM - TOP) / 13)
+    sizes = sorted((-(contra + sum(q for _, q in others)), price) for price, (contra, others) in levels)
+    kept = {price for _, price in sizes[:room]}
+    levels = [(price, level) for price, level in levels if price in kept]
+    places = spread([scales.y(price) for price, _ in levels], 13, TOP + 8, BOTTOM - 8)
+    for (price, (contra, others)), y in zip(levels, places):
         whole = ["contra %d" % contra] * (contra > 0) + ["%s: %d" % o for o in others]
         words = ", ".join(whole)
-        if len(words) > 36:
+        if len(words) > 23:
             words = ", ".join(whole[:contra > 0] + ["%d others %d" % (len(others), sum(q for _, q in others))])
-        places = [(BARS + 4, y + dy, "start") for dy in (-thick / 2 - 4, thick / 2 + 12, -thick / 2 - 16, thick / 2 + 24)]
-        canvas.label(places, words, limits=(BARS, TOP + 1, EDGE + 2, BOTTOM - 1))
+        canvas.line(ends[price] + 1, scales.y(price), LABELS - 4, y, "lead")
+        canvas.text(LABELS + 40, y + 4, price, class_="axis", anchor="end")
+        canvas.text(LABELS + 48, y + 4, words)
 
 
 def legend(canvas):
-    x, y = LEFT, HEIGHT - 62
-    canvas.add("rect", x=x, y=y - 9, width=16, height=10, class_="band")
-    canvas.text(x + 22, y, "the range in which it may trade")
+    """What each shape means, in three columns."""
+    one, two, three, y = LEFT, LEFT + 270, LEFT + 610, HEIGHT - 72
+    canvas.add("rect", x=one, y=y - 9, width=16, height=10, class_="band")
+    canvas.text(one + 24, y, "the range in which it may trade")
     canvas.open("response")
-    canvas.line(x + 216, y - 4, x + 240, y - 4, "line")
-    canvas.add("circle", cx=x + 216, cy=y - 4, r=3.2)
+    canvas.line(two - 6, y - 4, two + 16, y - 4, "line")
+    canvas.add("circle", cx=two - 6, cy=y - 4, r=3.2)
     canvas.close()
-    canvas.text(x + 248, y, "a response that stands, as sequence: size (open dot: a Customer's)")
-    canvas.path([(x + 604, y - 9), (x + 614, y + 1)], "cancel")
-    canvas.path([(x + 604, y + 1), (x + 614, y - 9)], "cancel")
-    canvas.text(x + 622, y, "cancelled")
-    y += 22
+    canvas.text(two + 24, y, "a response that stands, as sequence: size")
+    canvas.add("rect", x=three, y=y - 9, width=16, height=10, class_="contra")
+    canvas.text(three + 24, y, "filled: the Contra Order")
+    y += 20
     canvas.open("event")
-    canvas.path([(x + 8, y - 9), (x + 13, y - 4), (x + 8, y + 1), (x + 3, y - 4)], "shape", closed=True)
+    canvas.path([(one + 8, y - 9), (one + 13, y - 4), (one + 8, y + 1), (one + 3, y - 4)], "shape", closed=True)
     canvas.close()
-    canvas.text(x + 22, y, "an event that places no response")
+    canvas.text(one + 24, y, "an event that places no response")
+    canvas.open("response customer")
+    canvas.add("circle", cx=two + 4, cy=y - 4, r=3.2)
+    canvas.close()
+    canvas.text(two + 24, y, "the same, a Customer's")
+    canvas.add("rect", x=three, y=y - 9, width=16, height=10, class_="other")
+    canvas.text(three + 24, y, "filled: others, as sequence: quantity")
+    y += 20
     canvas.open("refusal")
-    canvas.path([(x + 222, y - 9), (x + 227, y), (x + 217, y)], "shape", closed=True)
+    canvas.path([(one + 8, y - 9), (one + 13, y), (one + 3, y)], "shape", closed=True)
     canvas.close()
-    canvas.text(x + 248, y, "refused, with its number (cube why NUMBER)")
-    canvas.add("rect", x=x + 492, y=y - 9, width=16, height=10, class_="contra")
-    canvas.text(x + 514, y, "filled: the Contra Order")
-    canvas.add("rect", x=x + 660, y=y - 9, width=16, height=10, class_="other")
-    canvas.text(x + 682, y, "filled: the others, as sequence: quantity")
+    canvas.text(one + 24, y, "refused, with its number")
+    canvas.path([(two - 1, y - 9), (two + 9, y + 1)], "cancel")
+    canvas.path([(two - 1, y + 1), (two + 9, y - 9)], "cancel")
+    canvas.text(two + 24, y, "cancelled")
+    canvas.line(three, y - 4, three + 16, y - 4, "stop")
+    canvas.text(three + 24, y, "the stop or auto-match limit")
 
 
 def auction(picture):
@@ -231,10 +260,10 @@ def auction(picture):
     heading(canvas, picture)
     band(canvas, picture, scales)
     frame(canvas, scales)
-    stop(canvas, picture, scales)
     ending(canvas, picture, scales)
     responses(canvas, picture, scales)
     marks(canvas, picture, scales)
+    stop(canvas, picture, scales)
     fills(canvas, picture, scales)
     legend(canvas)
     return canvas.whole(STYLE)

@@ -2,7 +2,6 @@
 import os
 import select
 import stat
-import sys
 import tempfile
 
 from .trouble import Trouble, reason
@@ -12,7 +11,11 @@ LONGEST_TEXT = 16 << 20
 
 
 def guard_standard_files():
-    """A standard file that was closed is opened on nothing, so that no other file takes its number and a write to it fails."""
+    """A standard file that was closed is opened on nothing, so that no other file takes its number and a write to it fails. A directory
+    as standard input comes under another number (see `cube`)."""
+    if os.environ.pop("CUBE_STDIN", None) == "3":
+        os.dup2(3, 0)
+        os.close(3)
     for fd in (0, 1, 2):
         try:
             os.fstat(fd)
@@ -108,14 +111,3 @@ def write(name, data):
             raise
     except OSError as e:
         raise Trouble("%s: %s" % (name, reason(e)))
-
-
-def on_terminal(stream):
-    try:
-        return stream.isatty()
-    except (AttributeError, ValueError):
-        return False
-
-
-def stdin_is_terminal():
-    return on_terminal(sys.stdin)

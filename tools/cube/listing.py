@@ -50,18 +50,19 @@ def row(listed):
     if isinstance(listed, Unreadable):
         found["refused"] = "unreadable"
         return found
-    words = [line.split(" ") for line in listed.lines()]
-    if words[0][0] == "REFUSED":
-        found["refused"] = int(words[0][1])
+    text = listed.text
+    if text.startswith(b"REFUSED "):
+        found["refused"] = int(text[8:])
         return found
-    fills = [(w[1], int(w[2]), int(w[3])) for w in words if w[0] == "FILL"]
-    end = next(w for w in words if w[0] == "END")
-    found["ending"], found["low"], found["high"] = end[1], int(end[3]), int(end[5])
-    found["events_taken"] = sum(w[0] == "EVENT" and w[2] == "taken" for w in words)
-    found["events_refused"] = sum(w[0] == "EVENT" and w[2] == "refused" for w in words)
-    found["contra"] = sum(q for party, _, q in fills if party == "contra")
-    found["others"] = sum(q for party, _, q in fills if party != "contra")
-    found["total"] = int(words[-1][1])
+    # the lines before END are the auction's and its events'; after it come fills and their total
+    at = text.index(b"\nEND ") + 1
+    end, *fills, total = [line.split(b" ") for line in text[at:].splitlines()]
+    found["ending"], found["low"], found["high"] = end[1].decode(), int(end[3]), int(end[5])
+    found["events_taken"], found["events_refused"] = text.count(b" taken\n", 0, at), text.count(b" refused ", 0, at)
+    fills = [(party, int(price), int(quantity)) for _, party, price, quantity in fills]
+    found["contra"] = sum(q for party, _, q in fills if party == b"contra")
+    found["others"] = sum(q for party, _, q in fills if party != b"contra")
+    found["total"] = int(total[1])
     if found["total"]:
         found["average"] = scaled(sum(p * q for _, p, q in fills), found["total"])
     return found

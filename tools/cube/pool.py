@@ -3,7 +3,6 @@ import os
 import pickle
 import selectors
 import signal
-import sys
 
 from .trouble import Trouble
 
@@ -36,14 +35,14 @@ class Worker:
     def read(self):
         """Takes what has come; True once all has."""
         part = os.read(self.pipe, 1 << 20)
-        if part:
-            self.parts.append(part)
-            return False
+        self.parts.append(part)
+        return not part
+
+    def finish(self):
         os.close(self.pipe)
         os.waitpid(self.pid, 0)
         self.pid = 0
         self.value = b"".join(self.parts)
-        return True
 
     def result(self):
         try:
@@ -66,7 +65,6 @@ def in_order(pieces, jobs):
         for work in pieces:
             yield work()
         return
-    sys.stderr.flush()
     given, waiting, running = iter(pieces), [], selectors.DefaultSelector()
     try:
         more = True
@@ -82,9 +80,9 @@ def in_order(pieces, jobs):
                 yield waiting.pop(0).result()
             if running.get_map() and not (more and len(running.get_map()) < jobs and len(waiting) < 4 * jobs):
                 for key, _ in running.select():
-                    pipe = key.fileobj
                     if key.data.read():
-                        running.unregister(pipe)
+                        running.unregister(key.fileobj)
+                        key.data.finish()
     finally:
         for worker in waiting:
             worker.stop()

@@ -1,8 +1,7 @@
 """Shapes and words of an SVG picture, and room for its labels."""
 import re
-from xml.sax.saxutils import escape, quoteattr
 
-LETTER = 0.58   # the width of a letter beside its height, near enough for a label's room
+LETTER = 0.62   # the width of a letter beside its height, near enough for a label's room
 
 
 def legal(text):
@@ -10,11 +9,19 @@ def legal(text):
     return re.sub("[^\t\n\r\u0020-\ud7ff\ue000-\ufffd\U00010000-\U0010ffff]", "\ufffd", str(text))
 
 
+def escape(text):
+    return text.replace("&", "&amp;").replace("<", "&lt;").replace(">", "&gt;")
+
+
+def quoteattr(value):
+    return '"%s"' % escape(str(value)).replace('"', "&quot;").replace("\n", "&#10;").replace("\t", "&#9;").replace("\r", "&#13;")
+
+
 class Canvas:
     """An SVG picture as it grows."""
 
     def __init__(self, width, height, title):
-        self.width, self.height, self.parts, self.boxes = width, height, [], []
+        self.width, self.height, self.parts, self.boxes, self.lines = width, height, [], [], []
         self.title = title
 
     def add(self, name, text=None, **attributes):
@@ -42,26 +49,44 @@ class Canvas:
         """Keeps a box free of labels."""
         self.boxes.append((x, y, x + width, y + height))
 
-    def is_free(self, box):
-        return not any(box[0] < b[2] and b[0] < box[2] and box[1] < b[3] and b[1] < box[3] for b in self.boxes)
+    def crossed(self, x1, x2, y):
+        """A line that a label had better not stand on."""
+        self.lines.append((x1, y - 1, x2, y + 1))
+
+    def is_free(self, box, boxes):
+        return not any(box[0] < b[2] and b[0] < box[2] and box[1] < b[3] and b[1] < box[3] for b in boxes)
 
     def label(self, places, words, size=11, class_="label", limits=None):
-        """Words at the first of the places (x, y, anchor) where there is room; nothing where there is none."""
-        width = LETTER * size * len(words)
-        for x, y, anchor in places:
+        """Words at the best of the places (x, y, anchor) where there is room, the first ones first; standing on a line counts as some places
+        farther. Nothing where there is no room."""
+        width, found = LETTER * size * len(words), []
+        for k, (x, y, anchor) in enumerate(places):
             left = x - {"start": 0, "middle": width / 2, "end": width}[anchor]
             box = (left - 1, y - size * 0.82, left + width + 1, y + size * 0.22)
             inside = limits is None or limits[0] <= box[0] and limits[1] <= box[1] and box[2] <= limits[2] and box[3] <= limits[3]
-            if inside and self.is_free(box):
-                self.boxes.append(box)
-                self.text(x, y, words, class_=class_, anchor=anchor, font_size=size)
-                return True
-        return False
+            if inside and self.is_free(box, self.boxes):
+                found.append((k if self.is_free(box, self.lines) else k + 6, x, y, anchor, box))
+        if not found:
+            return False
+        _, x, y, anchor, box = min(found)
+        self.boxes.append(box)
+        self.text(x, y, words, class_=class_, anchor=anchor, font_size=size)
+        return True
 
     def whole(self, style):
         return ('<?xml version="1.0" encoding="UTF-8"?>\n<svg xmlns="http://www.w3.org/2000/svg" viewBox="0 0 %d %d" width="%d" height="%d" role="img">\n'
                 "<title>%s</title>\n<style>%s</style>\n%s\n</svg>\n" % (self.width, self.height, self.width, self.height,
                                                                        escape(legal(self.title)), style, "\n".join(self.parts)))
+
+
+def spread(wanted, gap, low, high):
+    """Places in rising order near those wanted, no two nearer than the gap; as many as there is room for between low and high."""
+    found = []
+    for y in wanted:
+        found.append(max(y, found[-1] + gap if found else low))
+    for i in reversed(range(len(found))):
+        found[i] = min(found[i], high - gap * (len(found) - 1 - i))
+    return found
 
 
 def ticks(low, high, most):

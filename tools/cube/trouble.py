@@ -1,5 +1,5 @@
 """What can go wrong, as one sentence and a status; and saying it."""
-import sys
+import os
 
 FINE, TROUBLE, USAGE, INTERRUPTED = 0, 1, 2, 130
 
@@ -13,10 +13,13 @@ def reason(error):
     return error.strerror or str(error)
 
 
-def say(sentence):
-    """A line on standard error, where that can be written."""
+def put_error(text):
+    """Text on standard error, where that can be written."""
     try:
-        sys.stderr.write("cube: %s\n" % sentence)
-        sys.stderr.flush()
-    except (OSError, ValueError, AttributeError):
+        os.write(2, text.encode("utf-8", "surrogateescape"))
+    except OSError:
         pass
+
+
+def say(sentence):
+    put_error("cube: %s\n" % sentence)
