@@ -2,17 +2,21 @@
 import argparse
 import os
 import sys
+import textwrap
 
 from . import cmd_draw, cmd_list, cmd_sweep, cmd_text, cmd_why, files
 from .trouble import FINE, INTERRUPTED, TROUBLE, USAGE, Trouble, put_error, say
 
 COMMANDS = [cmd_list, cmd_why, cmd_sweep, cmd_draw, cmd_text.Make, cmd_text.Show, cmd_text.Check]
 USAGE_LINES = ["cube [list] [OPTIONS] TAPE..", "cube < TAPE", "cube COMMAND [OPTIONS] ..", "cube COMMAND --help"]
-ABOUT = """\
-Listings of CUBE auction tapes by a proved engine, and what a desk asks about them. The engine is built from the sources on first use and whenever
+ABOUT = """Listings of CUBE auction tapes by a proved engine, and what a desk asks about them. The engine is built from the sources on first use and whenever
 they have changed, which takes some minutes and needs the Rattle kit's command rt; while it is current, rt is not needed. What is listed comes
 from the proved programs runner, evening and desk; tapes as text, tables and pictures are made around them."""
 STATUSES = ["0  all was listed; a refused tape is listed", "1  something could not be read or written, or the engine not built", "2  the command line is wrong"]
+
+
+def filled(text, width=79):
+    return textwrap.fill(" ".join(text.split()), width, break_on_hyphens=False)
 
 
 class Parser(argparse.ArgumentParser):
@@ -20,7 +24,7 @@ class Parser(argparse.ArgumentParser):
 
     def __init__(self, command):
         examples = "".join("  %s\n      %s\n" % e for e in command.EXAMPLES)
-        super().__init__(prog="cube " + command.NAME, description=command.DESCRIPTION, allow_abbrev=False,
+        super().__init__(prog="cube " + command.NAME, description=filled(command.DESCRIPTION), allow_abbrev=False,
                          epilog="examples:\n%s\nstatus:\n%s" % (examples, "".join("  %s\n" % s for s in STATUSES)),
                          formatter_class=argparse.RawDescriptionHelpFormatter)
         self.command = command
@@ -56,7 +60,7 @@ class Parser(argparse.ArgumentParser):
 def help_text():
     width = max(len(c.NAME) for c in COMMANDS)
     return "usage: %s\n\n%s\n\ncommands:\n%s\nexample:\n  cube c.tape\n\nstatus:\n%s" % (
-        "\n       ".join(USAGE_LINES), ABOUT, "".join("  %-*s  %s\n" % (width, c.NAME, c.SUMMARY) for c in COMMANDS),
+        "\n       ".join(USAGE_LINES), filled(ABOUT), "".join("  %-*s  %s\n" % (width, c.NAME, c.SUMMARY) for c in COMMANDS),
         "".join("  %s\n" % s for s in STATUSES))
 
 

@@ -6,7 +6,6 @@ import tempfile
 
 from . import files, form, listing, reasons, runs
 from .engine import Engine
-from .listing import decimals
 from .trouble import FINE, Trouble, reason
 
 NAME = "sweep"
@@ -118,16 +117,11 @@ def row(value, swept, result, order):
     return found
 
 
-def cell(found, key):
-    value = found[key]
-    return "" if value is None else decimals(value) if key in listing.FRACTIONS else str(value)
-
-
 def table(rows, swept):
     """An aligned table: the best rows marked, the refusals in words below it."""
     best = max((r["improvement"] for r in rows if r["improvement"] is not None), default=None)
     heads = [swept] + KEYS[1:]
-    cells = [heads] + [[cell(r, k) for k in KEYS] for r in rows]
+    cells = [heads] + [[listing.cell(r, k) for k in KEYS] for r in rows]
     widths = [max(len(c[i]) for c in cells) for i in range(len(heads))]
     stars = [" "] + ["*" if best is not None and r["improvement"] == best else " " for r in rows]
     for star, line in zip(stars, cells):

@@ -1,6 +1,4 @@
 """A listing taken apart for presentation: its lines as a row of fields. Nothing here decides what an auction answers."""
-import csv
-import io
 import json
 import os
 
@@ -72,15 +70,23 @@ def row(listed):
 FRACTIONS = ("average", "improvement")
 
 
+def quoted(text):
+    """A field of csv: quoted where it has to be."""
+    return '"%s"' % text.replace('"', '""') if any(c in text for c in ',"\r\n') else text
+
+
 def csv_line(values):
-    text = io.StringIO()
-    csv.writer(text, lineterminator="\n").writerow(values)
-    return text.getvalue()
+    return ",".join(values) + "\n"
+
+
+def cell(found, key):
+    """A field as it is printed: nothing where it does not apply."""
+    value = found[key]
+    return "" if value is None else decimals(value) if key in FRACTIONS else str(value)
 
 
 def csv_row(found, keys):
-    """A row of csv: what does not apply is empty."""
-    return csv_line(["" if found[k] is None else decimals(found[k]) if k in FRACTIONS else found[k] for k in keys])
+    return csv_line([quoted(cell(found, k)) if k == "name" else cell(found, k) for k in keys])
 
 
 def json_row(found, keys, **more):

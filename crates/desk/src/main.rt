@@ -6,6 +6,7 @@
 use auction::Auction;
 use auction::Entry;
 use board::Board;
+use input::MOST;
 use libc::STDERR_FILENO;
 use libc::STDIN_FILENO;
 use libc::STDOUT_FILENO;
@@ -16,6 +17,12 @@ use tape::ReadOrder;
 use tape::Trailer;
 ghost use mathlib.Core.Path.{_≡_};
 ghost use lib.ListN.{length};
+
+fn tape_buffer() -> [u8; MOST]
+    ensures { λ r. ⌜ 65537 ≡ length r ⌝ }
+{
+    [0; MOST]
+}
 
 // ---- writing: whether all was written; where not, it is said
 
@@ -194,7 +201,7 @@ fn serve(word: &[u8], tape: &[u8]) {
 fn main() {
     let mut word = io::buffer();
     let k = os::arg(1, &mut word);
-    let mut tape = input::tape_buffer();
+    let mut tape = tape_buffer();
     let c = input::read_tape(STDIN_FILENO, &mut tape);
     if !c.whole {
         os::fail(b"desk: standard input");

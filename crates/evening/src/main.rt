@@ -1,6 +1,7 @@
 // Names of tape files on standard input, one to a line (with the argument -0: each ended by a zero byte): each name and its tape's listing on
 // standard output. At the end a summary on standard error, or, where the names could not be read or a listing not written, why.
 use auction::Ending;
+use input::MOST;
 use libc::STDERR_FILENO;
 use libc::STDIN_FILENO;
 use libc::STDOUT_FILENO;
@@ -11,6 +12,12 @@ ghost use mathlib.Core.Path.{_≡_};
 ghost use lib.ListN.{length};
 ghost use Rattle.io.specs.Counts.{Counts};
 ghost use Rattle.evening.specs.Counting.{oneMore, countedEnding, countedListed};
+
+fn tape_buffer() -> [u8; MOST]
+    ensures { λ r. ⌜ 65537 ≡ length r ⌝ }
+{
+    [0; MOST]
+}
 
 fn listing_buffer() -> [u8; ROOM]
     ensures { λ r. ⌜ 131072 ≡ length r ⌝ }
@@ -356,7 +363,7 @@ fn summary(t: Tally) {
 fn main() {
     let mut input = io::large_buffer();
     let mut name = io::buffer();
-    let mut tape = input::tape_buffer();
+    let mut tape = tape_buffer();
     let mut out = listing_buffer();
     let t = serve_all(&mut input, &mut name, &mut tape, &mut out);
     if !t.failed {

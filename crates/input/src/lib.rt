@@ -1,16 +1,9 @@
 // A tape's bytes from an open file, and whether every read went well. What a file holds no contract can say.
 ghost use mathlib.Core.Path.{_≡_};
-ghost use lib.ListN.{length};
 ghost use Rattle.io.specs.Counts.{Counts};
 
 // One byte more than a tape may have, so that a longer input is refused.
 pub const MOST: usize = 65537;
-
-pub fn tape_buffer() -> [u8; MOST]
-    ensures { λ r. ⌜ 65537 ≡ length r ⌝ }
-{
-    [0; MOST]
-}
 
 // What was read: `length` bytes, all that there were if `whole`; else a read failed, and `error` is the system's number for why.
 pub struct Contents {

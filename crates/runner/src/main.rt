@@ -1,4 +1,5 @@
 // Reads one tape on standard input and writes its listing on standard output. A read or a write that fails is said on standard error.
+use input::MOST;
 use libc::STDIN_FILENO;
 use libc::STDOUT_FILENO;
 use listing::ROOM;
@@ -6,6 +7,12 @@ ghost use mathlib.Core.Path.{_≡_};
 ghost use lib.ListN.{length};
 ghost use Rattle.io.specs.Counts.{Counts};
 ghost use Rattle.listing.specs.Listing.{lengthIn, listedOf, bytesOf};
+
+fn tape_buffer() -> [u8; MOST]
+    ensures { λ r. ⌜ 65537 ≡ length r ⌝ }
+{
+    [0; MOST]
+}
 
 fn listing_buffer() -> [u8; ROOM]
     ensures { λ r. ⌜ 131072 ≡ length r ⌝ }
@@ -30,7 +37,7 @@ fn show(tape: &[u8], out: &mut [u8]) {
 }
 
 fn main() {
-    let mut tape = input::tape_buffer();
+    let mut tape = tape_buffer();
     let mut out = listing_buffer();
     let c = input::read_tape(STDIN_FILENO, &mut tape);
     if !c.whole {
