@@ -48,6 +48,14 @@ def put_text(text):
     put(text.encode("utf-8", "surrogateescape"))
 
 
+def in_memory(data=b""):
+    """A file in memory with these bytes, at its start. It spares the waiting for each other that a pipe brings."""
+    file = open(os.memfd_create("cube"), "w+b", buffering=0)
+    write_all(file.fileno(), data, "a file in memory")
+    file.seek(0)
+    return file
+
+
 def read(name, most):
     """The bytes of a file, `-` being standard input: at most one more than `most`, so that a longer one shows."""
     try:

@@ -4,45 +4,40 @@ import pickle
 import selectors
 import signal
 
+from .files import in_memory
 from .trouble import Trouble
 
 
 class Worker:
-    """A process of our own that does one piece of work and hands its result back through a pipe."""
+    """A process of our own that does one piece of work. Its result comes in a file in memory, and the end of a pipe says that it is there."""
 
     def __init__(self, work):
-        self.parts, self.value = [], None
+        self.value, self.file = None, in_memory()
         self.pipe, theirs = os.pipe()
         self.pid = os.fork()
         if self.pid == 0:
-            self.serve(work, theirs)
+            self.serve(work)
         os.close(theirs)
 
-    def serve(self, work, pipe):
+    def serve(self, work):
         signal.signal(signal.SIGINT, signal.SIG_DFL)
         try:
-            os.close(self.pipe)
             try:
                 result = (True, work())
             except Trouble as t:
                 result = (False, str(t))
-            with open(pipe, "wb") as f:
-                pickle.dump(result, f)
+            pickle.dump(result, self.file)
             os._exit(0)
         except BaseException:
             os._exit(1)
-
-    def read(self):
-        """Takes what has come; True once all has."""
-        part = os.read(self.pipe, 1 << 20)
-        self.parts.append(part)
-        return not part
 
     def finish(self):
         os.close(self.pipe)
         os.waitpid(self.pid, 0)
         self.pid = 0
-        self.value = b"".join(self.parts)
+        with self.file:
+            self.file.seek(0)
+            self.value = self.file.read()
 
     def result(self):
         try:
@@ -65,24 +60,21 @@ def in_order(pieces, jobs):
         for work in pieces:
             yield work()
         return
-    given, waiting, running = iter(pieces), [], selectors.DefaultSelector()
+    given, waiting, running, more = iter(pieces), [], selectors.DefaultSelector(), True
     try:
-        more = True
         while more or waiting:
-            while more and len(running.get_map()) < jobs and len(waiting) < 4 * jobs:
+            if more and len(running.get_map()) < jobs and len(waiting) < 4 * jobs:
                 work = next(given, None)
-                if work is None:
-                    more = False
-                else:
+                more = work is not None
+                if more:
                     waiting.append(Worker(work))
                     running.register(waiting[-1].pipe, selectors.EVENT_READ, waiting[-1])
+            elif running.get_map():
+                for key, _ in running.select():
+                    running.unregister(key.fileobj)
+                    key.data.finish()
             while waiting and waiting[0].value is not None:
                 yield waiting.pop(0).result()
-            if running.get_map() and not (more and len(running.get_map()) < jobs and len(waiting) < 4 * jobs):
-                for key, _ in running.select():
-                    if key.data.read():
-                        running.unregister(key.fileobj)
-                        key.data.finish()
     finally:
         for worker in waiting:
             worker.stop()

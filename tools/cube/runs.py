@@ -4,6 +4,7 @@ import os
 import re
 import subprocess
 
+from .files import in_memory
 from .listing import Listing, Unreadable
 from .trouble import Trouble
 
@@ -62,10 +63,16 @@ class Evening:
     """One run of `evening` over a block of names: what it wrote, and its counts."""
 
     def __init__(self, engine, names):
-        self.names = names
-        self.sent = [b"" if fault(n) else n for n in names]
-        process = engine.start("evening", ["-0"])
-        self.text, said = finish(process, b"".join(n + b"\0" for n in self.sent))
+        self.names = self.sent = names
+        given = b"\0".join(names) + b"\0"
+        if given.count(b"\0") != len(names) or max(map(len, names)) >= PATH_MAX:
+            self.sent = [b"" if fault(n) else n for n in names]
+            given = b"\0".join(self.sent) + b"\0"
+        with in_memory(given) as stdin, in_memory() as stdout:
+            process = engine.start("evening", ["-0"], stdin=stdin, stdout=stdout)
+            _, said = finish(process)
+            stdout.seek(0)
+            self.text = stdout.read()
         summary = SUMMARY_LINE.search(said)
         if process.returncode != 0 or not summary:
             raise Trouble(ended("evening", process, said))
