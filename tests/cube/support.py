@@ -13,6 +13,8 @@ ROOT = os.path.dirname(os.path.dirname(os.path.dirname(os.path.realpath(__file__
 CUBE = os.path.join(ROOT, "cube")
 DATA = os.path.join(ROOT, "crates", "evening", "data")
 sys.path.insert(0, os.path.join(ROOT, "tools"))
+# the Python that runs the tests, and no wrapper of it
+os.environ["PATH"] = os.path.dirname(sys.executable) + os.pathsep + os.environ["PATH"]
 
 TEXT = """\
 order side=buy mode=auto-match size=10 limit=110 nbb=100 nbo=110 bb=100 bo=110 time=34200000 open=34200000 close=57600000 interval=100

@@ -1,4 +1,4 @@
-"""Starts `cube`: python3 tools/cube WORDS.."""
+"""Starts `cube`: python3 tools/cube/__main__.py WORDS.."""
 import os
 import sys
 
