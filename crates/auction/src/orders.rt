@@ -1,40 +1,22 @@
 // Acceptance: the numbers 1 to 12, and the auction that an accepted order opens.
 ghost use mathlib.Core.Path.{_≡_};
-ghost use mathlib.Core.Bool.{cond, _||_};
-ghost use Prim.Native.Nat.{_+_, _-_, _≤_, min, max};
-ghost use lib.Dec.{ltb, eqb};
-ghost use Rattle.words.specs.Bits.{bitAt};
-ghost use Rattle.auction.specs.Accept.{initiatingOf, tickOf, boundOf, firstBound, guaranteedOf, rangeRefusal, buyRefusal, orderRefusal, termsOf, quotesOf, openedBy, noAuction, acceptOf};
+ghost use Prim.Native.Nat.{_+_, _-_, _≤_};
+ghost use lib.Dec.{eqb};
+ghost use Rattle.auction.specs.rules.Accept.{initiatingOf, tickOf, boundOf, firstBound, guaranteedOf, rangeRefusal, buyRefusal, orderRefusal, termsOf, quotesOf, openedBy, noAuction, acceptOf};
 use crate::Auction;
 use crate::Ending;
 use crate::Entry;
+use crate::Head;
 use crate::Market;
 use crate::Opening;
 use crate::Quotes;
 use crate::Terms;
-use crate::mirror::buy_order;
+use base::greater;
+use base::lower;
+use base::wide;
+use mirror::buy_order;
 use tape::Order;
-use words::bits;
-
-// A word in 64 bits, where no sum of two wraps.
-pub(crate) fn wide(x: u32) -> u64
-    ensures { λ r. ⌜ (r ≡ x) × (r ≤ 4294967295) ⌝ }
-{
-    x as u64
-}
-
-pub(crate) fn lower(x: u32, y: u32) -> u32
-    ensures { λ r. ⌜ r ≡ min x y ⌝ }
-{
-    if x < y { x } else { y }
-}
-
-// Mark bit i.
-pub(crate) fn mark(marks: u8, i: usize) -> bool
-    ensures { λ r. ⌜ r ≡ bitAt marks i ⌝ }
-{
-    bits::test(marks as u64, i)
-}
+use words::bits::mark;
 
 // One cent below.
 fn below(x: u32) -> u32
@@ -53,18 +35,18 @@ fn initiating(o: Order) -> u32
 }
 
 // The added cent.
-fn tick(size: u32, bid: bool) -> u64
-    ensures { λ r. ⌜ (r ≡ tickOf size bid) × (r ≤ 1) ⌝ }
+fn tick(size: u32, bidmark: bool) -> u64
+    ensures { λ r. ⌜ (r ≡ tickOf size bidmark) × (r ≤ 1) ⌝ }
 {
-    if (size < 50) | bid { 1 } else { 0 }
+    if (size < 50) | bidmark { 1 } else { 0 }
 }
 
 // The lower bound of the range.
-pub(crate) fn bound(size: u32, floor: u32, bb: u32, bid: bool) -> u64
-    ensures { λ r. ⌜ (r ≡ boundOf size floor bb bid) × (r ≤ 4294967296) ⌝ }
+pub(crate) fn bound(size: u32, floor: u32, bb: u32, bidmark: bool) -> u64
+    ensures { λ r. ⌜ (r ≡ boundOf size floor bb bidmark) × (r ≤ 4294967296) ⌝ }
 {
     let f = wide(floor);
-    let b = wide(bb) + tick(size, bid);
+    let b = wide(bb) + tick(size, bidmark);
     if f < b { b } else { f }
 }
 
@@ -74,19 +56,13 @@ fn first_bound(o: Order) -> u64
     bound(o.size, o.nbb, o.bb, mark(o.marks, 2))
 }
 
-fn higher(x: u64, y: u64) -> u64
-    ensures { λ r. ⌜ r ≡ max x y ⌝ }
-{
-    if x < y { y } else { x }
-}
-
 fn guaranteed(o: Order) -> u64
     ensures { λ r. ⌜ (r ≡ guaranteedOf o) × (r ≤ 4294967296) ⌝ }
 {
     if o.mode == 2 {
         return wide(initiating(o));
     }
-    higher(wide(o.stop), first_bound(o))
+    greater(wide(o.stop), first_bound(o))
 }
 
 // Is y the price one cent above x?
@@ -176,8 +152,8 @@ fn quotes_of(b: Order) -> Quotes
         nbo: b.nbo,
         bb: b.bb,
         bo: b.bo,
-        bid: mark(b.marks, 2),
-        offer: mark(b.marks, 3),
+        bidmark: mark(b.marks, 2),
+        offermark: mark(b.marks, 3),
     }
 }
 
@@ -189,16 +165,18 @@ fn opened_by(sell: bool, b: Order) -> Auction
     let quotes = quotes_of(b);
     let board = board::empty();
     Auction {
-        terms,
-        quotes,
-        sequence: 0,
-        clock: 0,
-        board,
-        ending: Ending::Open,
-        market: Market {
+        head: Head {
+            terms,
+            quotes,
             sequence: 0,
-            size: 0,
+            clock: 0,
+            ending: Ending::Open,
+            market: Market {
+                sequence: 0,
+                size: 0,
+            },
         },
+        board,
     }
 }
 
@@ -208,31 +186,33 @@ fn no_auction() -> Auction
 {
     let board = board::empty();
     Auction {
-        terms: Terms {
-            sell: false,
-            mode: 0,
-            size: 0,
-            initiating: 0,
-            floor: 0,
-            stop: 0,
-            interval: 0,
-        },
-        quotes: Quotes {
-            nbb: 0,
-            nbo: 0,
-            bb: 0,
-            bo: 0,
-            bid: false,
-            offer: false,
-        },
-        sequence: 0,
-        clock: 0,
-        board,
-        ending: Ending::Time,
-        market: Market {
+        head: Head {
+            terms: Terms {
+                sell: false,
+                mode: 0,
+                size: 0,
+                initiating: 0,
+                floor: 0,
+                stop: 0,
+                interval: 0,
+            },
+            quotes: Quotes {
+                nbb: 0,
+                nbo: 0,
+                bb: 0,
+                bo: 0,
+                bidmark: false,
+                offermark: false,
+            },
             sequence: 0,
-            size: 0,
+            clock: 0,
+            ending: Ending::Time,
+            market: Market {
+                sequence: 0,
+                size: 0,
+            },
         },
+        board,
     }
 }
 

@@ -1,5 +1,5 @@
 -- Laws of placing, clearing and finding on a board. Assumes nothing.
-use mathlib.Core.Path.{_≡_, sym, ap, _∙_}
+use mathlib.Core.Path.{_≡_, refl, sym, ap, _∙_}
 use mathlib.Core.Bool.{true, false, true≢false}
 use mathlib.Core.List.{[]}
 use mathlib.Core.Logic.{⊎-elim}
@@ -9,19 +9,21 @@ use lib.Dec.{lit<}
 use lib.ListN.{length, getD, set, replicate, length-set, length-replicate}
 use lib.Seq.{getD-set-same, getD-set-other}
 use borrow.Author.Tests.{lt-ltb, le-ltb, eq-eqb, eqb-true}
-use Rattle.words.specs.Bits.{bitAt, withBit, withoutBit, onesIn}
-use Rattle.words.proofs.BitLaws.{le-or-lt, past-bit, with-same, with-other, with-ones, with-fits, with-clear, without-same, without-ones, without-le, without-clear, clear-is, clear-least}
-use Rattle.board.specs.Lists.{Inserts}
-use Rattle.board.specs.Board.{noResponse, responseAt, emptyBoard, isLive, liveCount, firstFree, liveIn, liveOf, placed, cleared, isGtx, findGtx}
-use Rattle.board.specs.Theorems.{Good, Placing, Clearing, GtxAt}
+use Rattle.words.specs.rules.Bits.{bitAt, withBit, withoutBit, onesIn}
+use Rattle.base.proofs.Numbers.{le-or-lt}
+use Rattle.words.proofs.BitLaws.{past-bit, with-same, with-other, with-ones, with-fits, with-clear, without-same, without-ones, without-le, without-clear, clear-is, clear-least}
+use Rattle.base.specs.Lists.{Inserts}
+use Rattle.board.specs.rules.Board.{noResponse, responseAt, emptyBoard, isLive, liveCount, firstFree, liveIn, liveOf, seatedAt, placed, cleared, isGtx, findGtx}
+use Rattle.board.specs.promises.Board.{Good, Seating, Placing, Clearing, GtxAt}
 use Rattle.board.specs.declared.Response.{Response}
 use Rattle.board.specs.declared.Board.{Board}
-use Rattle.board.proofs.ListLaws.{inserts-sum}
+use Rattle.base.proofs.ListLaws.{inserts-sum}
 use Rattle.board.proofs.LiveLaws.{none-live, count-live, live-same, more-live, less-live}
-use Rattle.board.proofs.FindLaws.{and-left, and-right, and-both, find-le, find-is, find-first, find-unseen}
+use Rattle.base.proofs.Bools.{and-left, and-right, and-both}
+use Rattle.board.proofs.FindLaws.{find-le, find-is, find-first, find-unseen}
 
 -- a live place is one of the 64
-pub live-lt : (b : Board) (i : ℕ) → Good b → isLive b i ≡ true → i < 64
+live-lt : (b : Board) (i : ℕ) → Good b → isLive b i ≡ true → i < 64
 live-lt b i g t =
     ⊎-elim
     (λ le. absurd (true≢false (sym t ∙ past-bit (b .live) i (g .live-fits) le)))
@@ -41,59 +43,74 @@ empty-live = none-live (replicate 64 noResponse)
 pub live-count : (b : Board) → Good b → liveCount b ≡ length (liveOf b)
 live-count b g = ap (λ (n : ℕ). onesIn n (b .live)) (sym (g .places-are)) ∙ count-live (b .live) (b .places)
 
--- ---- placing
-pub placed-is : (b : Board) (r : Response) → firstFree b < 64 → placed b r ≡ record { places = set (b .places) (firstFree b) r; live = withBit (b .live) (firstFree b) }
-unfolding placed
-placed-is b r h = rw (lt-ltb (firstFree b) 64 h)
+-- ---- seating
+pub seated-is : (b : Board) (i : ℕ) (r : Response) → i < 64 → seatedAt b i r ≡ record { places = set (b .places) i r; live = withBit (b .live) i }
+unfolding seatedAt
+seated-is b i r h = rw (lt-ltb i 64 h)
 
-pub placed-full : (b : Board) (r : Response) → 64 ≤ firstFree b → placed b r ≡ b
-unfolding placed
-placed-full b r h = rw (le-ltb (firstFree b) 64 h)
+pub seated-past : (b : Board) (i : ℕ) (r : Response) → 64 ≤ i → seatedAt b i r ≡ b
+unfolding seatedAt
+seated-past b i r h = rw (le-ltb i 64 h)
 
-module _ (b : Board) (r : Response) (g : Good b) (h : firstFree b < 64) where
-  free : isLive b (firstFree b) ≡ false
-  free = clear-is 64 (b .live) h
-
-  room : firstFree b < length (b .places)
+module _ (b : Board) (i : ℕ) (r : Response) (g : Good b) (h : i < 64) (free : isLive b i ≡ false) where
+  room : i < length (b .places)
   room = omega (arith, g .places-are)
 
   -- the places of the new board, without the new one: nothing was seen there
-  before : liveIn (b .live) (set (b .places) (firstFree b) r) ≡ liveOf b
+  before : liveIn (b .live) (set (b .places) i r) ≡ liveOf b
   before =
-      live-same (b .live) (set (b .places) (firstFree b) r) (b .places) noResponse (length-set (b .places) (firstFree b) r)
-      (λ j t. getD-set-other (b .places) (firstFree b) j r noResponse (λ e. true≢false (sym t ∙ ap (bitAt (b .live)) e ∙ free)))
+      live-same (b .live) (set (b .places) i r) (b .places) noResponse (length-set (b .places) i r)
+      (λ j t. getD-set-other (b .places) i j r noResponse (λ e. true≢false (sym t ∙ ap (bitAt (b .live)) e ∙ free)))
 
-  pub placing : Placing b r
-  placing =
-      let ps = set (b .places) (firstFree b) r in
-      let i = firstFree b in
+  pub seating : Seating b i r
+  seating =
+      let ps = set (b .places) i r in
       let stands : getD ps i noResponse ≡ r = getD-set-same (b .places) i r noResponse room in
       let in-ps : i < length ps = omega (arith, length-set (b .places) i r, room) in
-      let adds : Inserts r (liveOf b) (liveOf (placed b r)) =
-      rw (placed-is b r h, with-clear (b .live) i h free)
+      let adds : Inserts r (liveOf b) (liveOf (seatedAt b i r)) =
+      rw (seated-is b i r h, with-clear (b .live) i h free)
       (rw (stands, before) at (more-live (b .live) i ps noResponse in-ps free)) in
       record {
-        free = free;
-        lowest = λ j l. clear-least 64 (b .live) j l;
         adds = adds;
         sums = λ f. inserts-sum f adds;
-        count = rw (placed-is b r h) (with-ones (b .live) i h free);
-        stands = rw (placed-is b r h) stands;
-        live = rw (placed-is b r h) (with-same (b .live) i h);
-        others = λ j n. rw (placed-is b r h) (getD-set-other (b .places) i j r noResponse n, with-other (b .live) i j n);
+        count = rw (seated-is b i r h) (with-ones (b .live) i h free);
+        stands = rw (seated-is b i r h) stands;
+        live = rw (seated-is b i r h) (with-same (b .live) i h);
+        others = λ j n. rw (seated-is b i r h) (getD-set-other (b .places) i j r noResponse n, with-other (b .live) i j n);
       }
 
-pub placed-good : (b : Board) (r : Response) → Good b → Good (placed b r)
-placed-good b r g =
+pub seated-good : (b : Board) (i : ℕ) (r : Response) → Good b → Good (seatedAt b i r)
+seated-good b i r g =
     ⊎-elim
-    (λ h. rw (placed-full b r h) g)
+    (λ h. rw (seated-past b i r h) g)
     (λ h.
-    rw (placed-is b r h)
+    rw (seated-is b i r h)
     (record {
-      places-are = length-set (b .places) (firstFree b) r ∙ g .places-are;
-      live-fits = with-fits (b .live) (firstFree b) (g .live-fits);
+      places-are = length-set (b .places) i r ∙ g .places-are;
+      live-fits = with-fits (b .live) i (g .live-fits);
     }))
-    (le-or-lt 64 (firstFree b))
+    (le-or-lt 64 i)
+
+-- ---- placing: at the lowest free place
+placed-is : (b : Board) (r : Response) → placed b r ≡ seatedAt b (firstFree b) r
+unfolding placed
+placed-is b r = refl
+
+pub placing : (b : Board) (r : Response) → Good b → firstFree b < 64 → Placing b r
+placing b r g h =
+    let free : isLive b (firstFree b) ≡ false = clear-is 64 (b .live) h in
+    record {
+      free = free;
+      lowest = λ j l. clear-least 64 (b .live) j l;
+      seats = placed-is b r;
+      adds = rw (placed-is b r) (seating b (firstFree b) r g h free .adds);
+    }
+
+pub placed-full : (b : Board) (r : Response) → 64 ≤ firstFree b → placed b r ≡ b
+placed-full b r h = placed-is b r ∙ seated-past b (firstFree b) r h
+
+pub placed-good : (b : Board) (r : Response) → Good b → Good (placed b r)
+placed-good b r g = rw (placed-is b r) (seated-good b (firstFree b) r g)
 
 -- ---- clearing
 pub clearing : (b : Board) (i : ℕ) → Good b → isLive b i ≡ true → Clearing b i

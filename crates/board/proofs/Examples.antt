@@ -1,12 +1,12 @@
 -- Worked examples on a board of 64 places, by computation. Assumes nothing.
 use mathlib.Core.Path.{_≡_, refl}
-use mathlib.Core.Bool.{true, false, not}
+use mathlib.Core.Bool.{true, false}
 use mathlib.Core.List.{List, [], _∷_, _++_, map}
 use Prim.Native.Nat.{ℕ, zero, suc}
 use lib.ListN.{replicate}
-use Rattle.words.specs.Bits.{withBit, withoutBit, onesIn, clearIn}
-use Rattle.board.specs.Lists.{sum}
-use Rattle.board.specs.Board.{noResponse, emptyBoard, liveCount, firstFree, liveIn, liveOf, wordOf, placed, cleared, findIn, findGtx, inserted, inSequence, lowestFrom, firstInSequence}
+use Rattle.words.specs.rules.Bits.{withBit, withoutBit, onesIn, clearIn}
+use Rattle.base.specs.Lists.{sum}
+use Rattle.board.specs.rules.Board.{noResponse, emptyBoard, liveCount, firstFree, liveIn, liveOf, wordOf, seatedAt, placed, cleared, findIn, findGtx, inserted, inSequence, lowestFrom, firstInSequence}
 use Rattle.board.specs.declared.Response.{Response}
 use Rattle.board.specs.declared.Board.{Board}
 
@@ -48,6 +48,15 @@ place-one = refl
 place-two : firstFree (placed some (gtx 20 5)) ≡ 4
 unfolding placed clearIn withBit
 place-two = refl
+
+-- any place may be named; at one past the end nothing happens
+seat-five : sequences (liveOf (seatedAt some 5 (gtx 20 5))) ≡ 9 ∷ 7 ∷ 12 ∷ 20 ∷ 7 ∷ []
+unfolding seatedAt liveIn withBit
+seat-five = refl
+
+seat-past : seatedAt some 64 (gtx 20 5) ≡ some
+unfolding seatedAt
+seat-past = refl
 
 clear-one : sequences (liveOf (cleared some 63)) ≡ 9 ∷ 7 ∷ 12 ∷ []
 unfolding liveIn withoutBit

@@ -2,38 +2,17 @@
 use mathlib.Core.Path.{_≡_, refl, sym, ap, _∙_}
 use mathlib.Core.Bool.{Bool, true, false, cond, _&&_, true≢false}
 use mathlib.Core.List.{List, [], _∷_}
-use mathlib.Core.Logic.{_⊎_, inl, inr, ⊎-elim}
-use borrow.Author.Tests.{eqb-true, eqb-false}
+use mathlib.Core.Logic.{⊎-elim}
 use Prim.Native.Nat.{ℕ, zero, suc, _/_, _%_, _≤_, _<_}
 use native.Mathlib.Nat.{not-suc-le-zero}
 use native.Mathlib.Omega.{arith}
 use lib.Dec.{eqb}
 use lib.ListN.{length, getD}
-use Rattle.words.specs.Bits.{bitAt, withoutBit}
-use Rattle.words.proofs.BitLaws.{bool-or, le-or-lt, bit-half, bit-low, without-other, Lowest}
-use Rattle.board.specs.Board.{findIn}
-
--- ---- two tests
-pub and-left : (a b : Bool) → (a && b) ≡ true → a ≡ true
-and-left true b e = refl
-and-left false b e = e
-
-pub and-right : (a b : Bool) → (a && b) ≡ true → b ≡ true
-and-right true b e = e
-and-right false b e = absurd (true≢false (sym e))
-
-pub and-both : {a b : Bool} → a ≡ true → b ≡ true → (a && b) ≡ true
-and-both p q = rw (p, q)
-
-pub and-no-left : {a : Bool} (b : Bool) → a ≡ false → (a && b) ≡ false
-and-no-left b p = rw p
-
-pub and-no-right : (a : Bool) {b : Bool} → b ≡ false → (a && b) ≡ false
-and-no-right true p = p
-and-no-right false p = refl
-
-pub eq-or : (j i : ℕ) → (j ≡ i) ⊎ (j ≡ i → ⊥)
-eq-or j i = ⊎-elim (λ e. inl (eqb-true j i e)) (λ e. inr (eqb-false j i e)) (bool-or (eqb j i))
+use Rattle.words.specs.rules.Bits.{bitAt, withoutBit}
+use Rattle.base.proofs.Bools.{bool-or, and-both, and-no-left, and-no-right}
+use Rattle.base.proofs.Numbers.{le-or-lt, eq-or}
+use Rattle.words.proofs.BitLaws.{bit-half, bit-low, without-other, LowestBit}
+use Rattle.board.specs.rules.Board.{findIn}
 
 module _ {A : Type 0} (t : A → Bool) where
   -- place j is looked for
@@ -101,7 +80,7 @@ module _ {A : Type 0} (t : A → Bool) where
       (le-or-lt (findIn t w ps) i)
 
   -- the search goes by what is looked for alone
-  pub find-same : (w v : ℕ) (ps qs : List A) (d : A) → length ps ≡ length qs → ((j : ℕ) → hit w ps d j ≡ hit v qs d j) → findIn t w ps ≡ findIn t v qs
+  find-same : (w v : ℕ) (ps qs : List A) (d : A) → length ps ≡ length qs → ((j : ℕ) → hit w ps d j ≡ hit v qs d j) → findIn t w ps ≡ findIn t v qs
   unfolding findIn
   find-same w v [] [] d l h = refl
   find-same w v [] (y ∷ qs) d l h = absurd (omega arith)
@@ -119,7 +98,7 @@ module _ {A : Type 0} (t : A → Bool) where
       (λ j. ⊎-elim (λ b. rw (h j b)) (λ b. and-no-left _ b ∙ sym (and-no-left _ b)) (bool-or (bitAt w j)))
 
   -- ---- a loop that looks at the lowest place of the word, and then at the rest
-  pub find-low : (w : ℕ) (ps : List A) (d : A) (i : ℕ) → i < length ps → Lowest w i → t (getD ps i d) ≡ true → findIn t w ps ≡ i
+  pub find-low : (w : ℕ) (ps : List A) (d : A) (i : ℕ) → i < length ps → LowestBit w i → t (getD ps i d) ≡ true → findIn t w ps ≡ i
   find-low w ps d i l low f = find-unique w ps d i l (and-both (low .set) f) (λ j h. and-no-left _ (low .none j h))
 
   pub find-rest : (w : ℕ) (ps : List A) (d : A) (i : ℕ) → t (getD ps i d) ≡ false → findIn t (withoutBit w i) ps ≡ findIn t w ps

@@ -10,16 +10,20 @@ use lib.Dec.{ltb}
 use lib.ListN.{length}
 use lib.Pow.{pow-pos}
 use borrow.Author.Tests.{lt-ltb, le-ltb, eqb-true, eq-eqb, ne-eqb}
-use Rattle.words.specs.Bits.{bitAt, withoutBit, setIn}
-use Rattle.words.proofs.BitLaws.{bool-or, le-or-lt, bit-or, bit-zero, bit-half, bit-low, no-bit, add-half, add-odd, cut-same, cut-back, without-set, without-not, without-in, without-other, set-is, some-set, Lowest}
-use Rattle.board.specs.Lists.{Every, Inserts}
-use Rattle.board.specs.Lists.Inserts.{here, there}
-use Rattle.board.specs.Board.{noResponse, responseAt, liveIn, inSequence, lowestFrom, lowest, bears, firstInSequence}
-use Rattle.board.specs.Theorems.{Earliest}
+use Rattle.words.specs.rules.Bits.{bitAt, withoutBit, trailingZeros}
+use Rattle.base.proofs.Bools.{bool-or}
+use Rattle.base.proofs.Numbers.{le-or-lt}
+use Rattle.words.proofs.BitLaws.{bit-or, bit-zero, bit-half, bit-low, no-bit, add-half, add-odd, cut-same, cut-back, without-set, without-not, without-in, without-other, set-is, some-set, LowestBit}
+use Rattle.base.specs.Lists.{Every, Inserts}
+use Rattle.base.specs.Lists.Inserts.{here, there}
+use Rattle.board.specs.rules.Board.{noResponse, responseAt, liveIn, inSequence, lowestFrom, lowest, bears, firstInSequence}
+use Rattle.board.specs.promises.Board.{Earliest}
 use Rattle.board.specs.declared.Response.{Response}
-use Rattle.board.proofs.ListLaws.{every-inserts}
+use Rattle.base.proofs.ListLaws.{every-inserts}
 use Rattle.board.proofs.LiveLaws.{dead-step, live-step, live-every, less-live}
-use Rattle.board.proofs.FindLaws.{hit, and-left, and-right, and-both, and-no-left, and-no-right, eq-or, find-is, find-first, find-unique, find-none}
+use Rattle.board.proofs.FindLaws.{hit, find-is, find-first, find-unique, find-none}
+use Rattle.base.proofs.Bools.{and-left, and-right, and-both, and-no-left, and-no-right}
+use Rattle.base.proofs.Numbers.{eq-or}
 use Rattle.board.proofs.SequenceLaws.{From, Leads, leads-sequence}
 use Rattle.board.proofs.SequenceLaws.Leads.{first, later}
 
@@ -34,17 +38,17 @@ unfolding lowestFrom
 from-most n m [] h e = h
 from-most n m (x ∷ xs) h e = from-most n (min m (x .sequence)) xs (omega (arith, e .0)) (e .1)
 
-pub lowest-le : (xs : List Response) → From (lowest xs) xs
+lowest-le : (xs : List Response) → From (lowest xs) xs
 lowest-le [] = tt
 lowest-le (x ∷ xs) = from-le (x .sequence) xs
 
 -- the greatest number that is no higher than any, where there is one
-pub lowest-most : {r : Response} {xs ys : List Response} → Inserts r xs ys → (n : ℕ) → From n ys → n ≤ lowest ys
+lowest-most : {r : Response} {xs ys : List Response} → Inserts r xs ys → (n : ℕ) → From n ys → n ≤ lowest ys
 lowest-most {r} (here {xs = xs}) n e = from-most n (r .sequence) xs (e .0) (e .1)
 lowest-most (there {x = x} {ys = ys} i) n e = from-most n (x .sequence) ys (e .0) (e .1)
 
 -- one of them bears it
-pub lowest-borne : {r : Response} {xs ys : List Response} → Inserts r xs ys → Every (λ (y : Response). y .sequence ≡ lowest ys → ⊥) ys → ⊥
+lowest-borne : {r : Response} {xs ys : List Response} → Inserts r xs ys → Every (λ (y : Response). y .sequence ≡ lowest ys → ⊥) ys → ⊥
 lowest-borne {ys = ys} i e = omega (arith, lowest-most i (suc (lowest ys)) (both ys (lowest ys) e (lowest-le ys)))
   where
     both : (ys : List Response) (n : ℕ) → Every (λ (y : Response). y .sequence ≡ n → ⊥) ys → From n ys → From (suc n) ys
@@ -139,7 +143,7 @@ module _ (ps : List Response) (w : ℕ) where
   -- there is one where the word is not 0
   pub some-first : 0 < w → w < 2 ^ length ps → firstInSequence ps w < length ps
   some-first p h =
-      let k = setIn (length ps) w in
+      let k = trailingZeros (length ps) w in
       let l = some-set (length ps) w p h in
       ⊎-elim
       (λ le.
@@ -175,7 +179,7 @@ best-end ps w best s =
     })
 
 -- a turn: i is the lowest place still to come
-module _ (ps : List Response) (rest i : ℕ) (l : i < length ps) (low : Lowest rest i) where
+module _ (ps : List Response) (rest i : ℕ) (l : i < length ps) (low : LowestBit rest i) where
   -- what comes after it is above it
   above : (j : ℕ) → bitAt (withoutBit rest i) j ≡ true → i < j
   above j t =

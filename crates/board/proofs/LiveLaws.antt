@@ -10,12 +10,12 @@ use lib.Dec.{eqb}
 use lib.ListN.{length, getD, set}
 use lib.Pow.{pow-pos}
 use borrow.Author.Tests.{eq-eqb, ne-eqb}
-use Rattle.words.specs.Bits.{bitAt, withBit, withoutBit, onesIn}
-use Rattle.words.proofs.BitLaws.{bit-or, bit-zero, bit-half, bit-low, no-bit, add-half, add-odd, cut-same, cut-back, with-clear, with-other, without-set, without-not, without-in, without-other, Lowest}
-use Rattle.board.specs.Lists.{keep, filter, Every, Inserts}
-use Rattle.board.specs.Lists.Inserts.{here, there}
-use Rattle.board.specs.Board.{liveIn, wordOf}
-use Rattle.board.proofs.ListLaws.{filter-keep}
+use Rattle.words.specs.rules.Bits.{bitAt, withBit, withoutBit, onesIn}
+use Rattle.words.proofs.BitLaws.{bit-or, bit-zero, bit-half, bit-low, no-bit, add-half, add-odd, cut-same, cut-back, with-clear, with-other, without-set, without-not, without-in, without-other, LowestBit}
+use Rattle.base.specs.Lists.{keep, filter, Every, Inserts}
+use Rattle.base.specs.Lists.Inserts.{here, there}
+use Rattle.board.specs.rules.Board.{liveIn, wordOf}
+use Rattle.base.proofs.ListLaws.{filter-keep}
 
 low-bit : (w : ℕ) → w % 2 ≡ 1 → bitAt w 0 ≡ true
 low-bit w e = bit-low w ∙ eq-eqb (w % 2) 1 e
@@ -103,7 +103,7 @@ module _ {A : Type 0} where
       let ih = first-more (w / 2) i ps d (le-of-suc-le-suc l) (bit-half w i ∙ h) (λ j m. bit-half w j ∙ none (suc j) (omega arith)) in
       rw (dead-step w p ps z, dead-step (w + 2 ^ suc i) p ps (add-odd w i ∙ z), add-half) ih
 
-  pub first-live : (w i : ℕ) (ps : List A) (d : A) → i < length ps → Lowest w i → liveIn w ps ≡ getD ps i d ∷ liveIn (withoutBit w i) ps
+  pub first-live : (w i : ℕ) (ps : List A) (d : A) → i < length ps → LowestBit w i → liveIn w ps ≡ getD ps i d ∷ liveIn (withoutBit w i) ps
   first-live w i ps d l low =
       let t = low .set in
       let f = first-more (w - 2 ^ i) i ps d l (cut-same w i t) none in
@@ -131,7 +131,7 @@ module _ {A : Type 0} (t : A → Bool) where
       let b = eqb (w % 2) 1 in
       rw (digit (b && t x) n, halves (b && t x) n, word-filters (w / 2) ps) (sym (filter-keep t b x (liveIn (w / 2) ps)))
 
-  pub word-none : (ps : List A) → wordOf t 0 ps ≡ 0
+  word-none : (ps : List A) → wordOf t 0 ps ≡ 0
   unfolding wordOf
   word-none [] = refl
   word-none (x ∷ ps) = rw (word-none ps)
@@ -141,7 +141,7 @@ module _ {A : Type 0} (t : A → Bool) where
   word-cons w x ps b e = rw e
 
   -- a place more adds its bit, where it passes
-  pub more-word : (w i : ℕ) (ps : List A) (d : A) → i < length ps → bitAt w i ≡ false → wordOf t (w + 2 ^ i) ps ≡ cond (t (getD ps i d)) (2 ^ i) 0 + wordOf t w ps
+  more-word : (w i : ℕ) (ps : List A) (d : A) → i < length ps → bitAt w i ≡ false → wordOf t (w + 2 ^ i) ps ≡ cond (t (getD ps i d)) (2 ^ i) 0 + wordOf t w ps
   more-word w i [] d l h = absurd (not-suc-le-zero l)
   more-word w zero (p ∷ ps) d l h =
       let e = bit-zero w 0 h in

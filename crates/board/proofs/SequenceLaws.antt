@@ -6,14 +6,15 @@ use mathlib.Core.Logic.{⊎-elim}
 use Prim.Native.Nat.{ℕ, _≤_, _<_}
 use native.Mathlib.Omega.{arith}
 use borrow.Author.Tests.{le-leb, lt-leb, eqb-true}
-use Rattle.words.proofs.BitLaws.{bool-or, le-or-lt}
-use Rattle.board.specs.Lists.{filter, Every, Inserts, Shuffles}
-use Rattle.board.specs.Lists.Inserts.{here, there}
-use Rattle.board.specs.Lists.Shuffles.{none, more}
-use Rattle.board.specs.Board.{inserted, inSequence, bears}
-use Rattle.board.specs.Theorems.{RisingFrom}
+use Rattle.base.proofs.Bools.{bool-or}
+use Rattle.base.proofs.Numbers.{le-or-lt}
+use Rattle.base.specs.Lists.{filter, Every, Inserts, Shuffles}
+use Rattle.base.specs.Lists.Inserts.{here, there}
+use Rattle.base.specs.Lists.Shuffles.{none, more}
+use Rattle.board.specs.rules.Board.{inserted, inSequence, bears}
+use Rattle.board.specs.promises.Board.{RisingFrom}
 use Rattle.board.specs.declared.Response.{Response}
-use Rattle.board.proofs.ListLaws.{filter-pass, filter-fail, inserts-fail, shuffles-every}
+use Rattle.base.proofs.ListLaws.{filter-pass, filter-fail, inserts-fail, shuffles-every}
 
 -- ---- one response in front of the first that has no lower sequence
 pub inserted-low : (r x : Response) (xs : List Response) → r .sequence ≤ x .sequence → inserted r (x ∷ xs) ≡ r ∷ x ∷ xs
@@ -24,7 +25,7 @@ pub inserted-high : (r x : Response) (xs : List Response) → x .sequence < r .s
 unfolding inserted
 inserted-high r x xs h = rw (lt-leb (r .sequence) (x .sequence) h)
 
-pub inserted-is : (r : Response) (xs : List Response) → Inserts r xs (inserted r xs)
+inserted-is : (r : Response) (xs : List Response) → Inserts r xs (inserted r xs)
 unfolding inserted
 inserted-is r [] = here
 inserted-is r (x ∷ xs) =
@@ -84,7 +85,7 @@ sequence-shuffles [] = none
 sequence-shuffles (x ∷ xs) = more (sequence-shuffles xs) (inserted-is x (inSequence xs))
 
 -- a list that rises stays
-pub rising-stays : (m : ℕ) (xs : List Response) → RisingFrom m xs → inSequence xs ≡ xs
+rising-stays : (m : ℕ) (xs : List Response) → RisingFrom m xs → inSequence xs ≡ xs
 unfolding inSequence
 rising-stays m [] r = refl
 rising-stays m (x ∷ xs) r =

@@ -1,6 +1,6 @@
 -- Each public function's contract settles it. What is cited is made from the code's own clauses, so a clause that says less is refused here.
 use mathlib.Core.Path.{refl, sym, _∙_}
-use Rattle.words.specs.Settled.{Settled}
+use Rattle.base.specs.Settled.{Settled}
 use Rattle.board.proofs as contracts
 
 pub empty : Settled contracts.empty.ended contracts.empty.Reads.Asked contracts.empty.Reads.Learnt
@@ -15,8 +15,8 @@ live-count κs a = (tt, λ y z v w p q. (p ∙ sym q, refl))
 pub first-free : Settled contracts.first_free.ended contracts.first_free.Reads.Asked contracts.first_free.Reads.Learnt
 first-free κs a = (tt, λ y z v w p q. (p ∙ sym q, refl))
 
-pub place : Settled contracts.place.ended contracts.place.Reads.Asked contracts.place.Reads.Learnt
-place κs a = (tt, λ y z v w p q. (p ∙ sym q, refl))
+pub seated : Settled contracts.seated.ended contracts.seated.Reads.Asked contracts.seated.Reads.Learnt
+seated κs a = (tt, λ y z v w p q. (p ∙ sym q, refl))
 
 pub clear : Settled contracts.clear.ended contracts.clear.Reads.Asked contracts.clear.Reads.Learnt
 clear κs a = (tt, λ y z v w p q. (p ∙ sym q, refl))
@@ -26,3 +26,6 @@ find-gtx κs a = (tt, λ y z v w p q. (p ∙ sym q, refl))
 
 pub sooner : Settled contracts.sooner.ended contracts.sooner.Reads.Asked contracts.sooner.Reads.Learnt
 sooner κs a = (tt, λ y z v w p q. (p ∙ sym q, refl))
+
+pub response-at : Settled contracts.response_at.ended contracts.response_at.Reads.Asked contracts.response_at.Reads.Learnt
+response-at κs a = (tt, λ y z v w p q. (p ∙ sym q, refl))

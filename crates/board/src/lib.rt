@@ -2,7 +2,7 @@
 ghost use mathlib.Core.Path.{_≡_};
 ghost use mathlib.Core.Bool.{cond};
 ghost use lib.Dec.{ltb};
-ghost use Rattle.board.specs.Board.{emptyBoard, isLive, liveCount, firstFree, placed, cleared, isGtx, findGtx};
+ghost use Rattle.board.specs.rules.Board.{noResponse, responseAt, emptyBoard, isLive, liveCount, firstFree, seatedAt, cleared, isGtx, findGtx};
 use words::bits;
 
 // A response that stands on the board: a GTX response, or a limit order.
@@ -20,18 +20,24 @@ pub struct Board {
     pub live: u64,
 }
 
-// The board with no live place.
-pub fn empty() -> Board
-    ensures { λ r. ⌜ r ≡ emptyBoard ⌝ }
+// What stands where no response was ever placed.
+fn no_response() -> Response
+    ensures { λ r. ⌜ r ≡ noResponse ⌝ }
 {
-    let none = Response {
+    Response {
         sequence: 0,
         size: 0,
         price: 0,
         customer: false,
         gtx: false,
-    };
-    let places = [none; 64];
+    }
+}
+
+// The board with no live place.
+pub fn empty() -> Board
+    ensures { λ r. ⌜ r ≡ emptyBoard ⌝ }
+{
+    let places = [no_response(); 64];
     Board { places, live: 0 }
 }
 
@@ -56,17 +62,16 @@ pub fn first_free(b: Board) -> u32
     bits::first_clear(b.live)
 }
 
-// A response takes the lowest free place. Where none is free the board stays.
-pub fn place(b: Board, r: Response) -> Board
-    ensures { λ n. ⌜ n ≡ placed b r ⌝ }
+// A response at a place, live. Where there is no such place the board stays.
+pub fn seated(b: Board, at: usize, r: Response) -> Board
+    ensures { λ n. ⌜ n ≡ seatedAt b at r ⌝ }
 {
-    let i = first_free(b) as usize;
-    if 64 <= i {
+    if 64 <= at {
         return b;
     }
     let mut n = b;
-    n.places[i] = r;
-    n.live = bits::with_bit(n.live, i);
+    n.places[at] = r;
+    n.live = bits::with_bit(n.live, at);
     n
 }
 
@@ -96,7 +101,7 @@ pub fn find_gtx(b: Board, sequence: u32) -> usize
         if is_gtx(b.places[i], sequence) {
             return i;
         }
-        rest = bits::without_bit(rest, i);
+        rest = bits::without_lowest(rest);
     }
     64
 }
@@ -106,4 +111,14 @@ pub fn sooner(s: u32, i: usize, t: u32, j: usize) -> usize
     ensures { λ r. ⌜ r ≡ cond (ltb t s) j i ⌝ }
 {
     if t < s { j } else { i }
+}
+
+// What stands at place i; past the last place, what stands where no response was ever placed.
+pub fn response_at(b: Board, i: usize) -> Response
+    ensures { λ r. ⌜ r ≡ responseAt (b .places) i ⌝ }
+{
+    if i < 64 {
+        return b.places[i];
+    }
+    no_response()
 }

@@ -12,7 +12,6 @@ use libc::STDIN_FILENO;
 use libc::STDOUT_FILENO;
 use tape::Opened;
 use tape::Order;
-use tape::ReadEvent;
 use tape::ReadOrder;
 use tape::Trailer;
 ghost use mathlib.Core.Path.{_≡_};
@@ -50,7 +49,7 @@ fn print_field(word: &[u8], n: u32) -> bool {
 // ---- where the auction stands
 
 fn print_range(a: Auction) -> bool {
-    let r = auction::price_range(a);
+    let r = auction::price_range(a.head);
     if !print_field(b" range ", r.low) {
         return false;
     }
@@ -70,7 +69,7 @@ fn print_standing(b: Board) -> bool {
     let mut i = 0;
     while i < 64 {
         if board::is_live(b, i) {
-            let r = b.places[i];
+            let r = board::response_at(b, i);
             if !print_response(r.sequence, r.size) {
                 return false;
             }
@@ -106,36 +105,23 @@ fn print_refused(number: u32) -> bool {
 
 // ---- the records
 
-// The auction after an event record; one that can't be read changes nothing.
-fn after(a: Auction, r: ReadEvent) -> Auction {
-    match r {
-        ReadEvent::Event(e) => {
-            let s = auction::step(a, e);
-            s.auction
-        }
-        ReadEvent::Refused(_) => a,
-    }
-}
-
-fn order_of(tape: &[u8], t: Trailer) -> ReadOrder {
-    tape::order_at(tape, t.order as usize)
-}
-
-fn record_of(tape: &[u8], t: Trailer, k: u32) -> ReadEvent {
-    tape::event_at(tape, t.order as usize, k as usize)
+// The auction after an event record.
+fn after(a: Auction, tape: &[u8], t: Trailer, k: u32) -> Auction {
+    let s = events::step(a, tape::record_in(tape, t, k as usize));
+    s.auction
 }
 
 fn trace_events(tape: &[u8], t: Trailer, opened: Auction) -> bool {
     let mut a = opened;
     let mut k = 0;
     while k < t.events {
-        a = after(a, record_of(tape, t, k));
+        a = after(a, tape, t, k);
         if !print_auction(b"RECORD", a) {
             return false;
         }
         k += 1;
     }
-    let c = auction::close(a);
+    let c = events::close(a);
     print_auction(b"CLOSE", c.auction)
 }
 
@@ -155,7 +141,7 @@ fn trace_order(tape: &[u8], t: Trailer, o: Order) -> bool {
 }
 
 fn trace_tape(tape: &[u8], t: Trailer) -> bool {
-    match order_of(tape, t) {
+    match tape::order_in(tape, t) {
         ReadOrder::Order(o) => trace_order(tape, t, o),
         ReadOrder::Refused(number) => print_refused(number),
     }

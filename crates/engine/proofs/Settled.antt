@@ -1,6 +1,6 @@
 -- The exported function's contract settles it: the length, and every lent byte. What is cited is made from the code's own clauses, so a clause that says less is refused here.
 use mathlib.Core.Path.{sym, _∙_, ap}
-use Rattle.words.specs.Settled.{Settled}
+use Rattle.base.specs.Settled.{Settled}
 use Rattle.engine.proofs as contracts
 
 pub cube-listing : Settled contracts.cube_listing.ended contracts.cube_listing.Reads.Asked contracts.cube_listing.Reads.Learnt

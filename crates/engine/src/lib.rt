@@ -1,6 +1,6 @@
 // The engine for a program in C: one function over a tape's bytes and the bytes lent for its listing.
 ghost use mathlib.Core.Path.{_≡_};
-ghost use Rattle.listing.specs.Listing.{lengthIn, listedOf, bytesOf};
+ghost use Rattle.listing.specs.rules.Listing.{lengthIn, listedOf, bytesOf};
 
 // The length of the listing, which stands at the start of the lent bytes; 0 where they are fewer than listing::ROOM, and nothing is written then.
 #[no_mangle]

@@ -10,9 +10,9 @@ use borrow.Author.Tests.{ne-eqb, eqb-true}
 use lib.Dec.{eqb}
 use lib.ListN.{length, set, length-append, length-set}
 use lib.Seq.{sets}
-use Rattle.listing.specs.Text.{digit, digits, decimal}
-use Rattle.listing.specs.Demands.{valueFrom}
-use Rattle.listing.proofs.WroteLaws.{sets-append, sets-set}
+use Rattle.listing.specs.rules.Text.{digit, digits, decimal}
+use Rattle.listing.specs.promises.Demands.{valueFrom}
+use Rattle.base.proofs.SetsLaws.{sets-append, sets-set}
 
 digits-none : (k : ℕ) → digits k 0 ≡ []
 unfolding digits

@@ -2,29 +2,18 @@
 use mathlib.Core.Path.{_≡_, refl}
 use mathlib.Core.List.{List, []}
 use Prim.Native.Nat.{ℕ}
-use Rattle.words.specs.Bits.{withBit, withoutBit, onesIn, clearIn, setIn}
-use Rattle.words.specs.Bytes.{wordAt}
-use Rattle.tape.specs.Form.{orderTests, orderFormed, shapeOf, shapeTests, eventFormed}
-use Rattle.tape.specs.Records.{orderWords, orderOf, orderSpare, readOrder, eventWords, eventOf, eventSpare, readEvent, trailerWords, trailerOf, readTrailer}
-use Rattle.tape.specs.Tape.{openTape, tapeOf}
-use Rattle.board.specs.Lists.{filter, sum}
-use Rattle.board.specs.Board.{emptyBoard, liveIn, placed, findIn, inserted, inSequence}
-use Rattle.share.specs.Share.{shares}
-use Rattle.trade.specs.Trade.{levelFills, top, entry, next, guaranteeOf, offersAt, matches, isFinal, wants, levelAt, walk, marketPrice, levels, fills}
-use Rattle.trade.specs.Write.{fillsOf}
-use Rattle.auction.specs.Mirror.{mirrored, mirroredMarks, mirroredSide, mirroredOrder, mirroredPriced, mirroredMarket, mirroredQuotes, mirroredEvent, buyOrder, buyEvent}
-use Rattle.auction.specs.Accept.{initiatingOf, tickOf, boundOf, guaranteedOf, rangeRefusal, buyRefusal, orderRefusal, termsOf, quotesOf, openedBy, noAuction, acceptOf}
-use Rattle.auction.specs.Step.{eventRefusal, gtxOutcome, cancelOutcome, sellLimitOutcome, bidQuotes, buyLimitOutcome, limitOutcome, marketOutcome, newQuotes, quotesOutcome, outcomeOf, after, endedByTime, stepOf, closeOf}
-use Rattle.auction.specs.Fills.{boundNow, rangeOf, dealOf}
-use Rattle.listing.specs.Text.{digits, decimal}
-use Rattle.listing.specs.Run.{answers, heardAll, runOf}
-use Rattle.listing.specs.Listing.{refusedLine, rangeText, auctionLine, answerText, eventLine, endText, endLine, partyText, fillLine, totalLine, endLines, listingOf}
-use Rattle.listing.specs.Text.{text}
-use Rattle.listing.specs.Demands.{tapeC, listingC, tapeE, listingE}
+use Rattle.words.specs.rules.Bytes.{wordAt}
+use Rattle.tape.specs.rules.Records.{orderWords, orderOf, orderSpare, readOrder, eventWords, eventOf, eventSpare, recordAt, trailerWords, trailerOf, readTrailer}
+use Rattle.tape.specs.rules.Tape.{openTape, orderIn, recordIn, recordsFrom, recordsOf, tapeOf}
+use Rattle.run.specs.rules.Run.{runOf}
+use Rattle.run.proofs.Figures.{Computed}
+use Rattle.listing.specs.rules.Text.{text, digits, decimal}
+use Rattle.listing.specs.rules.Listing.{refusedLine, rangeText, auctionLine, answerText, eventLine, endText, endLine, partyText, fillLine, totalLine, endLines, listingOf}
+use Rattle.listing.specs.promises.Demands.{tapeC, listingC, tapeE, listingE}
 
 -- a tape and its listing
 abbrev Shows : List ℕ → List ℕ → Type 0
-unfolding withBit withoutBit onesIn clearIn setIn wordAt orderTests orderFormed shapeOf shapeTests eventFormed orderWords orderOf orderSpare readOrder eventWords eventOf eventSpare readEvent trailerWords trailerOf readTrailer openTape tapeOf filter sum emptyBoard liveIn placed findIn inserted inSequence shares levelFills top entry next guaranteeOf offersAt matches isFinal wants levelAt walk marketPrice levels fills fillsOf mirrored mirroredMarks mirroredSide mirroredOrder mirroredPriced mirroredMarket mirroredQuotes mirroredEvent buyOrder buyEvent initiatingOf tickOf boundOf guaranteedOf rangeRefusal buyRefusal orderRefusal termsOf quotesOf openedBy noAuction acceptOf eventRefusal gtxOutcome cancelOutcome sellLimitOutcome bidQuotes buyLimitOutcome limitOutcome marketOutcome newQuotes quotesOutcome outcomeOf after endedByTime stepOf closeOf boundNow rangeOf dealOf digits decimal answers heardAll runOf refusedLine rangeText auctionLine answerText eventLine endText endLine partyText fillLine totalLine endLines listingOf
+unfolding Computed wordAt orderWords orderOf orderSpare readOrder eventWords eventOf eventSpare recordAt trailerWords trailerOf readTrailer openTape orderIn recordIn recordsFrom recordsOf tapeOf runOf digits decimal refusedLine rangeText auctionLine answerText eventLine endText endLine partyText fillLine totalLine endLines listingOf
 Shows tape t = listingOf tape ≡ t
 
 pub case-c : listingOf tapeC ≡ listingC

@@ -2,48 +2,44 @@
 use mathlib.Core.Path.{_≡_, refl, ap, _∙_}
 use mathlib.Core.Bool.{Bool, true, false, cond}
 use mathlib.Core.List.{List, [], _∷_, _++_}
-use Prim.Native.Nat.{ℕ, zero, suc, _+_, _*_, _≤_}
+use Prim.Native.Nat.{ℕ, suc, _+_, _*_, _≤_}
 use Prim.Native.String.{String}
 use native.Mathlib.Omega.{arith}
-use lib.Dec.{eqb, leb, ltb}
-use lib.ListN.{length, drop, set, length-append, length-set}
-use Rattle.words.specs.Bits.{withBit}
+use lib.Dec.{eqb, ltb}
+use lib.ListN.{length, length-append, length-set}
 use Rattle.board.specs.declared.Board.{Board}
-use Rattle.board.specs.Board.{emptyBoard, firstFree, placed, findGtx}
-use Rattle.share.specs.Fills.{Fill}
-use Rattle.tape.specs.declared.Event.{Event}
-use Rattle.tape.specs.declared.Order.{Order}
-use Rattle.tape.specs.declared.Opened.{Opened}
-use Rattle.tape.specs.declared.Opened.the-variants.{Tape, Refused as NoTape}
-use Rattle.tape.specs.declared.ReadOrder.{ReadOrder}
-use Rattle.tape.specs.declared.ReadOrder.the-variants.{Order as GotOrder, Refused as NoOrder}
-use Rattle.tape.specs.declared.ReadEvent.{ReadEvent}
-use Rattle.tape.specs.declared.ReadEvent.the-variants.{Event as GotEvent, Refused as NoEvent}
-use Rattle.tape.specs.Records.{readEvent, readOrder}
-use Rattle.tape.specs.Tape.{openTape, eventPlace}
-use Rattle.trade.specs.Trade.{total}
+use Rattle.board.specs.rules.Board.{emptyBoard, seatedAt}
+use Rattle.share.specs.rules.Fills.{Fill}
+use Rattle.tape.specs.declared.event.Event.{Event}
+use Rattle.tape.specs.declared.order.Order.{Order}
+use Rattle.tape.specs.declared.trailer.Opened.{Opened}
+use Rattle.tape.specs.declared.trailer.Opened.the-variants.{Tape, Refused as NoTape}
+use Rattle.tape.specs.declared.order.ReadOrder.{ReadOrder}
+use Rattle.tape.specs.declared.order.ReadOrder.the-variants.{Order as GotOrder, Refused as NoOrder}
+use Rattle.tape.specs.rules.Tape.{openTape, orderIn, recordsOf}
+use Rattle.tape.proofs.HoldsLaws.{records-length}
+use Rattle.trade.specs.rules.Trade.{traded}
 use Rattle.trade.proofs.WholeLaws.{fills-few}
 use Rattle.auction.specs.declared.Auction.{Auction}
-use Rattle.auction.specs.declared.Answer.{Answer}
-use Rattle.auction.specs.declared.Answer.the-variants.{Taken, Ended, Late, Refused}
+use Rattle.auction.specs.declared.Head.{Head}
+use Rattle.base.proofs.Bools.{by}
+use Rattle.events.specs.declared.Answer.{Answer}
+use Rattle.events.specs.declared.Answer.the-variants.{Taken, Ended, Late, Refused}
 use Rattle.auction.specs.declared.Ending.{Ending}
 use Rattle.auction.specs.declared.Ending.the-variants.{Open, Time, Same, Opposite, Improve}
 use Rattle.auction.specs.declared.Entry.{Entry}
 use Rattle.auction.specs.declared.Entry.the-variants.{Accepted, Refused as NoEntry}
 use Rattle.auction.specs.declared.Range.{Range}
-use Rattle.auction.specs.declared.Stepped.{Stepped}
-use Rattle.auction.specs.declared.Change.{Change}
-use Rattle.auction.specs.declared.Change.the-variants.{Nothing, Place, Clear, Quote, Sell}
-use Rattle.auction.specs.declared.Outcome.{Outcome}
-use Rattle.auction.specs.declared.Outcome.the-variants.{Refuses, Does}
+use Rattle.events.specs.declared.Change.{Change}
+use Rattle.events.specs.declared.Change.the-variants.{Nothing, Seat, Free, Quote, Sell}
 use Rattle.auction.specs.declared.Opening.{Opening}
-use Rattle.auction.specs.Mirror.{buyOrder, buyEvent}
-use Rattle.auction.specs.Accept.{orderRefusal, openedBy, noAuction, acceptOf}
-use Rattle.auction.specs.Step.{isOpen, eventRefusal, boardAfter, after, endedByTime, gives, carried, isFull, outcomeOf, inTime, stepOf, closeOf}
-use Rattle.auction.specs.Fills.{rangeOf, dealOf, auctionFills}
-use Rattle.listing.specs.Text.{text, decimal, newline}
-use Rattle.listing.specs.Run.{Said, heard, answers, heardAll, refused, closed, runEntry, runOrder, runTape, runOf}
-use Rattle.listing.specs.Listing.{field, refusedLine, rangeText, sideText, auctionLine, answerText, eventLine, endText, endLine, partyText, fillLine, totalLine, eventLines, fillLines, endLines, linesOf, listingOf, roomOf}
+use Rattle.auction.specs.rules.Accept.{orderRefusal, openedBy, noAuction, acceptOf}
+use Rattle.events.specs.rules.Step.{sightOf, boardAfter, turnOf, closeTurn, stepOf}
+use Rattle.auction.specs.rules.Range.{rangeOf}
+use Rattle.fills.specs.rules.Fills.{dealOf, auctionFills}
+use Rattle.listing.specs.rules.Text.{text, decimal, newline}
+use Rattle.run.specs.rules.Run.{Said, run, heard, refused, closed, runEntry, runOrder, runTape, runOf}
+use Rattle.listing.specs.rules.Listing.{field, refusedLine, rangeText, sideText, auctionLine, answerText, eventLine, endText, endLine, partyText, fillLine, totalLine, eventLines, fillLines, endLines, linesOf, listingOf, roomOf}
 use Rattle.listing.proofs.DecimalLaws.{decimal-short}
 use Rattle.listing.proofs.RunLaws.{tape-fits}
 
@@ -70,11 +66,11 @@ side-short : (b : Bool) → length (sideText b) ≤ 12
 side-short true = omega arith
 side-short false = omega arith
 
-auction-short : (a : Auction) → length (auctionLine a) ≤ 90
+auction-short : (h : Head) → length (auctionLine h) ≤ 90
 unfolding auctionLine
-auction-short a =
-    then-short 12 78 (sideText (a .terms .sell)) (field " size " (a .terms .size) ++ rangeText (rangeOf a)) (side-short (a .terms .sell))
-    (then-short 26 52 (field " size " (a .terms .size)) (rangeText (rangeOf a)) (field-short " size " (a .terms .size)) (range-short (rangeOf a)))
+auction-short h =
+    then-short 12 78 (sideText (h .terms .sell)) (field " size " (h .terms .size) ++ rangeText (rangeOf h)) (side-short (h .terms .sell))
+    (then-short 26 52 (field " size " (h .terms .size)) (rangeText (rangeOf h)) (field-short " size " (h .terms .size)) (range-short (rangeOf h)))
 
 answer-short : (r : Answer) → length (answerText r) ≤ 30
 unfolding answerText
@@ -95,9 +91,9 @@ ending-short Same = omega arith
 ending-short Opposite = omega arith
 ending-short Improve = omega arith
 
-end-short : (a : Auction) → length (endLine a) ≤ 64
+end-short : (h : Head) → length (endLine h) ≤ 64
 unfolding endLine
-end-short a = then-short 12 52 (endText (a .ending)) (rangeText (rangeOf a)) (ending-short (a .ending)) (range-short (rangeOf a))
+end-short h = then-short 12 52 (endText (h .ending)) (rangeText (rangeOf h)) (ending-short (h .ending)) (range-short (rangeOf h))
 
 party-short : (p : ℕ) → length (partyText p) ≤ 25
 unfolding partyText
@@ -126,12 +122,11 @@ fills-short : (fs : List Fill) → length (fillLines fs) ≤ 68 * length fs
 fills-short [] = omega arith
 fills-short (f ∷ fs) = omega (arith, length-append (fillLine f) (fillLines fs), fill-short f, fills-short fs)
 
--- ---- the records
+-- ---- the events
 
-answers-length : (n : ℕ) (s : List ℕ) (a : Auction) → length (answers n s a) ≡ n
-unfolding answers
-answers-length zero s a = refl
-answers-length (suc n) s a = ap suc (answers-length n (drop 32 s) (heard a (readEvent s) .auction))
+heard-length : (es : List Event) (a : Auction) → length (heard a es) ≡ length es
+heard-length [] a = refl
+heard-length (e ∷ es) a = ap suc (heard-length es (stepOf a e .auction))
 
 -- ---- a board keeps its 64 places
 
@@ -139,56 +134,23 @@ abbrev places : Auction → ℕ
 places a = length (a .board .places)
 
 board-kept : (b : Board) (c : Change) → length (boardAfter b c .places) ≡ length (b .places)
-unfolding placed
+unfolding seatedAt
 board-kept b Nothing = refl
-board-kept b (Place r) = go (ltb (firstFree b) 64)
-  where
-    go : (t : Bool) → length (cond t (record { places = set (b .places) (firstFree b) r; live = withBit (b .live) (firstFree b) }) b .places) ≡ length (b .places)
-    go true = length-set (b .places) (firstFree b) r
-    go false = refl
-board-kept b (Clear i) = refl
+board-kept b (Seat i r) = by (λ (x : Board). length (x .places) ≡ length (b .places)) (ltb i 64) _ _ (λ _. length-set (b .places) i r) (λ _. refl)
+board-kept b (Free i) = refl
 board-kept b (Quote q) = refl
 board-kept b (Sell m) = refl
 
-carried-kept : (a : Auction) (e : Event) (o : Outcome) → places (carried a e o .auction) ≡ places a
-unfolding after
-carried-kept a e (Refuses n) = refl
-carried-kept a e (Does c g) = board-kept (a .board) c
-
--- one of two
-either : (n : ℕ) (t : Bool) (x y : Stepped) → places (x .auction) ≡ n → places (y .auction) ≡ n → places (cond t x y .auction) ≡ n
-either n true x y p q = p
-either n false x y p q = q
-
-step-kept : (a : Auction) (e : Event) → places (stepOf a e .auction) ≡ places a
-unfolding stepOf endedByTime
-step-kept a e =
-    either (places a) (eqb (eventRefusal (a .ending) (a .sequence) (a .clock) e) 0)
-    (cond (leb (a .terms .interval) (e .time)) (gives Late (endedByTime a)) (inTime a e))
-    (gives (Refused (eventRefusal (a .ending) (a .sequence) (a .clock) e)) a)
-    (either (places a) (leb (a .terms .interval) (e .time)) (gives Late (endedByTime a)) (inTime a e) refl (carried-kept a e (outcomeOf (a .terms) (a .quotes) (isFull (a .board)) (findGtx (a .board) (e .f12)) (buyEvent (a .terms .sell) e))))
-    refl
-
-heard-kept : (a : Auction) (r : ReadEvent) → places (heard a r .auction) ≡ places a
-heard-kept a (GotEvent e) = step-kept a e
-heard-kept a (NoEvent n) = refl
-
-all-kept : (n : ℕ) (s : List ℕ) (a : Auction) → places (heardAll n s a) ≡ places a
-unfolding heardAll
-all-kept zero s a = refl
-all-kept (suc n) s a = all-kept n (drop 32 s) (heard a (readEvent s) .auction) ∙ heard-kept a (readEvent s)
+run-kept : (es : List Event) (a : Auction) → places (run a es) ≡ places a
+run-kept [] a = refl
+run-kept (e ∷ es) a = run-kept es (stepOf a e .auction) ∙ board-kept (a .board) (turnOf (a .head) (sightOf (a .board) e) e .change)
 
 closed-kept : (a : Auction) → places (closed a) ≡ places a
-unfolding closeOf endedByTime
-closed-kept a = either (places a) (isOpen (a .ending)) (gives Late (endedByTime a)) (gives (Refused 31) a) refl refl
+closed-kept a = board-kept (a .board) (closeTurn (a .head) .change)
 
 accept-places : (o : Order) → places (acceptOf o .auction) ≡ 64
 unfolding acceptOf openedBy noAuction emptyBoard
-accept-places o = go (eqb (orderRefusal o) 0)
-  where
-    go : (t : Bool) → places (cond {A = Opening} t (record { answer = Accepted; auction = openedBy (eqb (o .side) 2) (buyOrder o) }) (record { answer = NoEntry (orderRefusal o); auction = noAuction }) .auction) ≡ 64
-    go true = refl
-    go false = refl
+accept-places o = by (λ (p : Opening). places (p .auction) ≡ 64) (eqb (orderRefusal o) 0) _ _ (λ _. refl) (λ _. refl)
 
 -- ---- the listing
 
@@ -196,31 +158,31 @@ end-lines-short : (a : Auction) → places a ≡ 64 → length (endLines a) ≤ 
 unfolding endLines
 end-lines-short a h =
     let fs : List Fill = auctionFills a in
-    then-short 64 8867 (endLine a) (fillLines fs ++ totalLine (total fs)) (end-short a)
-    (then-short 8840 27 (fillLines fs) (totalLine (total fs)) (omega (arith, fills-short fs, fills-few (dealOf a) (a .board) h)) (total-short (total fs)))
+    then-short 64 8867 (endLine (a .head)) (fillLines fs ++ totalLine (traded fs)) (end-short (a .head))
+    (then-short 8840 27 (fillLines fs) (totalLine (traded fs)) (omega (arith, fills-short fs, fills-few (dealOf (a .head)) (a .board) h)) (total-short (traded fs)))
 
-entry-short : (n : ℕ) (s : List ℕ) (a : Auction) (r : Entry) → n ≤ 2045 → places a ≡ 64 → length (linesOf (runEntry n s a r)) ≤ roomOf
-entry-short n s a (NoEntry number) h p = omega (arith, refused-short number)
-entry-short n s a Accepted h p =
-    let last : Auction = closed (heardAll n s a) in
-    let e : List Said = answers n s a in
+entry-short : (es : List Event) (a : Auction) (r : Entry) → length es ≤ 2045 → places a ≡ 64 → length (linesOf (runEntry es a r)) ≤ roomOf
+entry-short es a (NoEntry number) h p = omega (arith, refused-short number)
+entry-short es a Accepted h p =
+    let last : Auction = closed (run a es) in
+    let said : List Said = heard a es in
     omega (
       arith,
-      length-append (auctionLine a) (eventLines e ++ endLines last),
-      length-append (eventLines e) (endLines last),
-      auction-short a,
-      events-short e,
-      answers-length n s a,
-      end-lines-short last (closed-kept (heardAll n s a) ∙ all-kept n s a ∙ p),
+      length-append (auctionLine (a .head)) (eventLines said ++ endLines last),
+      length-append (eventLines said) (endLines last),
+      auction-short (a .head),
+      events-short said,
+      heard-length es a,
+      end-lines-short last (closed-kept (run a es) ∙ run-kept es a ∙ p),
     )
 
-order-short : (n : ℕ) (s : List ℕ) (r : ReadOrder) → n ≤ 2045 → length (linesOf (runOrder n s r)) ≤ roomOf
-order-short n s (NoOrder number) h = omega (arith, refused-short number)
-order-short n s (GotOrder o) h = entry-short n s (acceptOf o .auction) (acceptOf o .answer) h (accept-places o)
+order-short : (es : List Event) (r : ReadOrder) → length es ≤ 2045 → length (linesOf (runOrder es r)) ≤ roomOf
+order-short es (NoOrder number) h = omega (arith, refused-short number)
+order-short es (GotOrder o) h = entry-short es (acceptOf o .auction) (acceptOf o .answer) h (accept-places o)
 
 tape-short : (s : List ℕ) (r : Opened) → openTape s ≡ r → length (linesOf (runTape s r)) ≤ roomOf
 tape-short s (NoTape number) e = omega (arith, refused-short number)
-tape-short s (Tape t) e = order-short (t .events) (drop (eventPlace (t .order) 0) s) (readOrder (drop (t .order) s)) (omega (arith, tape-fits s t e .0, tape-fits s t e .1))
+tape-short s (Tape t) e = order-short (recordsOf s t) (orderIn s t) (omega (arith, records-length s t, tape-fits s t e))
 
 -- every listing fits the room
 pub listing-fits : (s : List ℕ) → length (listingOf s) ≤ roomOf

@@ -5,31 +5,31 @@ use Prim.Native.Nat.{ℕ, _≤_, _<_}
 use native.Mathlib.Omega.{arith}
 use borrow.Author.Tests.{lt-ltb, le-ltb}
 use lib.ListN.{length}
-use Rattle.words.proofs.ByteLaws.{sets-front}
+use Rattle.base.proofs.SetsLaws.{sets-front}
 use Rattle.auction.specs.declared.Auction.{Auction}
 use Rattle.auction.specs.declared.Ending.{Ending}
 use Rattle.listing.specs.declared.Listed.{Listed}
 use Rattle.listing.specs.declared.Listed.the-variants.{Short, Ended as Auctioned}
-use Rattle.listing.specs.Run.{Said, Run, ended, runOf}
-use Rattle.listing.specs.Listing.{auctionLine, eventLines, endLines, linesOf, listingOf, roomOf, answerOf, listedOf, bytesOf}
+use Rattle.run.specs.rules.Run.{Said, Run, ended, runOf}
+use Rattle.listing.specs.rules.Listing.{auctionLine, eventLines, endLines, linesOf, listingOf, roomOf, answerOf, listedOf, bytesOf}
 use Rattle.listing.proofs.WroteLaws.{wrote-append}
 use Rattle.listing.proofs.LengthLaws.{listing-fits}
-use Rattle.listing.specs.Code.{Lists, Wrote}
+use Rattle.listing.specs.inside.Code.{Lists, Wrote}
 
 pub wrote-lists : {xs ys : List ℕ} {n : ℕ} (run : Run) → Wrote xs 0 (linesOf run) n ys → Lists run xs (answerOf n run) ys
 wrote-lists {xs} {ys} {n} run a =
     let e : n ≡ length (linesOf run) = omega (arith, a .place) in
-    record { answer = ap (λ (k : ℕ). answerOf k run) e; bytes = a .bytes }
+    record { answer = ap (λ (k : ℕ). answerOf k run) e; bytes = a .words }
 
 pub lists-same : {xs ys : List ℕ} {r : Listed} {other : Run} (run : Run) → Lists run xs r ys → run ≡ other → Lists other xs r ys
 lists-same {xs} {ys} {r} run l e = subst (λ u. Lists u xs r ys) e l
 
 -- an auction: its opening, its records, and the end of what closing by hand gave
-pub auction-lists : {ws xs ys zs : List ℕ} {u v n : ℕ} {a : Auction} {es : List Said} (g : Ending) (b c : Auction) → Wrote ws 0 (auctionLine a) u xs → Wrote xs u (eventLines es) v ys
-    → Wrote ys v (endLines b) n zs → g ≡ b .ending → b ≡ c → Lists (ended a es c) ws (Auctioned g n) zs
+pub auction-lists : {ws xs ys zs : List ℕ} {u v n : ℕ} {a : Auction} {es : List Said} (g : Ending) (b c : Auction) → Wrote ws 0 (auctionLine (a .head)) u xs → Wrote xs u (eventLines es) v ys
+    → Wrote ys v (endLines b) n zs → g ≡ b .head .ending → b ≡ c → Lists (ended a es c) ws (Auctioned g n) zs
 auction-lists {ws} {xs} {ys} {zs} {u} {v} {n} {a} {es} g b c p q r eg eb =
     subst (λ h. Lists (ended a es c) ws (Auctioned h n) zs) (sym eg)
-    (subst (λ x. Lists (ended a es x) ws (Auctioned (b .ending) n) zs) eb
+    (subst (λ x. Lists (ended a es x) ws (Auctioned (b .head .ending) n) zs) eb
     (wrote-lists (ended a es b) (wrote-append p (wrote-append q r))))
 
 -- ---- the whole listing

@@ -1,6 +1,6 @@
 -- Each public function's contract settles it. What is cited is made from the code's own clauses, so a clause that says less is refused here.
 use mathlib.Core.Path.{refl, sym, _∙_, ap}
-use Rattle.words.specs.Settled.{Settled}
+use Rattle.base.specs.Settled.{Settled}
 use Rattle.listing.proofs as contracts
 
 pub length-of : Settled contracts.length_of.ended contracts.length_of.Reads.Asked contracts.length_of.Reads.Learnt

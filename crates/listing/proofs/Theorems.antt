@@ -9,9 +9,9 @@ use lib.Dec.{ltb}
 use lib.ListN.{length, drop}
 use Rattle.listing.specs.declared.Listed.{Listed}
 use Rattle.listing.specs.declared.Listed.the-variants.{Short}
-use Rattle.listing.specs.Run.{Run, refused, ended, runOf}
-use Rattle.listing.specs.Listing.{listingOf, roomOf, answerOf, lengthIn, listedOf, bytesOf}
-use Rattle.listing.specs.Demands.{Demands}
+use Rattle.run.specs.rules.Run.{Run, refused, ended, runOf}
+use Rattle.listing.specs.rules.Listing.{listingOf, roomOf, answerOf, lengthIn, listedOf, bytesOf}
+use Rattle.listing.specs.promises.Demands.{Demands}
 use Rattle.listing.proofs.DecimalLaws.{decimal-value}
 use Rattle.listing.proofs.LengthLaws.{listing-fits}
 use Rattle.listing.proofs.Examples.{case-c, case-e, no-bytes}

@@ -1,6 +1,4 @@
--- What the contract of `listing` cites, and the statements of its theorems.
-pub mod Text
-pub mod Run
-pub mod Listing
-pub mod Code
-pub mod Demands
+-- What the contracts of `listing` cite, and the statements of its theorems.
+pub mod rules
+pub mod promises
+pub mod inside

@@ -1,28 +1,25 @@
 // The runner's listing of a tape, into lent bytes.
 ghost use mathlib.Core.Path.{_≡_};
 ghost use Prim.Native.Nat.{_+_, _*_, _≤_};
-ghost use lib.ListN.{length, drop};
-ghost use Rattle.tape.specs.Records.{readOrder};
-ghost use Rattle.tape.specs.Tape.{eventPlace};
-ghost use Rattle.listing.specs.Run.{answers, heardAll, closed, refused, runEntry, runOrder};
-ghost use Rattle.listing.specs.Listing.{eventLines, roomOf, lengthIn, listedOf, bytesOf};
-ghost use Rattle.listing.specs.Code.{heardTurn, Lists, Wrote};
+ghost use lib.ListN.{length};
+ghost use Rattle.tape.specs.rules.Tape.{orderIn, recordsOf};
+ghost use Rattle.run.specs.rules.Run.{run, heard, closed, refused, runEntry, runOrder};
+ghost use Rattle.listing.specs.rules.Listing.{eventLines, roomOf, lengthIn, listedOf, bytesOf};
+ghost use Rattle.listing.specs.inside.Code.{Lists, Wrote};
 use auction::Auction;
 use auction::Ending;
 use auction::Entry;
-use auction::Head;
-use auction::Turn;
-use board::Response;
+use events::Change;
+use events::turns;
 use lines::put_auction;
 use lines::put_event;
 use lines::put_refused;
 use results::put_results;
 use tape::Opened;
 use tape::Order;
-use tape::ReadEvent;
 use tape::ReadOrder;
-use tape::event_at;
-use words::bytes::read_word;
+use tape::Trailer;
+use words::bits;
 
 mod lines;
 mod results;
@@ -52,58 +49,55 @@ pub fn length_of(l: Listed) -> usize
     }
 }
 
-// ---- the event records
+// ---- the events
 
-// What a record that was read does.
-fn hear(h: Head, places: [Response; 64], r: ReadEvent) -> Turn
-    ensures { λ t. ⌜ t ≡ heardTurn h places r ⌝ }
-{
-    match r {
-        ReadEvent::Event(e) => auction::turn_in(h, places, e),
-        ReadEvent::Refused(_) => auction::out_of_form(h),
-    }
-}
-
-// The auction after its records, closed, and the place after their lines.
+// The auction after its events, closed, and the place after their lines.
 struct Heard {
     next: usize,
     auction: Auction,
 }
 
-// A line for each record after the order at `at`.
-fn put_events(
-    tape: &[u8],
-    at: usize,
-    events: usize,
-    a: Auction,
-    out: &mut [u8],
-    start: usize,
-) -> Heard
-    requires { ⌜ (at + 80 + events * 32 ≤ length (now tape)) × (length (now tape) ≤ 65536) × (start + 56 * events ≤ length (now out)) ⌝ }
-    ensures { λ r. ⌜ Wrote (now (out .entry)) start (eventLines (answers events (drop (eventPlace at 0) (now (tape .entry))) a)) (r .next) (now (out .exit)) ⌝ }
-    ensures { λ r. ⌜ (r .auction ≡ closed (heardAll events (drop (eventPlace at 0) (now (tape .entry))) a)) × (r .next ≤ start + 56 * events) ⌝ }
+// A line for each of the tape's events. The board is the loop's own: what a turn says is seated on it in place.
+fn put_events(tape: &[u8], t: Trailer, a: Auction, out: &mut [u8], start: usize) -> Heard
+    requires { ⌜ (t .events ≤ 2045) × (start + 56 * t .events ≤ length (now out)) ⌝ }
+    ensures { λ r. ⌜ Wrote (now (out .entry)) start (eventLines (heard a (recordsOf (now (tape .entry)) t))) (r .next) (now (out .exit)) ⌝ }
+    ensures { λ r. ⌜ (r .auction ≡ closed (run a (recordsOf (now (tape .entry)) t))) × (r .next ≤ start + 56 * t .events) ⌝ }
 {
-    let mut places = a.board.places;
-    let mut h = auction::head_of(a);
+    let n = t.events as usize;
+    let mut b = a.board;
+    let mut h = a.head;
     let mut w = start;
     let mut k = 0;
-    while k < events {
-        let sequence = read_word(tape, at + 64 + k * 32);
-        let t = hear(h, places, event_at(tape, at, k));
-        let answer = t.answer;
-        w = put_event(out, w, sequence, answer);
-        let i = t.at;
-        if i < 64 {
-            let r = t.response;
-            places[i] = r;
+    while k < n {
+        let e = tape::record_in(tape, t, k);
+        let u = turns::turn(h, turns::sight(b, e), e);
+        let answer = u.answer;
+        w = put_event(out, w, e.sequence, answer);
+        let c = u.change;
+        match c {
+            Change::Seat(i, r) => {
+                if i < 64 {
+                    b.places[i] = r;
+                    b.live = bits::with_bit(b.live, i);
+                }
+            }
+            Change::Free(i) => {
+                b.live = bits::without_bit(b.live, i);
+            }
+            Change::Nothing => {}
+            Change::Quote(_) => {}
+            Change::Sell(_) => {}
         }
-        h = t.head;
+        h = u.head;
         k += 1;
     }
-    let c = auction::close_head(h);
+    let c = turns::close_turn(h);
     Heard {
         next: w,
-        auction: auction::whole(c.head, places),
+        auction: Auction {
+            head: c.head,
+            board: b,
+        },
     }
 }
 
@@ -117,40 +111,39 @@ fn list_refused(out: &mut [u8], number: u32) -> Listed
     Listed::Refused { number, length: n }
 }
 
-// An open auction, with its records after the order at `at`.
-fn list_auction(tape: &[u8], at: usize, events: usize, a: Auction, out: &mut [u8]) -> Listed
-    requires { ⌜ (at + 80 + events * 32 ≤ length (now tape)) × (length (now tape) ≤ 65536) × (roomOf ≤ length (now out)) ⌝ }
-    ensures { λ r. ⌜ Lists (runEntry events (drop (eventPlace at 0) (now (tape .entry))) a Entry.Accepted) (now (out .entry)) r (now (out .exit)) ⌝ }
+// An open auction, with the tape's events.
+fn list_auction(tape: &[u8], t: Trailer, a: Auction, out: &mut [u8]) -> Listed
+    requires { ⌜ (t .events ≤ 2045) × (roomOf ≤ length (now out)) ⌝ }
+    ensures { λ r. ⌜ Lists (runEntry (recordsOf (now (tape .entry)) t) a Entry.Accepted) (now (out .entry)) r (now (out .exit)) ⌝ }
 {
-    let w = put_auction(out, 0, a);
-    let h = put_events(tape, at, events, a, out, w);
+    let w = put_auction(out, 0, a.head);
+    let h = put_events(tape, t, a, out, w);
     let last = h.auction;
     let n = put_results(out, h.next, last);
-    Listed::Ended {
-        ending: auction::ending_of(last),
-        length: n,
-    }
+    let end = last.head;
+    let ending = end.ending;
+    Listed::Ended { ending, length: n }
 }
 
-fn list_order(tape: &[u8], at: usize, events: usize, o: Order, out: &mut [u8]) -> Listed
-    requires { ⌜ (at + 80 + events * 32 ≤ length (now tape)) × (length (now tape) ≤ 65536) × (roomOf ≤ length (now out)) ⌝ }
-    ensures { λ r. ⌜ Lists (runOrder events (drop (eventPlace at 0) (now (tape .entry))) (ReadOrder.Order o)) (now (out .entry)) r (now (out .exit)) ⌝ }
+fn list_order(tape: &[u8], t: Trailer, o: Order, out: &mut [u8]) -> Listed
+    requires { ⌜ (t .events ≤ 2045) × (roomOf ≤ length (now out)) ⌝ }
+    ensures { λ r. ⌜ Lists (runOrder (recordsOf (now (tape .entry)) t) (ReadOrder.Order o)) (now (out .entry)) r (now (out .exit)) ⌝ }
 {
     let opening = auction::accept(o);
     let answer = opening.answer;
     let a = opening.auction;
     match answer {
-        Entry::Accepted => list_auction(tape, at, events, a, out),
+        Entry::Accepted => list_auction(tape, t, a, out),
         Entry::Refused(number) => list_refused(out, number),
     }
 }
 
-fn list_tape(tape: &[u8], at: usize, events: usize, out: &mut [u8]) -> Listed
-    requires { ⌜ (at + 80 + events * 32 ≤ length (now tape)) × (length (now tape) ≤ 65536) × (roomOf ≤ length (now out)) ⌝ }
-    ensures { λ r. ⌜ Lists (runOrder events (drop (eventPlace at 0) (now (tape .entry))) (readOrder (drop at (now (tape .entry))))) (now (out .entry)) r (now (out .exit)) ⌝ }
+fn list_tape(tape: &[u8], t: Trailer, out: &mut [u8]) -> Listed
+    requires { ⌜ (t .events ≤ 2045) × (roomOf ≤ length (now out)) ⌝ }
+    ensures { λ r. ⌜ Lists (runOrder (recordsOf (now (tape .entry)) t) (orderIn (now (tape .entry)) t)) (now (out .entry)) r (now (out .exit)) ⌝ }
 {
-    match tape::order_at(tape, at) {
-        ReadOrder::Order(o) => list_order(tape, at, events, o, out),
+    match tape::order_in(tape, t) {
+        ReadOrder::Order(o) => list_order(tape, t, o, out),
         ReadOrder::Refused(number) => list_refused(out, number),
     }
 }
@@ -164,7 +157,7 @@ pub fn listing(tape: &[u8], out: &mut [u8]) -> Listed
         return Listed::Short;
     }
     match tape::open_tape(tape) {
-        Opened::Tape(t) => list_tape(tape, t.order as usize, t.events as usize, out),
+        Opened::Tape(t) => list_tape(tape, t, out),
         Opened::Refused(number) => list_refused(out, number),
     }
 }

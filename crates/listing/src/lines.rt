@@ -1,18 +1,18 @@
 // The lines of a listing, each written at a place of lent bytes; each writer answers the next place.
 ghost use Prim.Native.Nat.{_+_, _≤_};
 ghost use lib.ListN.{length};
-ghost use Rattle.auction.specs.Fills.{rangeOf};
-ghost use Rattle.listing.specs.Run.{said};
-ghost use Rattle.listing.specs.Listing.{refusedLine, rangeText, sideText, auctionLine, answerText, eventLine, endText, endLine, partyText, fillLine, totalLine};
-ghost use Rattle.listing.specs.Code.{Wrote, fill};
+ghost use Rattle.auction.specs.rules.Range.{rangeOf};
+ghost use Rattle.run.specs.rules.Run.{said};
+ghost use Rattle.listing.specs.rules.Listing.{refusedLine, rangeText, sideText, auctionLine, answerText, eventLine, endText, endLine, partyText, fillLine, totalLine};
+ghost use Rattle.listing.specs.inside.Code.{Wrote, fill};
 use crate::text::put_field;
 use crate::text::put_text;
 use crate::text::put_word;
-use auction::Answer;
-use auction::Auction;
 use auction::Ending;
+use auction::Head;
 use auction::Range;
 use auction::price_range;
+use events::Answer;
 
 pub(crate) fn put_refused(out: &mut [u8], at: usize, number: u32) -> usize
     requires { ⌜ at + 29 ≤ length (now out) ⌝ }
@@ -43,15 +43,15 @@ fn put_side(out: &mut [u8], at: usize, sell: bool) -> usize
     put_text(out, at, b"AUCTION buy")
 }
 
-pub(crate) fn put_auction(out: &mut [u8], at: usize, a: Auction) -> usize
+pub(crate) fn put_auction(out: &mut [u8], at: usize, h: Head) -> usize
     requires { ⌜ at + 90 ≤ length (now out) ⌝ }
-    ensures { λ r. ⌜ Wrote (now (out .entry)) at (auctionLine a) r (now (out .exit)) ⌝ }
+    ensures { λ r. ⌜ Wrote (now (out .entry)) at (auctionLine h) r (now (out .exit)) ⌝ }
     ensures { λ r. ⌜ r ≤ at + 90 ⌝ }
 {
-    let t = a.terms;
+    let t = h.terms;
     let side = put_side(out, at, t.sell);
     let size = put_word(out, side, b" size ", t.size);
-    put_range(out, size, price_range(a))
+    put_range(out, size, price_range(h))
 }
 
 fn put_answer(out: &mut [u8], at: usize, answer: Answer) -> usize
@@ -93,14 +93,14 @@ fn put_ending(out: &mut [u8], at: usize, ending: Ending) -> usize
     }
 }
 
-pub(crate) fn put_end(out: &mut [u8], at: usize, a: Auction) -> usize
+pub(crate) fn put_end(out: &mut [u8], at: usize, h: Head) -> usize
     requires { ⌜ at + 64 ≤ length (now out) ⌝ }
-    ensures { λ r. ⌜ Wrote (now (out .entry)) at (endLine a) r (now (out .exit)) ⌝ }
+    ensures { λ r. ⌜ Wrote (now (out .entry)) at (endLine h) r (now (out .exit)) ⌝ }
     ensures { λ r. ⌜ r ≤ at + 64 ⌝ }
 {
-    let ending = a.ending;
+    let ending = h.ending;
     let w = put_ending(out, at, ending);
-    put_range(out, w, price_range(a))
+    put_range(out, w, price_range(h))
 }
 
 fn put_party(out: &mut [u8], at: usize, party: u32) -> usize

@@ -3,24 +3,18 @@ ghost use mathlib.Core.Path.{_≡_};
 ghost use mathlib.Core.Bool.{true};
 ghost use Prim.Native.Nat.{_+_, _*_, _≤_};
 ghost use lib.ListN.{length, take};
-ghost use Rattle.share.specs.Fills.{words};
-ghost use Rattle.trade.specs.Trade.{total};
-ghost use Rattle.auction.specs.Fills.{hasEnded, auctionFills};
-ghost use Rattle.listing.specs.Listing.{fillLines, endLines};
-ghost use Rattle.listing.specs.Code.{Wrote, countIn, fillsIn};
+ghost use Rattle.share.specs.rules.Fills.{words};
+ghost use Rattle.trade.specs.rules.Trade.{traded};
+ghost use Rattle.fills.specs.rules.Fills.{hasEnded, auctionFills};
+ghost use Rattle.listing.specs.rules.Listing.{fillLines, endLines};
+ghost use Rattle.listing.specs.inside.Code.{Wrote, countIn, fillsIn};
 use crate::lines::put_end;
 use crate::lines::put_fill;
 use crate::lines::put_total;
 use auction::Auction;
-use auction::write_fills;
+use base::wide;
+use fills::write_fills;
 use trade::Filled;
-
-// A word in 64 bits.
-fn wide(x: u32) -> u64
-    ensures { λ r. ⌜ (r ≡ x) × (r ≤ 4294967295) ⌝ }
-{
-    x as u64
-}
 
 // How many fills were written; none where they were refused.
 fn count_of(f: Filled) -> usize
@@ -51,7 +45,7 @@ fn put_fills(out: &mut [u8], at: usize, words: &[u32], n: usize) -> usize
 // The sum of their quantities.
 fn sum_of(words: &[u32], n: usize) -> u64
     requires { ⌜ (n ≤ 130) × (3 * n ≤ length (now words)) ⌝ }
-    ensures { λ r. ⌜ r ≡ total (fillsIn n (now (words .entry))) ⌝ }
+    ensures { λ r. ⌜ r ≡ traded (fillsIn n (now (words .entry))) ⌝ }
 {
     let mut sum = 0;
     let mut i = 0;
@@ -64,12 +58,12 @@ fn sum_of(words: &[u32], n: usize) -> u64
 
 // The end of the listing of an auction that has ended.
 pub(crate) fn put_results(out: &mut [u8], at: usize, a: Auction) -> usize
-    requires { ⌜ (hasEnded a ≡ true) × (at + 8931 ≤ length (now out)) ⌝ }
+    requires { ⌜ (hasEnded (a .head) ≡ true) × (at + 8931 ≤ length (now out)) ⌝ }
     ensures { λ r. ⌜ Wrote (now (out .entry)) at (endLines a) r (now (out .exit)) ⌝ }
 {
     let mut words = [0u32; 390];
     let n = count_of(write_fills(a, &mut words, 0));
-    let end = put_end(out, at, a);
+    let end = put_end(out, at, a.head);
     let w = put_fills(out, end, &words, n);
     put_total(out, w, sum_of(&words, n))
 }

@@ -6,7 +6,7 @@ use listing::ROOM;
 ghost use mathlib.Core.Path.{_≡_};
 ghost use lib.ListN.{length};
 ghost use Rattle.io.specs.Counts.{Counts};
-ghost use Rattle.listing.specs.Listing.{lengthIn, listedOf, bytesOf};
+ghost use Rattle.listing.specs.rules.Listing.{lengthIn, listedOf, bytesOf};
 
 fn tape_buffer() -> [u8; MOST]
     ensures { λ r. ⌜ 65537 ≡ length r ⌝ }

@@ -2,8 +2,8 @@
 use mathlib.Core.Path.{_≡_, refl}
 use mathlib.Core.List.{List, [], _∷_, map}
 use Prim.Native.Nat.{ℕ}
-use Rattle.board.specs.Lists.{sum}
-use Rattle.share.specs.Share.{shares}
+use Rattle.base.specs.Lists.{sum}
+use Rattle.share.specs.rules.Share.{shares}
 
 pub record Case : Type 0 where
   pub count : ℕ

@@ -4,18 +4,19 @@ use mathlib.Core.Bool.{Bool, true, false, cond}
 use mathlib.Core.List.{List, [], _∷_}
 use mathlib.Core.Logic.{_⊎_, inl, inr}
 use Prim.Native.Nat.{ℕ, zero, suc, _+_, _-_, _*_, _/_, _≤_, _<_, min}
-use native.Mathlib.Nat.{div-mul-le-self, lt-div-mul-add, div-lt-iff-lt-mul, mul-add, add-mul, mul-comm, mul-zero, zero-div, mul-lt-mul-of-pos-right, lt-of-le-of-lt, mul-le-mul, le-of-mul-le-mul-right}
+use native.Mathlib.Nat.{div-mul-le-self, lt-div-mul-add, div-lt-iff-lt-mul, mul-add, add-mul, mul-comm, mul-zero, zero-div, mul-lt-mul-of-pos-right, le-of-mul-le-mul-right}
 use native.Mathlib.Omega.{arith}
 use borrow.Author.Tests.{leb-true, leb-false, lt-leb, le-leb}
-use lib.Dec.{leb, lit<}
+use lib.Dec.{leb}
 use lib.ListN.{length}
-use Rattle.board.specs.Lists.{sum}
-use Rattle.share.specs.Share.{floors, plus, leftover, firsts, sharesBy, shares, inTurn, Each, Mark, Marks, Near, Fair, ProRata}
+use Rattle.base.specs.Lists.{sum}
+use Rattle.share.specs.rules.Share.{floors, plus, leftover, firsts, sharesBy, shares, inTurn}
+use Rattle.share.specs.promises.Share.{Each, Mark, Marks, Near, Fair, ProRata}
 
 -- ---- the whole parts
 
 -- together they are at most R
-pub floors-below : (R T : ℕ) (ss : List ℕ) → sum (floors R T ss) * T ≤ R * sum ss
+floors-below : (R T : ℕ) (ss : List ℕ) → sum (floors R T ss) * T ≤ R * sum ss
 unfolding sum
 floors-below R T [] = omega arith
 floors-below R T (s ∷ ss) =
@@ -25,24 +26,24 @@ pub floors-at-most : (R : ℕ) (ss : List ℕ) → 0 < sum ss → sum (floors R 
 floors-at-most R ss h = le-of-mul-le-mul-right (floors-below R (sum ss) ss) h
 
 -- how many members have a size
-abbrev pub present : List ℕ → ℕ
+abbrev present : List ℕ → ℕ
 present [] = 0
 present (s ∷ ss) = min s 1 + present ss
 
 -- one member: what its whole part leaves is less than T, and nothing where it has no size
-pub one-left : (R T s : ℕ) → 0 < T → R * s ≤ R * s / T * T + min s 1 * T
+one-left : (R T s : ℕ) → 0 < T → R * s ≤ R * s / T * T + min s 1 * T
 one-left R T zero h = simp mul-zero (omega arith)
 one-left R T (suc s) h =
     let e : min (suc s) 1 ≡ 1 = omega arith in
     rw e (omega (arith, lt-div-mul-add {a = R * suc s} h))
 
-pub floors-above : (R T : ℕ) (ss : List ℕ) → 0 < T → R * sum ss ≤ (sum (floors R T ss) + present ss) * T
+floors-above : (R T : ℕ) (ss : List ℕ) → 0 < T → R * sum ss ≤ (sum (floors R T ss) + present ss) * T
 unfolding sum
 floors-above R T [] h = simp mul-zero (omega arith)
 floors-above R T (s ∷ ss) h =
     simp (mul-add, add-mul) (omega (arith, one-left R T s h, simp add-mul at (floors-above R T ss h)))
 
-pub left-at-most : (R : ℕ) (ss : List ℕ) → 0 < sum ss → leftover R ss ≤ present ss
+left-at-most : (R : ℕ) (ss : List ℕ) → 0 < sum ss → leftover R ss ≤ present ss
 left-at-most R ss h =
     let e : R ≤ sum (floors R (sum ss) ss) + present ss = le-of-mul-le-mul-right (floors-above R (sum ss) ss h) h in
     omega arith
@@ -58,7 +59,7 @@ none R T = rw (mul-zero) (zero-div T)
 
 -- ---- the laws for any rule: `Marks` is all that they ask
 
-pub sum-plus : (R T : ℕ) (ss ms : List ℕ) → Each Mark ss ms → sum (plus (floors R T ss) ms) ≡ sum (floors R T ss) + sum ms
+sum-plus : (R T : ℕ) (ss ms : List ℕ) → Each Mark ss ms → sum (plus (floors R T ss) ms) ≡ sum (floors R T ss) + sum ms
 unfolding sum
 sum-plus R T [] [] e = refl
 sum-plus R T [] (m ∷ ms) e = absurd e
@@ -156,18 +157,12 @@ shares-fit R ss = fair-shares R ss .fits
 pub shares-near : (R : ℕ) (ss : List ℕ) → R < sum ss → Each (Near R (sum ss)) ss (shares R ss)
 shares-near R ss = fair-shares R ss .near
 
--- ---- ranges
-
--- a product of two u32 fits 64 bits
-pub mul-small : (a b : ℕ) → a ≤ 4294967295 → b ≤ 4294967295 → a * b < 18446744073709551616
-mul-small a b h k = lt-of-le-of-lt (mul-le-mul h k) (lit< tt)
-
 -- a whole part is at most its size
 pub floor-le : (R T s : ℕ) → R < T → R * s / T ≤ s
 floor-le R T zero h = simp (mul-zero, zero-div) (omega arith)
 floor-le R T (suc s) h = omega (arith, room R T (suc s) h (omega arith))
 
-pub each-length : (P : ℕ → ℕ → Type 0) (xs ys : List ℕ) → Each P xs ys → length xs ≡ length ys
+each-length : (P : ℕ → ℕ → Type 0) (xs ys : List ℕ) → Each P xs ys → length xs ≡ length ys
 each-length P [] [] e = refl
 each-length P [] (y ∷ ys) e = absurd e
 each-length P (x ∷ xs) [] e = absurd e
@@ -179,7 +174,7 @@ each-flip P [] (y ∷ ys) e = absurd e
 each-flip P (x ∷ xs) [] e = absurd e
 each-flip P (x ∷ xs) (y ∷ ys) e = (e .0, each-flip P xs ys (e .1))
 
-pub each-same : (ss : List ℕ) → Each (λ s q. q ≡ s) ss ss
+each-same : (ss : List ℕ) → Each (λ s q. q ≡ s) ss ss
 each-same [] = tt
 each-same (s ∷ ss) = (refl, each-same ss)
 

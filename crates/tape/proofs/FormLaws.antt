@@ -1,22 +1,17 @@
--- What the tests of a form say, and that the words of what is in form fit 32 bits. Assumes nothing.
+-- What the tests of a form say. Assumes nothing.
 use mathlib.Core.Path.{_≡_, refl, sym, subst, _∙_}
 use mathlib.Core.Bool.{Bool, true, false, cond, not, _&&_, _||_, or-false}
 use mathlib.Core.List.{List, [], _∷_}
-use Prim.Native.Nat.{ℕ, zero, suc, _+_, _*_, _<_, _≤_, _^_}
+use Prim.Native.Nat.{ℕ, zero, suc, _<_, _≤_}
 use native.Mathlib.Omega.{arith}
 use lib.ListN.{getD}
-use lib.Dec.{leb, ltb, eqb}
+use lib.Dec.{leb, eqb}
 use borrow.Author.Tests.{leb-true, ltb-true, eqb-true}
-use Rattle.words.specs.Bytes.{joined}
-use Rattle.words.proofs.ByteLaws.{Fit}
-use Rattle.tape.specs.declared.Order.{Order}
-use Rattle.tape.specs.declared.Event.{Event}
-use Rattle.tape.specs.declared.Shape.{Shape}
-use Rattle.tape.specs.declared.Range.{Range}
-use Rattle.tape.specs.Form.{allFrom, within, orderTests, orderFormed, range, inside, unused, sides, sizes, prices, anyNumber, bids, offers, row, shapeOf, shapeTests, eventFormed}
-use Rattle.tape.specs.Records.{orderWords, eventWords}
-use Rattle.tape.specs.Demands.{Word}
-use Rattle.tape.proofs.RecordLaws.{and-left, and-right}
+use Rattle.tape.specs.declared.order.Order.{Order}
+use Rattle.tape.specs.declared.form.Shape.{Shape}
+use Rattle.tape.specs.declared.form.Range.{Range}
+use Rattle.tape.specs.rules.Form.{allFrom, within, orderTests, orderFormed, range, inside, unused, sides, sizes, prices, anyNumber, bids, offers, row, shapeOf}
+use Rattle.base.proofs.Bools.{and-left, and-right}
 
 all-start : (ts : List Bool) (b : Bool) → allFrom b ts ≡ true → b ≡ true
 all-start [] b h = h
@@ -33,9 +28,6 @@ within-le x low high h = leb-true x high (and-right (leb low x) (leb x high) h)
 
 pub within-ge : (x low high : ℕ) → within x low high ≡ true → low ≤ x
 within-ge x low high h = leb-true low x (and-left (leb low x) (leb x high) h)
-
-four-fit : (a b c : ℕ) → a < 256 → b < 256 → c < 256 → Word (joined a b c 0)
-four-fit a b c ha hb hc = omega arith
 
 -- ---- orders
 
@@ -109,11 +101,6 @@ order-bounds o h =
       interval = within-le (o .interval) 100 1000 (t 13);
     }
 
-pub order-fit : (o : Order) → OrderBounds o → Fit (orderWords o)
-unfolding orderWords
-order-fit o b =
-    (four-fit (o .side) (o .mode) (o .marks) (omega arith) (omega arith) (omega arith), (omega arith, (omega arith, (omega arith, (omega arith, (omega arith, (omega arith, (omega arith, (omega arith, (omega arith, (omega arith, (omega arith, (omega arith, (omega arith, (omega arith, (omega arith, tt))))))))))))))))
-
 -- ---- events
 
 -- what holds of each row of the table holds of the row of any kind
@@ -146,20 +133,3 @@ row-bounds k =
     (choose RowBounds k 4 _ _ (known (range 0 1) true sides sizes unused unused unused (omega arith) (omega arith) (omega arith) (omega arith) (omega arith) (omega arith) (omega arith))
     (choose RowBounds k 5 _ _ (known (range 0 15) false unused prices prices bids offers (omega arith) (omega arith) (omega arith) (omega arith) (omega arith) (omega arith) (omega arith))
     (record { kind = λ m h. absurd (omega (arith, within-ge m 1 0 h, within-le m 1 0 h)); marks = omega arith; side = omega arith; f12 = omega arith; f16 = omega arith; f20 = omega arith; f24 = omega arith })))))
-
-pub event-fit : (e : Event) → Word (e .sequence) → eventFormed e ≡ true → Fit (eventWords e) × (e .kind < 256) × (e .marks < 256) × (e .side < 256)
-unfolding eventFormed shapeTests eventWords
-event-fit e w h =
-    let s : Shape = shapeOf (e .kind) in
-    let b : RowBounds (e .kind) s = row-bounds (e .kind) in
-    let t : (i : ℕ) → getD (shapeTests s e) i true ≡ true = each (shapeTests s e) true h in
-    let time : e .time ≤ 86400000 = leb-true (e .time) 86400000 (t 0) in
-    let kind : e .kind ≤ 5 = b .kind (e .marks) (t 1) in
-    let marks : e .marks ≤ s .marks .high = within-le (e .marks) (s .marks .low) (s .marks .high) (t 1) in
-    let side : e .side ≤ s .side .high = within-le (e .side) (s .side .low) (s .side .high) (t 3) in
-    let f12 : e .f12 ≤ s .f12 .high = within-le (e .f12) (s .f12 .low) (s .f12 .high) (t 4) in
-    let f16 : e .f16 ≤ s .f16 .high = within-le (e .f16) (s .f16 .low) (s .f16 .high) (t 5) in
-    let f20 : e .f20 ≤ s .f20 .high = within-le (e .f20) (s .f20 .low) (s .f20 .high) (t 6) in
-    let f24 : e .f24 ≤ s .f24 .high = within-le (e .f24) (s .f24 .low) (s .f24 .high) (t 7) in
-    let words : Fit (eventWords e) = (w, (omega arith, (four-fit (e .kind) (e .marks) (e .side) (omega arith) (omega arith) (omega arith), (omega arith, (omega arith, (omega arith, (omega arith, (omega arith, tt)))))))) in
-    (words, omega arith, omega arith, omega arith)

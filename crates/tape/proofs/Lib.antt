@@ -1,8 +1,5 @@
--- Laws and theorems of `tape`.
-pub mod Parts
+-- Laws of `tape`.
 pub mod RecordLaws
 pub mod FormLaws
-pub mod RoundTrip
-pub mod TapeBack
-pub mod ReaderLaws
+pub mod HoldsLaws
 pub mod Settled

@@ -1,6 +1,3 @@
--- What the contracts of `tape` cite, and the statements of its theorems.
-pub mod Form
-pub mod Records
-pub mod Tape
-pub mod Reader
-pub mod Demands
+-- What the contracts of `tape` cite, and what is promised of its readers.
+pub mod rules
+pub mod promises

@@ -8,17 +8,16 @@ use native.Mathlib.Omega.{arith}
 use borrow.Author.Tests.{ne-eqb}
 use lib.Dec.{eqb}
 use lib.ListN.{length, getD}
-use lib.Pow.{pow-pos}
-use Rattle.words.specs.Bits.{bitAt, withBit, withoutBit, setIn}
-use Rattle.words.proofs.BitLaws.{bit-le, without-set, lowest-set}
+use Rattle.words.specs.rules.Bits.{bitAt, withBit, withoutBit, trailingZeros}
+use Rattle.words.proofs.BitLaws.{without-lt, lowest-set}
 use Rattle.board.specs.declared.Response.{Response}
-use Rattle.board.specs.Lists.{keep, filter, sum}
-use Rattle.board.specs.Board.{noResponse, liveIn}
+use Rattle.base.specs.Lists.{keep, filter, sum}
+use Rattle.board.specs.rules.Board.{noResponse, liveIn}
 use Rattle.board.proofs.LiveLaws.{none-live, first-live}
-use Rattle.share.specs.Share.{floors}
-use Rattle.share.specs.Fills.{sizes}
-use Rattle.trade.specs.Trade.{guaranteeOf}
-use Rattle.trade.specs.Code.{sharedOf, contraOf, worksAt, leastOf, lastSequence, Adds}
+use Rattle.share.specs.rules.Share.{floors}
+use Rattle.share.specs.rules.Fills.{sizes}
+use Rattle.trade.specs.rules.Trade.{guaranteeOf}
+use Rattle.trade.specs.inside.Code.{sharedOf, contraOf, worksAt, leastOf, lastSequence, Adds}
 use Rattle.trade.specs.declared.Found.{Found}
 
 -- ---- numbers
@@ -65,13 +64,10 @@ pub record Turn (ps : List Response) (rest i : ℕ) : Type 0 where
   pub less : withoutBit rest i < rest
   pub cons : liveIn rest ps ≡ getD ps i noResponse ∷ liveIn (withoutBit rest i) ps
 
-pub cut-less : (rest i : ℕ) → bitAt rest i ≡ true → withoutBit rest i < rest
-cut-less rest i t = rw (without-set rest i t) (omega (arith, bit-le rest i t, pow-pos i))
-
-pub turn-of : (ps : List Response) (rest i : ℕ) → length ps ≡ 64 → 0 < rest → rest < 2 ^ 64 → i ≡ setIn 64 rest → Turn ps rest i
+pub turn-of : (ps : List Response) (rest i : ℕ) → length ps ≡ 64 → 0 < rest → rest < 2 ^ 64 → i ≡ trailingZeros 64 rest → Turn ps rest i
 turn-of ps rest i e p h q =
     let t = lowest-set rest i p h q in
-    record { low = t .place; set = t .set; less = cut-less rest i (t .set); cons = first-live rest i ps noResponse (omega (arith, t .place)) t }
+    record { low = t .place; set = t .set; less = without-lt rest i (t .set); cons = first-live rest i ps noResponse (omega (arith, t .place)) t }
 
 -- ---- what a scan has to go
 

@@ -8,14 +8,14 @@ use native.Mathlib.Omega.{arith}
 use borrow.Author.Tests.{eq-eqb, lt-ltb, le-ltb}
 use lib.Dec.{ltb}
 use lib.ListN.{length, getD}
-use Rattle.words.specs.Bits.{withBit, withoutBit}
-use Rattle.words.proofs.BitLaws.{le-or-lt}
+use Rattle.words.specs.rules.Bits.{withBit, withoutBit}
+use Rattle.base.proofs.Numbers.{le-or-lt}
 use Rattle.board.specs.declared.Response.{Response}
-use Rattle.board.specs.Lists.{filter, sum}
-use Rattle.board.specs.Board.{noResponse, liveIn}
+use Rattle.base.specs.Lists.{filter, sum}
+use Rattle.board.specs.rules.Board.{noResponse, liveIn}
 use Rattle.board.proofs.LiveLaws.{Sifted, sift-start, sift-end, sift-step}
-use Rattle.share.specs.Fills.{sizes}
-use Rattle.trade.specs.Code.{customerAt, otherAt, lastSequence, Adds, foundAt, Takes, FoundAt}
+use Rattle.share.specs.rules.Fills.{sizes}
+use Rattle.trade.specs.inside.Code.{customerAt, otherAt, lastSequence, Adds, foundAt, Takes, FoundAt}
 use Rattle.trade.specs.declared.Found.{Found}
 use Rattle.trade.proofs.CodeLaws.{Turn, sizes-turn, sizes-none, last-turn, last-none, adds-of, adds-none}
 

@@ -9,24 +9,24 @@ use borrow.Author.Tests.{le-leb}
 use lib.Dec.{leb, ltb}
 use lib.ListN.{length, length-append}
 use Rattle.board.specs.declared.Response.{Response}
-use Rattle.board.specs.Lists.{keep, filter, sum}
-use Rattle.board.specs.Board.{liveIn, wordOf, inSequence}
+use Rattle.base.specs.Lists.{keep, filter, sum}
+use Rattle.board.specs.rules.Board.{liveIn, wordOf, inSequence}
 use Rattle.board.proofs.LiveLaws.{word-filters}
 use Rattle.board.proofs.SequenceLaws.{sequence-filter}
-use Rattle.share.specs.Share.{inTurn}
-use Rattle.share.specs.Fills.{Fill, fillOf, fillsBy, sizes}
+use Rattle.share.specs.rules.Share.{inTurn}
+use Rattle.share.specs.rules.Fills.{Fill, fillOf, fillsBy, sizes}
 use Rattle.trade.specs.declared.Deal.{Deal}
 use Rattle.trade.specs.declared.Found.{Found}
 use Rattle.trade.specs.declared.Price.{Price}
 use Rattle.trade.specs.declared.Walked.{Walked}
-use Rattle.trade.specs.Trade.{isCustomer, isOther, Level, customers, others, shared, given, first, contra, levelFills, total, flat, working, top, entry, next, guarantee}
-use Rattle.trade.specs.Write.{shown, reported}
-use Rattle.trade.specs.Demands.{sizeHere}
-use Rattle.trade.specs.Code.{matchOf, lastOf, wantOf, sharedOf, contraOf, leftOf, worksAt, customerAt, otherAt, lastSequence, FoundAt, leastOf, eachFills, dealt, shareFills, placeFills, levelOf, Looks, Stepped, walkFrom}
+use Rattle.trade.specs.rules.Trade.{fromCustomer, fromOther, Level, customers, others, shared, given, first, contra, levelFills, traded, flat, working, top, entry, next, guarantee, sizeHere}
+use Rattle.trade.specs.rules.Write.{reportedPrice, reported}
+use Rattle.trade.specs.inside.Code.{matchOf, lastOf, wantOf, sharedOf, contraOf, leftOf, worksAt, customerAt, otherAt, lastSequence, FoundAt, leastOf, eachFills, dealt, shareFills, placeFills, levelOf, Looks, WalkedOn, walkFrom}
 use Rattle.trade.proofs.Lists.{sizes-split}
 use Rattle.trade.proofs.Levels.{given-sum, traded-is}
 use Rattle.trade.proofs.WriteLaws.{sizes-sequence}
-use Rattle.trade.proofs.StepLaws.{word-parts, word-le, filter-step, ahead, least-next, walk-turn, from-none, from-past}
+use Rattle.trade.proofs.StepLaws.{word-parts, word-le, ahead, least-next, walk-turn, from-none, from-past}
+use Rattle.base.proofs.ListLaws.{filter-filter}
 use Rattle.trade.proofs.Walk.{next-above, next-top}
 
 -- ---- the numbers of any level
@@ -43,7 +43,7 @@ contra-numbers l = go (l .final)
     go true = omega (arith, given-sum l)
     go false = refl
 
-pub left-numbers : (l : Level) → l .left - total (levelFills l) ≡ leftOf (l .left) (sum (sizes (customers l))) (sum (sizes (others l))) (l .want) (l .final)
+pub left-numbers : (l : Level) → l .left - traded (levelFills l) ≡ leftOf (l .left) (sum (sizes (customers l))) (sum (sizes (others l))) (l .want) (l .final)
 unfolding leftOf
 left-numbers l = ap (λ (n : ℕ). l .left - n) (traded-is l) ∙ go (l .final)
   where
@@ -60,26 +60,26 @@ contra-within left C T want false = let k : min (left - C) want ≤ want = omega
 
 pub reported-append : (sell : Bool) (fs gs : List Fill) → reported sell (fs ++ gs) ≡ reported sell fs ++ reported sell gs
 reported-append sell [] gs = refl
-reported-append sell (f ∷ fs) gs = ap {B = List Fill} (λ r. record { party = f .party; price = shown sell (f .price); quantity = f .quantity } ∷ r) (reported-append sell fs gs)
+reported-append sell (f ∷ fs) gs = ap {B = List Fill} (λ r. record { party = f .party; price = reportedPrice sell (f .price); quantity = f .quantity } ∷ r) (reported-append sell fs gs)
 
 pub reported-length : (sell : Bool) (fs : List Fill) → length (reported sell fs) ≡ length fs
 reported-length sell [] = refl
 reported-length sell (f ∷ fs) = ap suc (reported-length sell fs)
 
-pub reported-fill : (sell : Bool) (k p q : ℕ) → reported sell (fillOf k p q) ≡ fillOf k (shown sell p) q
+pub reported-fill : (sell : Bool) (k p q : ℕ) → reported sell (fillOf k p q) ≡ fillOf k (reportedPrice sell p) q
 reported-fill sell k p q = go (ltb 0 q)
   where
-    go : (b : Bool) → reported sell (keep b (record { party = k; price = p; quantity = q }) []) ≡ keep b (record { party = k; price = shown sell p; quantity = q }) []
+    go : (b : Bool) → reported sell (keep b (record { party = k; price = p; quantity = q }) []) ≡ keep b (record { party = k; price = reportedPrice sell p; quantity = q }) []
     go true = refl
     go false = refl
 
-pub reported-by : (sell : Bool) (p : ℕ) (rs : List Response) (qs : List ℕ) → reported sell (fillsBy p rs qs) ≡ fillsBy (shown sell p) rs qs
+pub reported-by : (sell : Bool) (p : ℕ) (rs : List Response) (qs : List ℕ) → reported sell (fillsBy p rs qs) ≡ fillsBy (reportedPrice sell p) rs qs
 reported-by sell p [] qs = refl
 reported-by sell p (r ∷ rs) [] = refl
 reported-by sell p (r ∷ rs) (q ∷ qs) =
     reported-append sell (fillOf (r .sequence) p q) (fillsBy p rs qs) ∙ ap₂ {C = List Fill} (λ x y. x ++ y) (reported-fill sell (r .sequence) p q) (reported-by sell p rs qs)
 
-pub reported-level : (sell : Bool) (l : Level) → reported sell (levelFills l) ≡ placeFills (shown sell (l .price)) (l .left) (customers l) (contra l) (shared l) (others l)
+pub reported-level : (sell : Bool) (l : Level) → reported sell (levelFills l) ≡ placeFills (reportedPrice sell (l .price)) (l .left) (customers l) (contra l) (shared l) (others l)
 unfolding levelFills placeFills eachFills dealt shareFills
 reported-level sell l =
     let a = fillsBy (l .price) (customers l) (inTurn (l .left) (sizes (customers l))) in
@@ -93,11 +93,11 @@ reported-level sell l =
 
 module _ (d : Deal) (ps : List Response) (G : ℕ) (s : Walked) (e : length ps ≡ 64) (fit : s .rest < 2 ^ 64) where
   -- Customers and others at a price
-  customers-word : (p : ℕ) → filter (customerAt (d .bound) p) (liveIn (s .rest) ps) ≡ filter isCustomer (filter (worksAt (d .bound) p) (liveIn (s .rest) ps))
-  customers-word p = sym (filter-step isCustomer (worksAt (d .bound) p) (customerAt (d .bound) p) (liveIn (s .rest) ps) (λ x m. refl))
+  customers-word : (p : ℕ) → filter (customerAt (d .bound) p) (liveIn (s .rest) ps) ≡ filter fromCustomer (filter (worksAt (d .bound) p) (liveIn (s .rest) ps))
+  customers-word p = sym (filter-filter fromCustomer (worksAt (d .bound) p) (customerAt (d .bound) p) (liveIn (s .rest) ps) (λ x m. refl))
 
-  others-word : (p : ℕ) → filter (otherAt (d .bound) p) (liveIn (s .rest) ps) ≡ filter isOther (filter (worksAt (d .bound) p) (liveIn (s .rest) ps))
-  others-word p = sym (filter-step isOther (worksAt (d .bound) p) (otherAt (d .bound) p) (liveIn (s .rest) ps) (λ x m. refl))
+  others-word : (p : ℕ) → filter (otherAt (d .bound) p) (liveIn (s .rest) ps) ≡ filter fromOther (filter (worksAt (d .bound) p) (liveIn (s .rest) ps))
+  others-word p = sym (filter-filter fromOther (worksAt (d .bound) p) (otherAt (d .bound) p) (liveIn (s .rest) ps) (λ x m. refl))
 
   pub looks : (l : Price) (f : Found) (m T E : ℕ) → T ≡ top d → E ≡ entry d
       → l .price ≡ leastOf (d .bound) T (liveIn (s .rest) ps)
@@ -113,23 +113,23 @@ module _ (d : Deal) (ps : List Response) (G : ℕ) (s : Walked) (e : length ps �
       let p : l .price ≡ leastOf (d .bound) (top d) (liveIn (s .rest) ps) = ep ∙ ap (λ (n : ℕ). leastOf (d .bound) n (liveIn (s .rest) ps)) et in
       let xs = filter (worksAt (d .bound) (l .price)) (liveIn (s .rest) ps) in
       let os = inSequence xs in
-      let cs : liveIn (l .customers) ps ≡ filter isCustomer xs =
+      let cs : liveIn (l .customers) ps ≡ filter fromCustomer xs =
       ap (λ (n : ℕ). liveIn n ps) (ec ∙ k .customers) ∙ word-filters (customerAt (d .bound) (l .price)) (s .rest) ps ∙ customers-word (l .price) in
-      let ot : liveIn (l .others) ps ≡ filter isOther xs =
+      let ot : liveIn (l .others) ps ≡ filter fromOther xs =
       ap (λ (n : ℕ). liveIn n ps) (eo ∙ k .others) ∙ word-filters (otherAt (d .bound) (l .price)) (s .rest) ps ∙ others-word (l .price) in
-      let sc : inSequence (liveIn (l .customers) ps) ≡ filter isCustomer os = ap inSequence cs ∙ sym (sequence-filter isCustomer xs) in
-      let so : inSequence (liveIn (l .others) ps) ≡ filter isOther os = ap inSequence ot ∙ sym (sequence-filter isOther xs) in
+      let sc : inSequence (liveIn (l .customers) ps) ≡ filter fromCustomer os = ap inSequence cs ∙ sym (sequence-filter fromCustomer xs) in
+      let so : inSequence (liveIn (l .others) ps) ≡ filter fromOther os = ap inSequence ot ∙ sym (sequence-filter fromOther xs) in
       let t : l .total ≡ sum (sizes (liveIn (l .others) ps)) = eT ∙ k .total ∙ ap (λ (x : List Response). sum (sizes x)) (others-word (l .price) ∙ sym ot) in
       let c : l .served ≡ sum (sizes (liveIn (l .customers) ps)) = es ∙ k .served ∙ ap (λ (x : List Response). sum (sizes x)) (customers-word (l .price) ∙ sym cs) in
-      let C : l .served ≡ sum (sizes (filter isCustomer os)) = c ∙ sym (sizes-sequence (liveIn (l .customers) ps)) ∙ ap (λ (x : List Response). sum (sizes x)) sc in
-      let O : l .total ≡ sum (sizes (filter isOther os)) = t ∙ sym (sizes-sequence (liveIn (l .others) ps)) ∙ ap (λ (x : List Response). sum (sizes x)) so in
+      let C : l .served ≡ sum (sizes (filter fromCustomer os)) = c ∙ sym (sizes-sequence (liveIn (l .customers) ps)) ∙ ap (λ (x : List Response). sum (sizes x)) sc in
+      let O : l .total ≡ sum (sizes (filter fromOther os)) = t ∙ sym (sizes-sequence (liveIn (l .others) ps)) ∙ ap (λ (x : List Response). sum (sizes x)) so in
       let A : l .served + l .total ≡ sum (sizes os) = omega (arith, sizes-split os) in
       let M : m ≡ matchOf (d .mode) G (s .held) (sum (sizes os)) = em ∙ ap (matchOf (d .mode) G (s .held)) A in
       let F : l .last ≡ lastOf (entry d) (top d) (l .price) (s .left) (sum (sizes os) + matchOf (d .mode) G (s .held) (sum (sizes os))) = rw (← et, ← ee, ← M, ← A) el in
       let W : l .want ≡ wantOf (lastOf (entry d) (top d) (l .price) (s .left) (sum (sizes os) + matchOf (d .mode) G (s .held) (sum (sizes os)))) (entry d) (l .price) G (s .held) (matchOf (d .mode) G (s .held) (sum (sizes os))) =
       rw (← F, ← ee, ← M) ew in
       let gone : l .customers + l .others ≡ wordOf (worksAt (d .bound) (l .price)) (s .rest) ps =
-      ap₂ (λ (x y : ℕ). x + y) (ec ∙ k .customers) (eo ∙ k .others) ∙ word-parts (worksAt (d .bound) (l .price)) isCustomer (s .rest) ps in
+      ap₂ (λ (x y : ℕ). x + y) (ec ∙ k .customers) (eo ∙ k .others) ∙ word-parts (worksAt (d .bound) (l .price)) fromCustomer (s .rest) ps in
       record {
         price-is = p;
         customers-are = rw (← p) sc;
@@ -161,7 +161,7 @@ module _ (d : Deal) (ps : List Response) (G : ℕ) (s : Walked) (l : Price) (k :
   unfolding levelOf
   contra-found = rw (served-all, total-all, k .want-is, k .last-is) (sym (contra-numbers (levelOf d ps G s)))
 
-  pub left-found : leftOf (s .left) (l .served) (l .total) (l .want) (l .last) ≡ s .left - total (levelFills (levelOf d ps G s))
+  pub left-found : leftOf (s .left) (l .served) (l .total) (l .want) (l .last) ≡ s .left - traded (levelFills (levelOf d ps G s))
   unfolding levelOf
   left-found = rw (served-all, total-all, k .want-is, k .last-is) (sym (left-numbers (levelOf d ps G s)))
 
@@ -169,18 +169,18 @@ module _ (d : Deal) (ps : List Response) (G : ℕ) (s : Walked) (l : Price) (k :
   unfolding levelOf
   shared-found = rw (served-all, k .want-is) (sym (shared-numbers (levelOf d ps G s)))
 
-  pub place-is : (price c : ℕ) → price ≡ shown (d .sell) (l .price) → c ≡ contraOf (s .left) (l .served) (l .total) (l .want) (l .last)
+  pub place-is : (price c : ℕ) → price ≡ reportedPrice (d .sell) (l .price) → c ≡ contraOf (s .left) (l .served) (l .total) (l .want) (l .last)
       → placeFills price (s .left) (inSequence (liveIn (l .customers) ps)) c (sharedOf (s .left) (l .served) (l .want)) (inSequence (liveIn (l .others) ps))
       ≡ reported (d .sell) (levelFills (levelOf d ps G s))
   unfolding levelOf
   place-is price c e f =
-      let q : price ≡ shown (d .sell) (levelOf d ps G s .price) = e ∙ ap (shown (d .sell)) (k .price-is) in
+      let q : price ≡ reportedPrice (d .sell) (levelOf d ps G s .price) = e ∙ ap (reportedPrice (d .sell)) (k .price-is) in
       let r : c ≡ contra (levelOf d ps G s) = f ∙ contra-found in
       rw (q, r, shared-found, k .customers-are, k .others-are) (sym (reported-level (d .sell) (levelOf d ps G s)))
 
   pub stepped : (r : Walked) → r .from ≡ l .price + 1 → r .rest ≡ s .rest - l .customers - l .others
       → r .left ≡ leftOf (s .left) (l .served) (l .total) (l .want) (l .last) → r .held ≡ s .held + contraOf (s .left) (l .served) (l .total) (l .want) (l .last)
-      → Stepped d ps G s r
+      → WalkedOn d ps G s r
   stepped r a b c e =
       record {
         from-is = a ∙ ap (λ (n : ℕ). n + 1) (k .price-is);
@@ -206,7 +206,7 @@ ahead-all d (x ∷ xs) =
 module _ (d : Deal) (ps : List Response) (live G : ℕ) (s : Walked) (g : G ≡ guarantee d (inSequence (liveIn live ps)))
     (r : liveIn (s .rest) ps ≡ filter (ahead d (s .from)) (liveIn live ps)) (h : s .from ≤ top d) (z : 0 < s .left) where
   -- what is to be written: this level's fills, and those of the rest of the walk
-  pub walk-fills : (from left held : ℕ) → from ≡ levelOf d ps G s .price + 1 → left ≡ s .left - total (levelFills (levelOf d ps G s)) → held ≡ s .held + contra (levelOf d ps G s)
+  pub walk-fills : (from left held : ℕ) → from ≡ levelOf d ps G s .price + 1 → left ≡ s .left - traded (levelFills (levelOf d ps G s)) → held ≡ s .held + contra (levelOf d ps G s)
       → reported (d .sell) (flat (walkFrom d (inSequence (liveIn live ps)) (s .from) (s .left) (s .held)))
       ≡ reported (d .sell) (levelFills (levelOf d ps G s)) ++ reported (d .sell) (flat (walkFrom d (inSequence (liveIn live ps)) from left held))
   walk-fills from left held a b c =
@@ -227,5 +227,5 @@ level-above d ps live G s r h =
     (rw e (next-above d (s .from) h (liveIn live ps)), rw e (next-top d (s .from) (liveIn live ps)))
 
 -- what the Contra Order takes and what is left are no more than there was
-pub contra-left : (l : Level) → contra l + (l .left - total (levelFills l)) ≤ l .left
+pub contra-left : (l : Level) → contra l + (l .left - traded (levelFills l)) ≤ l .left
 contra-left l = rw (contra-numbers l, left-numbers l) (contra-within (l .left) (sum (sizes (customers l))) (sum (sizes (others l))) (l .want) (l .final))

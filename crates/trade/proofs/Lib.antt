@@ -1,4 +1,5 @@
 -- Laws that belong to no one function.
+pub mod PlanLaws
 pub mod CodeLaws
 pub mod FoundLaws
 pub mod WriteLaws
@@ -6,18 +7,7 @@ pub mod StepLaws
 pub mod LevelLaws
 pub mod WholeLaws
 pub mod Lists
-pub mod Order
 pub mod Levels
 pub mod Walk
-pub mod Runs
 pub mod Counts
-pub mod Fair
-pub mod Turns
-pub mod Limits
-pub mod Market
-pub mod Theorems
-pub mod Plans
-pub mod Teeth
-pub mod Examples
-pub mod Random
 pub mod Settled

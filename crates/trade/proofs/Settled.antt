@@ -1,6 +1,6 @@
 -- Each public function's contract settles it. What is cited is made from the code's own clauses, so a clause that says less is refused here.
-use mathlib.Core.Path.{refl, sym, _∙_, ap}
-use Rattle.words.specs.Settled.{Settled}
+use mathlib.Core.Path.{sym, _∙_, ap}
+use Rattle.base.specs.Settled.{Settled}
 use Rattle.trade.proofs as contracts
 
 pub write-fills : Settled contracts.write_fills.ended contracts.write_fills.Reads.Asked contracts.write_fills.Reads.Learnt

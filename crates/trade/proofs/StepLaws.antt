@@ -1,6 +1,6 @@
 -- How the code follows the walk: a turn of its loop is a level of the definition. For any deal, sound or not.
 use mathlib.Core.Path.{_≡_, refl, sym, ap, _∙_}
-use mathlib.Core.Bool.{Bool, true, false, cond, not, _&&_, false≢true, true≢false}
+use mathlib.Core.Bool.{Bool, true, false, cond, not, _&&_, and-false, false≢true, true≢false}
 use mathlib.Core.List.{List, [], _∷_}
 use mathlib.Core.Logic.{_⊎_, inl, inr, _≢_}
 use Prim.Native.Nat.{ℕ, zero, suc, _+_, _-_, _*_, _/_, _%_, _^_, _≤_, _<_, min}
@@ -10,15 +10,18 @@ use borrow.Author.Tests.{leb-true, leb-false, ltb-true, ltb-false, eqb-true, eqb
 use lib.Dec.{leb, ltb, eqb}
 use lib.ListN.{length}
 use Rattle.board.specs.declared.Response.{Response}
-use Rattle.board.specs.Lists.{keep, filter}
-use Rattle.board.specs.Board.{liveIn, wordOf, inSequence}
+use Rattle.base.proofs.ListLaws.{filter-filter}
+use Rattle.base.specs.Lists.{keep, filter, sum, In}
+use Rattle.board.specs.rules.Board.{liveIn, wordOf, inSequence}
 use Rattle.board.proofs.LiveLaws.{word-filters}
 use Rattle.board.proofs.SequenceLaws.{sequence-filter}
+use Rattle.share.specs.rules.Fills.{sizes}
 use Rattle.trade.specs.declared.Deal.{Deal}
 use Rattle.trade.specs.declared.Walked.{Walked}
-use Rattle.trade.specs.Trade.{Level, contra, levelFills, total, working, top, next, guarantee, offersAt, matches, isFinal, wants, levelAt, walk, marketTakes, levels}
-use Rattle.trade.specs.Demands.{In}
-use Rattle.trade.specs.Code.{matchOf, lastOf, wantOf, worksAt, leastOf, levelOf, walkFrom}
+use Rattle.trade.specs.rules.Plan.{Plan}
+use Rattle.trade.specs.rules.Trade.{Level, contra, levelFills, traded, working, top, next, guarantee, offersAt, levelAt, walk, marketTakes, levels}
+use Rattle.trade.specs.inside.Code.{worksAt, leastOf, levelOf, walkFrom}
+use Rattle.trade.proofs.PlanLaws.{plan-is}
 use Rattle.trade.proofs.Walk.{next-above, next-top, next-least, walk-none, walk-past, walk-some}
 use Rattle.trade.proofs.WriteLaws.{fold-sequence}
 
@@ -47,14 +50,14 @@ module _ (d : Deal) (rs : List Response) where
           let l = levelAt d rs (next d from rs) left held in
           let q : from ≤ l .price = rw (price-at (next d from rs) left held) (next-above d from y rs) in
           walk-some d rs n from left held (omega arith) y
-          ∙ ap {B = List Level} (λ ls. l ∷ ls) (ih (l .price + 1) (left - total (levelFills l)) (held + contra l) (omega arith) (omega arith))
+          ∙ ap {B = List Level} (λ ls. l ∷ ls) (ih (l .price + 1) (left - traded (levelFills l)) (held + contra l) (omega arith) (omega arith))
           ∙ sym (walk-some d rs m from left held (omega arith) y)
 
   -- a turn, and the end
   pub from-step : (from left held : ℕ) → 0 < left → from ≤ top d
       → walkFrom d rs from left held
       ≡ levelAt d rs (next d from rs) left held
-      ∷ walkFrom d rs (next d from rs + 1) (left - total (levelFills (levelAt d rs (next d from rs) left held))) (held + contra (levelAt d rs (next d from rs) left held))
+      ∷ walkFrom d rs (next d from rs + 1) (left - traded (levelFills (levelAt d rs (next d from rs) left held))) (held + contra (levelAt d rs (next d from rs) left held))
   unfolding walkFrom
   from-step from left held z h =
       let l = levelAt d rs (next d from rs) left held in
@@ -65,8 +68,8 @@ module _ (d : Deal) (rs : List Response) where
       ap (λ n. walk d rs n from left held) e
       ∙ walk-some d rs (top d - from) from left held z h
       ∙ ap {B = List Level} (λ ls. l ∷ ls)
-      (ap (λ n. walk d rs (top d - from) (n + 1) (left - total (levelFills l)) (held + contra l)) x
-      ∙ fuel (top d - from) (suc (top d) - (p + 1)) (p + 1) (left - total (levelFills l)) (held + contra l) (omega arith) (omega arith))
+      (ap (λ n. walk d rs (top d - from) (n + 1) (left - traded (levelFills l)) (held + contra l)) x
+      ∙ fuel (top d - from) (suc (top d) - (p + 1)) (p + 1) (left - traded (levelFills l)) (held + contra l) (omega arith) (omega arith))
 
   pub from-none : (from left held : ℕ) → left ≡ 0 → walkFrom d rs from left held ≡ []
   unfolding walkFrom
@@ -123,15 +126,6 @@ word-parts t u w (x ∷ ps) = go (eqb (w % 2) 1) (t x) (u x) (word-parts t u (w 
 
 -- ---- filters
 
-pub filter-step : {A : Type 0} (p q r : A → Bool) (xs : List A) → ((x : A) → In x xs → (q x && p x) ≡ r x) → filter p (filter q xs) ≡ filter r xs
-unfolding filter
-filter-step p q r [] h = refl
-filter-step p q r (x ∷ xs) h = go (q x) (p x) (r x) refl (h x (inl refl)) (filter-step p q r xs (λ y m. h y (inr m)))
-  where
-    go : (a b c : Bool) → p x ≡ b → (a && b) ≡ c → filter p (filter q xs) ≡ filter r xs → filter p (keep a x (filter q xs)) ≡ keep c x (filter r xs)
-    go true b c e f ih = rw (e, f) (ap (keep c x) ih)
-    go false b c e f ih = rw (← f) ih
-
 module _ (d : Deal) (from : ℕ) where
   -- the responses that work from a price on
   abbrev pub ahead : Response → Bool
@@ -139,21 +133,17 @@ module _ (d : Deal) (from : ℕ) where
 
   -- those at a price from there on
   ahead-at : (p : ℕ) (xs : List Response) → from ≤ p → filter (worksAt (d .bound) p) (filter ahead xs) ≡ filter (worksAt (d .bound) p) xs
-  ahead-at p xs h = filter-step (worksAt (d .bound) p) ahead (worksAt (d .bound) p) xs (λ x m. go x (eqb (working d x) p) refl)
+  ahead-at p xs h = filter-filter (worksAt (d .bound) p) ahead (worksAt (d .bound) p) xs (λ x m. go x (eqb (working d x) p) refl)
     where
       go : (x : Response) (b : Bool) → eqb (working d x) p ≡ b → (ahead x && b) ≡ b
       go x true e = rw (le-leb from (working d x) (omega (arith, eqb-true (working d x) p e)))
-      go x false e = no (ahead x)
-        where
-          no : (b : Bool) → (b && false) ≡ false
-          no true = refl
-          no false = refl
+      go x false e = and-false (ahead x)
 
   -- and those after the least of them
   ahead-past : (p : ℕ) (xs : List Response) → from ≤ p → ((x : Response) → In x xs → from ≤ working d x → p ≤ working d x)
       → filter (λ x. not (worksAt (d .bound) p x)) (filter ahead xs) ≡ filter (λ r. leb (p + 1) (working d r)) xs
   ahead-past p xs h least =
-      filter-step (λ x. not (worksAt (d .bound) p x)) ahead (λ r. leb (p + 1) (working d r)) xs (λ x m. go x (leb from (working d x)) (eqb (working d x) p) (leb (p + 1) (working d x)) refl refl refl (least x m))
+      filter-filter (λ x. not (worksAt (d .bound) p x)) ahead (λ r. leb (p + 1) (working d r)) xs (λ x m. go x (leb from (working d x)) (eqb (working d x) p) (leb (p + 1) (working d x)) refl refl refl (least x m))
     where
       go : (x : Response) (a b c : Bool) → leb from (working d x) ≡ a → eqb (working d x) p ≡ b → leb (p + 1) (working d x) ≡ c → (from ≤ working d x → p ≤ working d x) → (a && not b) ≡ c
       go x true true true e f g l = absurd (omega (arith, eqb-true (working d x) p f, leb-true (p + 1) (working d x) g))
@@ -197,8 +187,14 @@ module _ (d : Deal) (ps : List Response) (live G : ℕ) (s : Walked) (g : G ≡ 
       ∙ sym (sequence-filter (worksAt (d .bound) p) (liveIn live ps))
 
   pub level-is : levelOf d ps G s ≡ levelAt d (inSequence (liveIn live ps)) (next d (s .from) (inSequence (liveIn live ps))) (s .left) (s .held)
-  unfolding levelOf levelAt wants isFinal matches lastOf wantOf matchOf
-  level-is = rw (price-next, here-next, g)
+  unfolding levelOf levelAt
+  level-is =
+      let rs = inSequence (liveIn live ps) in
+      let p = next d (s .from) rs in
+      let os = offersAt d rs p in
+      rw (price-next, here-next, g)
+      (ap (λ (q : Plan). record { price = p; left = s .left; held = s .held; want = q .want; final = q .final; here = os })
+      (plan-is d (guarantee d rs) p (s .left) (s .held) (sum (sizes os)) (next-top d (s .from) rs)))
 
   price-is : levelOf d ps G s .price ≡ next d (s .from) (inSequence (liveIn live ps))
   unfolding levelOf
@@ -216,7 +212,7 @@ module _ (d : Deal) (ps : List Response) (live G : ℕ) (s : Walked) (g : G ≡ 
   -- a turn of the walk
   pub walk-turn : 0 < s .left
       → walkFrom d (inSequence (liveIn live ps)) (s .from) (s .left) (s .held)
-      ≡ levelOf d ps G s ∷ walkFrom d (inSequence (liveIn live ps)) (levelOf d ps G s .price + 1) (s .left - total (levelFills (levelOf d ps G s))) (s .held + contra (levelOf d ps G s))
+      ≡ levelOf d ps G s ∷ walkFrom d (inSequence (liveIn live ps)) (levelOf d ps G s .price + 1) (s .left - traded (levelFills (levelOf d ps G s))) (s .held + contra (levelOf d ps G s))
   unfolding levelAt
   walk-turn z = rw (price-is, level-is) (from-step d (inSequence (liveIn live ps)) (s .from) (s .left) (s .held) z h)
 

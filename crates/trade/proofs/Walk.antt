@@ -1,66 +1,17 @@
--- The walk from price to price: what its levels are, and what follows of them all.
-use mathlib.Core.Path.{_≡_, refl, sym, ap, _∙_, subst}
-use mathlib.Core.Bool.{Bool, true, false, cond, _&&_, _||_, true≢false}
+-- The walk from price to price, a step at a time: for any deal, sound or not.
+use mathlib.Core.Path.{_≡_, refl, sym, _∙_, subst}
+use mathlib.Core.Bool.{Bool, true, false, cond, or-true}
 use mathlib.Core.List.{List, [], _∷_}
-use mathlib.Core.Logic.{_⊎_, inl, inr, _≢_}
+use mathlib.Core.Logic.{inl, inr}
 use Prim.Native.Nat.{ℕ, zero, suc, _+_, _-_, _≤_, _<_, min}
 use native.Mathlib.Omega.{arith}
-use borrow.Author.Tests.{leb-true, leb-false, eqb-true, eqb-false, eq-eqb, ne-eqb, le-leb, lt-leb, lt-ltb, le-ltb}
+use borrow.Author.Tests.{leb-true, leb-false, eq-eqb, ne-eqb, le-leb, lt-ltb, le-ltb}
 use lib.Dec.{leb, eqb}
 use lib.ListN.{length}
 use Rattle.board.specs.declared.Response.{Response}
-use Rattle.board.specs.Lists.{Every, keep, filter}
+use Rattle.base.specs.Lists.{keep, filter, In}
 use Rattle.trade.specs.declared.Deal.{Deal}
-use Rattle.trade.specs.Trade.{Level, contra, levelFills, total, working, workingStop, top, entry, next, guarantee, offersAt, matches, isFinal, wants, levelAt, walk, levels}
-use Rattle.trade.specs.Demands.{In, Absent, Distinct, sizeHere}
-use Rattle.trade.specs.Plan.{planOf}
-use Rattle.trade.proofs.Levels.{traded-final}
-
--- what an auction that ended has, over its live responses in any order
-pub record Fit (d : Deal) (rs : List Response) : Type 0 where
-  pub bound-below : d .bound ≤ d .initiating
-  pub stop-below : d .stop ≤ d .initiating
-  pub parties : Every (λ o. 0 < o .sequence) rs
-  pub distinct : Distinct rs
-  pub market-apart : 0 < d .selling → (0 < d .market) × Absent (d .market) rs
-
-or-true : (b : Bool) → (b || true) ≡ true
-or-true true = refl
-or-true false = refl
-
--- ---- the range
-
-pub top-below : (d : Deal) (rs : List Response) → Fit d rs → top d ≤ d .initiating
-unfolding top
-top-below d rs s = go (eqb (d .mode) 1)
-  where
-    go : (b : Bool) → cond b (workingStop d) (d .initiating) ≤ d .initiating
-    go true = omega arith
-    go false = omega arith
-
-pub top-above : (d : Deal) (rs : List Response) → Fit d rs → d .bound ≤ top d
-unfolding top
-top-above d rs s = go (eqb (d .mode) 1)
-  where
-    go : (b : Bool) → d .bound ≤ cond b (workingStop d) (d .initiating)
-    go true = omega arith
-    go false = omega arith
-
-pub stop-top : (d : Deal) (rs : List Response) → Fit d rs → workingStop d ≤ top d
-unfolding top
-stop-top d rs s = go (eqb (d .mode) 1)
-  where
-    go : (b : Bool) → workingStop d ≤ cond b (workingStop d) (d .initiating)
-    go true = omega arith
-    go false = omega arith
-
-pub entry-below : (d : Deal) (rs : List Response) → Fit d rs → entry d ≤ top d
-unfolding entry
-entry-below d rs s = go (eqb (d .mode) 2)
-  where
-    go : (b : Bool) → cond b 0 (workingStop d) ≤ top d
-    go true = omega arith
-    go false = stop-top d rs s
+use Rattle.trade.specs.rules.Trade.{contra, levelFills, traded, working, top, next, levelAt, walk}
 
 -- ---- the next price
 
@@ -85,9 +36,6 @@ module _ (d : Deal) (from : ℕ) where
   pub next-above : from ≤ top d → (os : List Response) → from ≤ next d from os
   next-above h os = next-holds (λ n. from ≤ n) (λ a b p q. omega arith) h (λ o p. p) os
 
-  pub next-bound : d .bound ≤ top d → (os : List Response) → d .bound ≤ next d from os
-  next-bound h os = next-holds (λ n. d .bound ≤ n) (λ a b p q. omega arith) h (λ o p. omega arith) os
-
   pub next-top : (os : List Response) → next d from os ≤ top d
   unfolding next
   next-top [] = omega arith
@@ -101,15 +49,6 @@ module _ (d : Deal) (from : ℕ) where
       let c : next d from (x ∷ xs) ≤ working d x = rw (le-leb from (working d x) f) (omega arith) in
       subst (λ y. next d from (x ∷ xs) ≤ working d y) (sym e) c
   next-least (x ∷ xs) o (inr m) h = omega (arith, next-least xs o m h)
-
-  pub next-high : (q : ℕ) → q ≤ top d → (os : List Response) → Every (λ o. q ≤ working d o) os → q ≤ next d from os
-  unfolding next
-  next-high q t [] a = t
-  next-high q t (o ∷ os) a = omega (arith, go (leb from (working d o)), next-high q t os (a .1))
-    where
-      go : (b : Bool) → q ≤ cond b (working d o) (top d)
-      go true = a .0
-      go false = t
 
   -- a price below the last is a response's
   pub next-some : (os : List Response) → next d from os < top d → 0 < length (filter (λ o. eqb (working d o) (next d from os)) os)
@@ -142,32 +81,7 @@ module _ (d : Deal) (from : ℕ) where
           let p : next d from (o ∷ os) ≡ next d from os = omega arith in
           subst (λ n. 0 < countAt d n (o ∷ os)) (sym p) (more (next d from os) (ih (omega arith)))
 
--- ---- a level of the walk
-
-pub record Good (d : Deal) (rs : List Response) (from left held : ℕ) (l : Level) : Type 0 where
-  pub above : from ≤ l .price
-  pub in-bound : d .bound ≤ l .price
-  pub in-top : l .price ≤ top d
-  pub least : (o : Response) → In o rs → from ≤ working d o → l .price ≤ working d o
-  pub planned : planOf l ≡ record { want = wants d rs (l .price) (l .left) (l .held) (sizeHere l); final = isFinal d rs (l .price) (l .left) (l .held) (sizeHere l) }
-  pub here-are : l .here ≡ offersAt d rs (l .price)
-  pub left-is : l .left ≡ left
-  pub left-some : 0 < left
-  pub held-is : l .held ≡ held
-  pub goes-on : l .final ≡ false → l .price < top d
-  pub peopled : l .price < top d → 0 < length (l .here)
-  pub final-want : l .final ≡ true → l .want ≡ guarantee d rs - held
-  -- below the entry price the Contra Order takes no part
-  pub below-entry : l .price < entry d → (l .want ≡ 0) × (l .final ≡ false)
-  -- it takes no part here, or what is left covers the responses and what it matches, and more
-  pub open-want : l .final ≡ false → ((l .price < entry d) × (l .want ≡ 0)) ⊎ (sizeHere l + l .want < left)
-
--- the levels of a walk from the price `from` on: it ends where nothing is left
-abbrev pub Run : Deal → List Response → ℕ → ℕ → ℕ → List Level → Type 0
-Run d rs from left held [] = left ≡ 0
-Run d rs from left held (l ∷ ls) = Good d rs from left held l × Run d rs (l .price + 1) (left - total (levelFills l)) (held + contra l) ls
-
--- the walk, a step at a time: for any deal
+-- ---- a step
 module _ (d : Deal) (rs : List Response) where
   pub walk-zero : (from left held : ℕ) → walk d rs 0 from left held ≡ []
   unfolding walk
@@ -186,97 +100,6 @@ module _ (d : Deal) (rs : List Response) where
   pub walk-some : (n from left held : ℕ) → 0 < left → from ≤ top d
       → walk d rs (suc n) from left held
       ≡ levelAt d rs (next d from rs) left held
-      ∷ walk d rs n (levelAt d rs (next d from rs) left held .price + 1) (left - total (levelFills (levelAt d rs (next d from rs) left held))) (held + contra (levelAt d rs (next d from rs) left held))
+      ∷ walk d rs n (levelAt d rs (next d from rs) left held .price + 1) (left - traded (levelFills (levelAt d rs (next d from rs) left held))) (held + contra (levelAt d rs (next d from rs) left held))
   unfolding walk
   walk-some n from left held z h = rw (ne-eqb left 0 (omega arith), le-ltb (top d) from h, walk)
-
-module _ (d : Deal) (rs : List Response) (s : Fit d rs) where
-  final-top : (p left held A : ℕ) → p ≤ top d → isFinal d rs p left held A ≡ false → p < top d
-  unfolding isFinal
-  final-top p left held A h e = go (eqb p (top d)) refl
-    where
-      go : (b : Bool) → eqb p (top d) ≡ b → p < top d
-      go true q =
-          let t : p ≡ top d = eqb-true p (top d) q in
-          let c : leb (entry d) p ≡ true = le-leb (entry d) p (omega (arith, entry-below d rs s)) in
-          absurd (true≢false (sym (rw (c, q)) ∙ e))
-      go false q =
-          let n : p ≢ top d = eqb-false p (top d) q in
-          omega arith
-
-  final-wants : (p left held A : ℕ) → isFinal d rs p left held A ≡ true → wants d rs p left held A ≡ guarantee d rs - held
-  unfolding wants
-  final-wants p left held A e = rw e
-
-  below-wants : (p left held A : ℕ) → p < entry d → (wants d rs p left held A ≡ 0) × (isFinal d rs p left held A ≡ false)
-  unfolding wants isFinal
-  below-wants p left held A h = let e : leb (entry d) p ≡ false = lt-leb (entry d) p h in (rw e, rw e)
-
-  open-wants : (p left held A : ℕ) → isFinal d rs p left held A ≡ false → ((p < entry d) × (wants d rs p left held A ≡ 0)) ⊎ (A + wants d rs p left held A < left)
-  unfolding wants isFinal
-  open-wants p left held A e = go (leb (entry d) p) refl
-    where
-      and-or : (b c : Bool) → (true && (b || c)) ≡ false → c ≡ false
-      and-or true c e = absurd (true≢false e)
-      and-or false c e = e
-
-      go : (b : Bool) → leb (entry d) p ≡ b → ((p < entry d) × (wants d rs p left held A ≡ 0)) ⊎ (A + wants d rs p left held A < left)
-      go true q =
-          let f : leb left (A + matches d rs held A) ≡ false = and-or (eqb p (top d)) _ (ap (λ b. b && (eqb p (top d) || leb left (A + matches d rs held A))) (sym q) ∙ e) in
-          let w : wants d rs p left held A ≡ matches d rs held A = rw (e, q) in
-          inr (omega (arith, leb-false left (A + matches d rs held A) f))
-      go false q = inl (leb-false (entry d) p q, rw (q))
-
-  peopled-at : (from : ℕ) → next d from rs < top d → 0 < length (offersAt d rs (next d from rs))
-  unfolding offersAt
-  peopled-at from h = next-some d from rs h
-
-  good : (from left held : ℕ) → from ≤ top d → 0 < left → Good d rs from left held (levelAt d rs (next d from rs) left held)
-  unfolding levelAt
-  good from left held h z =
-      let p = next d from rs in
-      record {
-        above = next-above d from h rs;
-        in-bound = next-bound d from (top-above d rs s) rs;
-        in-top = next-top d from rs;
-        least = next-least d from rs;
-        planned = refl;
-        here-are = refl;
-        left-is = refl;
-        left-some = z;
-        held-is = refl;
-        goes-on = final-top p left held _ (next-top d from rs);
-        peopled = peopled-at from;
-        final-want = final-wants p left held _;
-        below-entry = below-wants p left held _;
-        open-want = open-wants p left held _;
-      }
-
-  ended : (n from left held : ℕ) → left ≡ 0 → Run d rs from left held (walk d rs n from left held)
-  ended n from left held e = rw (walk-none d rs n from left held e) e
-
-  -- the walk ends with nothing left: fuel for each price up to the last is enough
-  pub runs : (n from left held : ℕ) → from ≤ top d → top d < from + n → Run d rs from left held (walk d rs n from left held)
-  runs zero from left held h f = absurd (omega arith)
-  runs (suc n) from left held h f = go (eqb left 0) refl (λ from left held a b. runs n from left held a b)
-    where
-      l : Level
-      l = levelAt d rs (next d from rs) left held
-
-      rest-of : List Level
-      rest-of = walk d rs n (l .price + 1) (left - total (levelFills l)) (held + contra l)
-
-      on : (c : Bool) → l .final ≡ c → Good d rs from left held l
-          → ((from left held : ℕ) → from ≤ top d → top d < from + n → Run d rs from left held (walk d rs n from left held))
-          → Run d rs (l .price + 1) (left - total (levelFills l)) (held + contra l) rest-of
-      on true c k r = ended n (l .price + 1) (left - total (levelFills l)) (held + contra l) (omega (arith, traded-final l c, k .left-is))
-      on false c k r = r (l .price + 1) (left - total (levelFills l)) (held + contra l) (omega (arith, k .goes-on c)) (omega (arith, k .above))
-
-      go : (b : Bool) → eqb left 0 ≡ b
-          → ((from left held : ℕ) → from ≤ top d → top d < from + n → Run d rs from left held (walk d rs n from left held))
-          → Run d rs from left held (walk d rs (suc n) from left held)
-      go true e r = ended (suc n) from left held (eqb-true left 0 e)
-      go false e r =
-          let z : left ≢ 0 = eqb-false left 0 e in
-          let k : Good d rs from left held l = good from left held h (omega arith) in
-          rw (walk-some d rs n from left held (omega arith) h) (k, on (l .final) refl k r)

@@ -9,21 +9,23 @@ use native.Mathlib.Omega.{arith}
 use borrow.Author.Tests.{eq-eqb, ne-eqb, le-leb, lt-leb}
 use borrow.Rule.Slice.PartMut.{putMid}
 use lib.ListN.{length, take, drop, length-drop, drop-of-length-le}
-use lib.Seq.{take-all, drop-drop}
-use Rattle.words.specs.Bits.{setIn, onesIn}
+use lib.Seq.{drop-drop}
+use Rattle.base.proofs.SetsLaws.{rest-is}
+use Rattle.words.specs.rules.Bits.{trailingZeros, onesIn}
 use Rattle.board.specs.declared.Response.{Response}
 use Rattle.board.specs.declared.Board.{Board}
-use Rattle.board.specs.Board.{liveIn, liveOf, inSequence}
-use Rattle.board.proofs.ListLaws.{shuffles-length}
+use Rattle.board.specs.rules.Board.{liveIn, liveOf, inSequence}
+use Rattle.base.proofs.ListLaws.{shuffles-length}
 use Rattle.board.proofs.LiveLaws.{none-live, count-live}
 use Rattle.board.proofs.SequenceLaws.{sequence-shuffles}
-use Rattle.share.specs.Fills.{Fill, fillOf, words, written}
+use Rattle.share.specs.rules.Fills.{Fill, fillOf, words}
+use Rattle.share.specs.inside.Fills.{written}
 use Rattle.share.proofs.FillsLaws.{written-words}
 use Rattle.trade.specs.declared.Deal.{Deal}
 use Rattle.trade.specs.declared.Filled.the-variants.{Count, Refused}
-use Rattle.trade.specs.Trade.{offers, Level, flat, workingStop, top, next, guaranteeOf, guarantee, marketPrice, marketTakes, marketFill, levels, fills}
-use Rattle.trade.specs.Write.{shown, reported, fillsOf, roomy, answer, after}
-use Rattle.trade.specs.Code.{leastOf, walkFrom}
+use Rattle.trade.specs.rules.Trade.{offers, Level, flat, workingStop, top, next, guaranteeOf, guarantee, marketPrice, marketTakes, marketFill, levels, fills}
+use Rattle.trade.specs.rules.Write.{reportedPrice, reported, fillsOf, roomy, fillAnswer, fillWords}
+use Rattle.trade.specs.inside.Code.{leastOf, walkFrom}
 use Rattle.trade.proofs.CodeLaws.{turn-of, count-turn, live-short}
 use Rattle.trade.proofs.StepLaws.{least-next, next-sequence, from-start}
 use Rattle.trade.proofs.LevelLaws.{ahead-all, reported-append, reported-length, reported-fill}
@@ -47,7 +49,7 @@ module _ (d : Deal) (ps : List Response) (live low : ℕ) (e : low ≡ leastOf (
   pub market-low : d .mode ≡ 2 → length ps ≡ 64 → 0 < live → live < 2 ^ 64 → low ≡ marketPrice d (inSequence (liveIn live ps))
   unfolding marketPrice
   market-low m l z f =
-      let c = count-turn ps live (setIn 64 live) (turn-of ps live (setIn 64 live) l z f refl) in
+      let c = count-turn ps live (trailingZeros 64 live) (turn-of ps live (trailingZeros 64 live) l z f refl) in
       let n : length (inSequence (liveIn live ps)) ≢ 0 = λ q. omega (arith, length-sequence (liveIn live ps)) in
       rw (eq-eqb (d .mode) 2 m, ne-eqb (length (inSequence (liveIn live ps))) 0 n) lowest
 
@@ -64,11 +66,11 @@ guarantee-found d ps live size n g l z e f =
     f ∙ ap₂ guaranteeOf z (e ∙ c ∙ sym (length-sequence (liveIn live ps)))
 
 pub all-fills : (d : Deal) (b : Board) (takes left : ℕ) → takes ≡ min (d .size) (d .selling) → left ≡ d .size - takes
-    → fillsOf d b ≡ fillOf (d .market) (shown (d .sell) (marketPrice d (offers b))) takes ++ reported (d .sell) (flat (walkFrom d (offers b) 0 left 0))
+    → fillsOf d b ≡ fillOf (d .market) (reportedPrice (d .sell) (marketPrice d (offers b))) takes ++ reported (d .sell) (flat (walkFrom d (offers b) 0 left 0))
 unfolding fillsOf fills
 all-fills d b takes left f g =
     reported-append (d .sell) (marketFill d (offers b)) (flat (levels d (offers b)))
-    ∙ ap₂ {C = List Fill} (λ x y. x ++ y) (reported-fill (d .sell) (d .market) (marketPrice d (offers b)) (marketTakes d (offers b)) ∙ ap {B = List Fill} (λ (q : ℕ). fillOf (d .market) (shown (d .sell) (marketPrice d (offers b))) q) (sym f))
+    ∙ ap₂ {C = List Fill} (λ x y. x ++ y) (reported-fill (d .sell) (d .market) (marketPrice d (offers b)) (marketTakes d (offers b)) ∙ ap {B = List Fill} (λ (q : ℕ). fillOf (d .market) (reportedPrice (d .sell) (marketPrice d (offers b))) q) (sym f))
     (ap (λ (ls : List Level). reported (d .sell) (flat ls)) (from-start d (offers b) ∙ ap (λ (n : ℕ). walkFrom d (offers b) 0 n 0) (ap (λ (n : ℕ). d .size - n) (sym f) ∙ sym g)))
 
 pub fills-few : (d : Deal) (b : Board) → length (b .places) ≡ 64 → length (fillsOf d b) ≤ 130
@@ -78,16 +80,12 @@ fills-few d b l =
 
 -- ---- a part that was lent from a start place on
 
--- the part is all that stands from a on
-whole-tail : (a : ℕ) (xs : List ℕ) → take (length xs - a) (drop a xs) ≡ drop a xs
-whole-tail a xs = take-all (length xs - a) (drop a xs) (le-of-eq (length-drop a xs))
-
 -- once it is back, the words stand before it as they were, and after the fills as they were
 pub words-back : (a : ℕ) (xs ys : List ℕ) (fs : List Fill) → 3 * length fs ≤ length xs - a → ys ≡ written (take (length xs - a) (drop a xs)) 0 fs
     → putMid a (length xs - a) xs ys ≡ take a xs ++ (words fs ++ drop (a + 3 * length fs) xs)
 words-back a xs ys fs h e =
     let w : ys ≡ words fs ++ drop (a + 3 * length fs) xs =
-    e ∙ ap (λ (l : List ℕ). written l 0 fs) (whole-tail a xs)
+    e ∙ ap (λ (l : List ℕ). written l 0 fs) (rest-is xs a)
     ∙ written-words (drop a xs) 0 fs (omega (arith, length-drop a xs))
     ∙ rw (zero-add (3 * length fs), drop-drop (3 * length fs) a xs) in
     ap {B = List ℕ} (λ r. take a xs ++ r) (ap {B = List ℕ} (λ r. ys ++ r) (drop-of-length-le (drop a xs) (le-of-eq (length-drop a xs))) ∙ append-nil ys ∙ w)
@@ -95,23 +93,23 @@ words-back a xs ys fs h e =
 -- ---- the answers
 
 module _ (ended : Bool) (d : Deal) (b : Board) (xs : List ℕ) (start : ℕ) where
-  pub not-ended : ended ≡ false → (Refused 40 ≡ answer ended d b xs start) × (xs ≡ after ended d b xs start)
-  unfolding answer after
+  pub not-ended : ended ≡ false → (Refused 40 ≡ fillAnswer ended d b xs start) × (xs ≡ fillWords ended d b xs start)
+  unfolding fillAnswer fillWords
   not-ended e = rw e (refl, refl)
 
-  pub start-past : ended ≡ true → length xs < start → (Refused 39 ≡ answer ended d b xs start) × (xs ≡ after ended d b xs start)
-  unfolding answer after roomy
+  pub start-past : ended ≡ true → length xs < start → (Refused 39 ≡ fillAnswer ended d b xs start) × (xs ≡ fillWords ended d b xs start)
+  unfolding fillAnswer fillWords roomy
   start-past e h = rw (e, lt-leb start (length xs) h) (refl, refl)
 
-  pub too-short : ended ≡ true → start ≤ length xs → length xs - start < 390 → (Refused 39 ≡ answer ended d b xs start) × (xs ≡ after ended d b xs start)
-  unfolding answer after roomy
+  pub too-short : ended ≡ true → start ≤ length xs → length xs - start < 390 → (Refused 39 ≡ fillAnswer ended d b xs start) × (xs ≡ fillWords ended d b xs start)
+  unfolding fillAnswer fillWords roomy
   too-short e h k = rw (e, le-leb start (length xs) h, lt-leb 390 (length xs - start) k) (refl, refl)
 
-  pub counted : ended ≡ true → start ≤ length xs → 390 ≤ length xs - start → (n : ℕ) → n ≡ length (fillsOf d b) → Count n ≡ answer ended d b xs start
-  unfolding answer roomy
+  pub counted : ended ≡ true → start ≤ length xs → 390 ≤ length xs - start → (n : ℕ) → n ≡ length (fillsOf d b) → Count n ≡ fillAnswer ended d b xs start
+  unfolding fillAnswer roomy
   counted e h k n f = rw (e, le-leb start (length xs) h, le-leb 390 (length xs - start) k, f)
 
   pub words-after : ended ≡ true → start ≤ length xs → 390 ≤ length xs - start
-      → take start xs ++ (words (fillsOf d b) ++ drop (start + 3 * length (fillsOf d b)) xs) ≡ after ended d b xs start
-  unfolding after roomy
+      → take start xs ++ (words (fillsOf d b) ++ drop (start + 3 * length (fillsOf d b)) xs) ≡ fillWords ended d b xs start
+  unfolding fillWords roomy
   words-after e h k = rw (e, le-leb start (length xs) h, le-leb 390 (length xs - start) k)

@@ -9,24 +9,24 @@ use borrow.Author.Tests.{leb-true, le-leb, lt-leb, lt-ltb}
 use lib.Dec.{leb, ltb}
 use lib.ListN.{length, getD}
 use lib.Pow.{pow-pos}
-use Rattle.words.specs.Bits.{bitAt, withoutBit, setIn}
-use Rattle.words.proofs.BitLaws.{no-bit, without-le, lowest-set}
+use Rattle.words.specs.rules.Bits.{bitAt, withoutBit, trailingZeros, withoutLowest}
+use Rattle.words.proofs.BitLaws.{no-bit, without-le, without-lowest, lowest-set, without-lt}
 use Rattle.board.specs.declared.Response.{Response}
-use Rattle.board.specs.Lists.{Inserts, Shuffles, sum}
-use Rattle.board.specs.Lists.Inserts.{here, there}
-use Rattle.board.specs.Lists.Shuffles.{none, more}
-use Rattle.board.specs.Board.{noResponse, liveIn, inserted, inSequence, firstInSequence}
-use Rattle.board.specs.Theorems.{RisingFrom}
-use Rattle.board.proofs.ListLaws.{every-inserts}
+use Rattle.base.specs.Lists.{Inserts, Shuffles, sum}
+use Rattle.base.specs.Lists.Inserts.{here, there}
+use Rattle.base.specs.Lists.Shuffles.{none, more}
+use Rattle.board.specs.rules.Board.{noResponse, liveIn, inserted, inSequence, firstInSequence}
+use Rattle.board.specs.promises.Board.{RisingFrom}
+use Rattle.base.proofs.ListLaws.{every-inserts}
 use Rattle.board.proofs.LiveLaws.{none-live, less-live}
 use Rattle.board.proofs.SequenceLaws.{From, rising-from, sequence-shuffles}
 use Rattle.board.proofs.FirstLaws.{some-first, first-earliest, earliest-sequence, Best, best-start, best-step, best-end}
-use Rattle.share.specs.Share.{floors, leftover, shares, inTurn}
-use Rattle.share.specs.Fills.{fillOf, sizes}
+use Rattle.share.specs.rules.Share.{floors, leftover, shares, inTurn}
+use Rattle.share.specs.rules.Fills.{fillOf, sizes}
 use Rattle.share.proofs.ShareLaws.{room, floors-at-most, shares-sum, shares-length}
-use Rattle.trade.specs.Code.{eachFills, dealt, shareFills, isRising, lastSequence, Known, Gives}
+use Rattle.trade.specs.inside.Code.{eachFills, dealt, shareFills, isRising, lastSequence, Summed, Gives}
 use Rattle.trade.specs.declared.Given.{Given}
-use Rattle.trade.proofs.CodeLaws.{cut-less, Turn, turn-of}
+use Rattle.trade.proofs.CodeLaws.{Turn, turn-of}
 
 -- ---- a turn of a loop by sequence: i is the place of the lowest sequence of rest
 
@@ -42,7 +42,7 @@ pick-of ps rest i e p h q =
     rw q
     (record {
       low = omega arith;
-      less = cut-less rest (firstInSequence ps rest) (f .set);
+      less = without-lt rest (firstInSequence ps rest) (f .set);
       cons = earliest-sequence ps rest (firstInSequence ps rest) l f;
     })
 
@@ -134,12 +134,13 @@ only [] n l e = absurd (omega arith)
 only (q ∷ []) n l e = let f : q ≡ n = omega arith in rw f
 only (q ∷ x ∷ qs) n l e = absurd (omega arith)
 
-module _ (ps : List Response) (word one total : ℕ) (e : length ps ≡ 64) (p : 0 < word) (h : word < 2 ^ 64) (z : withoutBit word (setIn 64 word) ≡ 0) (k : Known ps word one total) where
+module _ (ps : List Response) (word one total : ℕ) (e : length ps ≡ 64) (p : 0 < word) (h : word < 2 ^ 64) (z : withoutLowest word ≡ 0) (k : Summed ps word one total) where
   abbrev it : Response
-  it = getD ps (setIn 64 word) noResponse
+  it = getD ps (trailingZeros 64 word) noResponse
 
   it-alone : liveIn word ps ≡ it ∷ []
-  it-alone = turn-of ps word (setIn 64 word) e p h refl .cons ∙ ap {B = List Response} (λ rs. it ∷ rs) (rw z (none-live ps))
+  unfolding withoutLowest
+  it-alone = turn-of ps word (trailingZeros 64 word) e p h refl .cons ∙ ap {B = List Response} (λ rs. it ∷ rs) (rw z (none-live ps))
 
   its-sequence : one ≡ it .sequence
   unfolding lastSequence
@@ -195,15 +196,16 @@ rising-inserts (there {x = x} i) m h = (h .0, rising-inserts i (x .sequence) (h 
 pub rising-without : (ps : List Response) (rest i : ℕ) → i < length ps → bitAt rest i ≡ true → RisingFrom 0 (liveIn rest ps) → RisingFrom 0 (liveIn (withoutBit rest i) ps)
 rising-without ps rest i l t = rising-inserts (less-live rest i ps noResponse l t) 0
 
-pub unseen-le : (sorted : Bool) (rest i : ℕ) → cond sorted 0 (withoutBit rest i) ≤ rest
-unseen-le true rest i = omega arith
-unseen-le false rest i = without-le rest i
+pub unseen-le : (sorted : Bool) (rest : ℕ) → cond sorted 0 (withoutLowest rest) ≤ rest
+unfolding withoutLowest
+unseen-le true rest = omega arith
+unseen-le false rest = without-le rest (trailingZeros 64 rest)
 
 -- ---- the search for the lowest sequence: best is the earliest of those looked at, and scan is still to be looked at
 
 module _ (ps : List Response) (e : length ps ≡ 64) where
   -- where the places stand in rising order, the first is the earliest of all
-  rising-best : (rest i : ℕ) → 0 < rest → rest < 2 ^ 64 → i ≡ setIn 64 rest → RisingFrom 0 (liveIn rest ps) → Best ps rest i 0
+  rising-best : (rest i : ℕ) → 0 < rest → rest < 2 ^ 64 → i ≡ trailingZeros 64 rest → RisingFrom 0 (liveIn rest ps) → Best ps rest i 0
   rising-best rest i p h q r =
       let t = lowest-set rest i p h q in
       let v = rw (turn-of ps rest i e p h q .cons) at r in
@@ -218,13 +220,13 @@ module _ (ps : List Response) (e : length ps ≡ 64) where
         lowest = λ j l b f. absurd (true≢false (sym b ∙ t .none j l));
       }
 
-  pub hunt-start : (sorted : Bool) (rest i : ℕ) → 0 < rest → rest < 2 ^ 64 → i ≡ setIn 64 rest → (sorted ≡ true → RisingFrom 0 (liveIn rest ps)) → Best ps rest i (cond sorted 0 (withoutBit rest i))
+  pub hunt-start : (sorted : Bool) (rest i : ℕ) → 0 < rest → rest < 2 ^ 64 → i ≡ trailingZeros 64 rest → (sorted ≡ true → RisingFrom 0 (liveIn rest ps)) → Best ps rest i (cond sorted 0 (withoutLowest rest))
   hunt-start true rest i p h q r = rising-best rest i p h q (r refl)
-  hunt-start false rest i p h q r = let t = lowest-set rest i p h q in best-start ps rest i (omega (arith, t .place)) t
+  hunt-start false rest i p h q r = let t = lowest-set rest i p h q in rw (without-lowest rest i q) (best-start ps rest i (omega (arith, t .place)) t)
 
-  pub hunt-step : (rest best scan i n : ℕ) → 0 < scan → scan < 2 ^ 64 → i ≡ setIn 64 scan → n ≡ cond (ltb (getD ps i noResponse .sequence) (getD ps best noResponse .sequence)) i best
-      → Best ps rest best scan → Best ps rest n (withoutBit scan i)
-  hunt-step rest best scan i n p h q f b = let t = lowest-set scan i p h q in rw f (best-step ps scan i (omega (arith, t .place)) t rest best b)
+  pub hunt-step : (rest best scan i n : ℕ) → 0 < scan → scan < 2 ^ 64 → i ≡ trailingZeros 64 scan → n ≡ cond (ltb (getD ps i noResponse .sequence) (getD ps best noResponse .sequence)) i best
+      → Best ps rest best scan → Best ps rest n (withoutLowest scan)
+  hunt-step rest best scan i n p h q f b = let t = lowest-set scan i p h q in rw (f, without-lowest scan i q) (best-step ps scan i (omega (arith, t .place)) t rest best b)
 
   pub hunt-end : (rest best scan : ℕ) → 0 < rest → rest < 2 ^ 64 → scan ≡ 0 → Best ps rest best scan → Pick ps rest best
   hunt-end rest best scan p h z b = pick-of ps rest best e p h (sym (best-end ps rest best (rw z at b)))

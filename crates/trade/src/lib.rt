@@ -2,14 +2,13 @@
 ghost use mathlib.Core.Path.{_≡_};
 ghost use Prim.Native.Nat.{_+_, _*_, _≤_, _<_};
 ghost use lib.ListN.{length};
-ghost use Rattle.board.specs.Board.{liveIn, inSequence};
-ghost use Rattle.share.specs.Fills.{fillOf, Wrote};
-ghost use Rattle.trade.specs.Trade.{levelFills, flat, marketPrice, guarantee};
-ghost use Rattle.trade.specs.Write.{shown, reported, fillsOf, answer, after};
-ghost use Rattle.trade.specs.Code.{sharedOf, placeFills, levelOf, Known, Looks, Stepped, walkFrom};
+ghost use Rattle.board.specs.rules.Board.{liveIn, inSequence};
+ghost use Rattle.share.specs.rules.Fills.{fillOf};
+ghost use Rattle.share.specs.inside.Fills.{WroteFills};
+ghost use Rattle.trade.specs.rules.Trade.{offers, levelFills, flat, marketPrice, guarantee};
+ghost use Rattle.trade.specs.rules.Write.{reportedPrice, reported, fillsOf, fillAnswer, fillWords};
+ghost use Rattle.trade.specs.inside.Code.{sharedOf, placeFills, levelOf, Summed, Looks, WalkedOn, walkFrom};
 use board::Board;
-use board::Response;
-use words::bits;
 
 mod numbers;
 mod scan;
@@ -76,13 +75,13 @@ struct Walked {
 }
 
 // The next price.
-fn level_at(d: Deal, places: [Response; 64], g: u64, s: Walked) -> Price
+fn level_at(d: Deal, b: Board, g: u64, s: Walked) -> Price
     requires { ⌜ g ≤ 4294967295 ⌝ }
-    ensures { λ r. ⌜ Looks d places g s r ⌝ }
+    ensures { λ r. ⌜ Looks d (b .places) g s r ⌝ }
 {
     let top = numbers::top_of(d);
     let entry = numbers::entry_of(d);
-    let f = scan::found_least(places, s.rest, d.bound, top);
+    let f = scan::found_least(b, s.rest, d.bound, top);
     let price = f.price;
     let a = f.served + f.total;
     let m = numbers::matched(d.mode, g, s.held, a);
@@ -103,7 +102,7 @@ fn level_at(d: Deal, places: [Response; 64], g: u64, s: Walked) -> Price
 
 // The fills of a price: Customers by sequence, the Contra Order, the others pro rata.
 fn write_level(
-    places: [Response; 64],
+    b: Board,
     l: Price,
     price: u32,
     left: u64,
@@ -111,39 +110,30 @@ fn write_level(
     out: &mut [u32],
     at: usize,
 ) -> usize
-    requires { ⌜ (left ≤ 4294967295) × (contra ≤ 4294967295) × Known places (l .customers) (l .customer) (l .served) × Known places (l .others) (l .other) (l .total) ⌝ }
-    requires { ⌜ at + 3 * length (placeFills price left (inSequence (liveIn (l .customers) places)) contra (sharedOf left (l .served) (l .want)) (inSequence (liveIn (l .others) places))) ≤ length (now out) ⌝ }
-    ensures { λ r. ⌜ Wrote (now (out .entry)) at (placeFills price left (inSequence (liveIn (l .customers) places)) contra (sharedOf left (l .served) (l .want)) (inSequence (liveIn (l .others) places))) r (now (out .exit)) ⌝ }
+    requires { ⌜ (left ≤ 4294967295) × (contra ≤ 4294967295) × Summed (b .places) (l .customers) (l .customer) (l .served) × Summed (b .places) (l .others) (l .other) (l .total) ⌝ }
+    requires { ⌜ at + 3 * length (placeFills price left (inSequence (liveIn (l .customers) (b .places))) contra (sharedOf left (l .served) (l .want)) (inSequence (liveIn (l .others) (b .places)))) ≤ length (now out) ⌝ }
+    ensures { λ r. ⌜ WroteFills (now (out .entry)) at (placeFills price left (inSequence (liveIn (l .customers) (b .places))) contra (sharedOf left (l .served) (l .want)) (inSequence (liveIn (l .others) (b .places)))) r (now (out .exit)) ⌝ }
 {
-    let a = write::write_turns(
-        places,
-        l.customers,
-        l.customer,
-        l.served,
-        price,
-        left,
-        out,
-        at,
-    );
-    let b = write::put_fill(out, a, 0, price, contra);
+    let a = write::write_turns(b, l.customers, l.customer, l.served, price, left, out, at);
+    let c = write::put_fill(out, a, 0, price, contra);
     let shared = numbers::shared_of(left, l.served, l.want);
-    write::write_shares(places, l.others, l.other, price, shared, l.total, out, b)
+    write::write_shares(b, l.others, l.other, price, shared, l.total, out, c)
 }
 
 // A price is filled, and the walk stands after it.
-fn turn(d: Deal, places: [Response; 64], g: u64, s: Walked, out: &mut [u32]) -> Walked
+fn turn(d: Deal, b: Board, g: u64, s: Walked, out: &mut [u32]) -> Walked
     requires { ⌜ (g ≤ 4294967295) × (s .held + s .left ≤ 4294967295) ⌝ }
-    requires { ⌜ s .at + 3 * length (reported (d .sell) (levelFills (levelOf d places g s))) ≤ length (now out) ⌝ }
-    ensures { λ r. ⌜ Stepped d places g s r ⌝ }
-    ensures { λ r. ⌜ Wrote (now (out .entry)) (s .at) (reported (d .sell) (levelFills (levelOf d places g s))) (r .at) (now (out .exit)) ⌝ }
+    requires { ⌜ s .at + 3 * length (reported (d .sell) (levelFills (levelOf d (b .places) g s))) ≤ length (now out) ⌝ }
+    ensures { λ r. ⌜ WalkedOn d (b .places) g s r ⌝ }
+    ensures { λ r. ⌜ WroteFills (now (out .entry)) (s .at) (reported (d .sell) (levelFills (levelOf d (b .places) g s))) (r .at) (now (out .exit)) ⌝ }
 {
-    let l = level_at(d, places, g, s);
+    let l = level_at(d, b, g, s);
     let contra = numbers::contra_of(s.left, l.served, l.total, l.want, l.last);
     let left = numbers::left_of(s.left, l.served, l.total, l.want, l.last);
     let at = write_level(
-        places,
+        b,
         l,
-        numbers::shown_price(d.sell, l.price),
+        numbers::reported_price(d.sell, l.price),
         s.left,
         contra,
         out,
@@ -159,78 +149,69 @@ fn turn(d: Deal, places: [Response; 64], g: u64, s: Walked, out: &mut [u32]) -> 
 }
 
 // From the lowest working price up, until nothing is left or the last price is passed.
-fn write_walk(
-    d: Deal,
-    places: [Response; 64],
-    live: u64,
-    g: u64,
-    size: u64,
-    out: &mut [u32],
-    at: usize,
-) -> usize
-    requires { ⌜ (size ≤ 4294967295) × (g ≤ 4294967295) × (g ≡ guarantee d (inSequence (liveIn live places))) ⌝ }
-    requires { ⌜ at + 3 * length (reported (d .sell) (flat (walkFrom d (inSequence (liveIn live places)) 0 size 0))) ≤ length (now out) ⌝ }
-    ensures { λ r. ⌜ Wrote (now (out .entry)) at (reported (d .sell) (flat (walkFrom d (inSequence (liveIn live places)) 0 size 0))) r (now (out .exit)) ⌝ }
+fn write_walk(d: Deal, b: Board, g: u64, size: u64, out: &mut [u32], at: usize) -> usize
+    requires { ⌜ (size ≤ 4294967295) × (g ≤ 4294967295) × (g ≡ guarantee d (offers b)) ⌝ }
+    requires { ⌜ at + 3 * length (reported (d .sell) (flat (walkFrom d (offers b) 0 size 0))) ≤ length (now out) ⌝ }
+    ensures { λ r. ⌜ WroteFills (now (out .entry)) at (reported (d .sell) (flat (walkFrom d (offers b) 0 size 0))) r (now (out .exit)) ⌝ }
 {
     let top = numbers::top_of(d);
     let mut s = Walked {
         from: 0,
-        rest: live,
+        rest: b.live,
         left: size,
         held: 0,
         at,
     };
     while numbers::going(s.left, s.from, top) {
-        s = turn(d, places, g, s, out);
+        s = turn(d, b, g, s, out);
     }
     s.at
 }
 
 // The price of the market order that ended the auction.
-fn market_price(d: Deal, places: [Response; 64], live: u64) -> u64
-    ensures { λ r. ⌜ (r ≡ marketPrice d (inSequence (liveIn live places))) × (r ≤ 4294967295) ⌝ }
+fn market_price(d: Deal, b: Board) -> u64
+    ensures { λ r. ⌜ (r ≡ marketPrice d (offers b)) × (r ≤ 4294967295) ⌝ }
 {
-    let lowest = scan::least_price(places, live, d.bound, numbers::top_of(d));
+    let lowest = scan::least_price(b, d.bound, numbers::top_of(d));
     if d.mode == 2 {
-        if live == 0 {
-            return (numbers::wide(d.initiating) + numbers::wide(d.bound) + 1) / 2;
+        if b.live == 0 {
+            return (base::wide(d.initiating) + base::wide(d.bound) + 1) / 2;
         }
         return lowest;
     }
-    numbers::lesser(lowest, numbers::working(d.stop, d.bound))
+    base::lesser(lowest, numbers::working(d.stop, d.bound))
 }
 
 // The fill of the market order that ended the auction, at the first of the lent words. Where it takes nothing there is none, and no price is looked for.
-fn write_market(d: Deal, places: [Response; 64], live: u64, takes: u64, out: &mut [u32]) -> usize
+fn write_market(d: Deal, b: Board, takes: u64, out: &mut [u32]) -> usize
     requires { ⌜ (takes ≤ 4294967295) × (3 ≤ length (now out)) ⌝ }
-    ensures { λ r. ⌜ Wrote (now (out .entry)) 0 (fillOf (d .market) (shown (d .sell) (marketPrice d (inSequence (liveIn live places)))) takes) r (now (out .exit)) ⌝ }
+    ensures { λ r. ⌜ WroteFills (now (out .entry)) 0 (fillOf (d .market) (reportedPrice (d .sell) (marketPrice d (offers b))) takes) r (now (out .exit)) ⌝ }
 {
     if takes == 0 {
         return 0;
     }
-    let price = numbers::shown_price(d.sell, market_price(d, places, live));
+    let price = numbers::reported_price(d.sell, market_price(d, b));
     write::put_fill(out, 0, d.market, price, takes)
 }
 
 // All the fills, from the first of the lent words on. Answers the place after them.
 fn write_all(d: Deal, b: Board, out: &mut [u32]) -> usize
     requires { ⌜ 390 ≤ length (now out) ⌝ }
-    ensures { λ r. ⌜ Wrote (now (out .entry)) 0 (fillsOf d b) r (now (out .exit)) ⌝ }
+    ensures { λ r. ⌜ WroteFills (now (out .entry)) 0 (fillsOf d b) r (now (out .exit)) ⌝ }
 {
-    let places = b.places;
-    let size = numbers::wide(d.size);
-    let takes = numbers::lesser(size, numbers::wide(d.selling));
+    let size = base::wide(d.size);
+    let takes = base::lesser(size, base::wide(d.selling));
     let left = size - takes;
-    let g = numbers::guarantee_of(size, bits::ones(b.live));
-    let at = write_market(d, places, b.live, takes, out);
-    write_walk(d, places, b.live, g, left, out, at)
+    let g = numbers::guarantee_of(size, board::live_count(b));
+    let at = write_market(d, b, takes, out);
+    write_walk(d, b, g, left, out, at)
 }
 
 // Writes the fills of an ended auction into the part of the lent words from `start` on, and counts them.
 // 40: it has not ended; 39: fewer than 390 words from the start place, or a start past the end. A refusal changes nothing.
 pub fn write_fills(ended: bool, d: Deal, b: Board, out: &mut [u32], start: usize) -> Filled
-    ensures { λ r. ⌜ r ≡ answer ended d b (now (out .entry)) start ⌝ }
-    ensures { λ r. ⌜ now (out .exit) ≡ after ended d b (now (out .entry)) start ⌝ }
+    ensures { λ r. ⌜ r ≡ fillAnswer ended d b (now (out .entry)) start ⌝ }
+    ensures { λ r. ⌜ now (out .exit) ≡ fillWords ended d b (now (out .entry)) start ⌝ }
 {
     if !ended {
         return Filled::Refused(40);

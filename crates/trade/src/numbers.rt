@@ -3,35 +3,16 @@ ghost use mathlib.Core.Path.{_≡_};
 ghost use mathlib.Core.Bool.{cond, _&&_};
 ghost use Prim.Native.Nat.{_+_, _*_, _/_, _≤_, _<_, min, max};
 ghost use lib.Dec.{leb, ltb, eqb};
-ghost use Rattle.trade.specs.Trade.{top, entry, guaranteeOf};
-ghost use Rattle.trade.specs.Write.{shown};
-ghost use Rattle.trade.specs.Code.{matchOf, lastOf, wantOf, sharedOf, contraOf, leftOf};
+ghost use Rattle.trade.specs.rules.Trade.{top, entry, guaranteeOf};
+ghost use Rattle.trade.specs.rules.Write.{reportedPrice};
+ghost use Rattle.trade.specs.inside.Code.{matchOf, lastOf, wantOf, sharedOf, contraOf, leftOf};
 use crate::Deal;
-
-// A u32 in 64 bits, with its range.
-pub(crate) fn wide(x: u32) -> u64
-    ensures { λ r. ⌜ (r ≡ x) × (r ≤ 4294967295) ⌝ }
-{
-    x as u64
-}
-
-pub(crate) fn lesser(a: u64, b: u64) -> u64
-    ensures { λ r. ⌜ r ≡ min a b ⌝ }
-{
-    if a < b {
-        return a;
-    }
-    b
-}
 
 // A price under the bound works at the bound.
 pub(crate) fn working(price: u32, bound: u32) -> u64
     ensures { λ r. ⌜ (r ≡ max price bound) × (r ≤ 4294967295) ⌝ }
 {
-    if price < bound {
-        return wide(bound);
-    }
-    wide(price)
+    base::wide(base::higher(price, bound))
 }
 
 // The last price of the walk.
@@ -41,7 +22,7 @@ pub(crate) fn top_of(d: Deal) -> u64
     if d.mode == 1 {
         return working(d.stop, d.bound);
     }
-    wide(d.initiating)
+    base::wide(d.initiating)
 }
 
 // The price from which on the Contra Order takes part.
@@ -80,10 +61,11 @@ pub(crate) fn guarantee_of(size: u64, n: u32) -> u64
 pub(crate) fn matched(mode: u8, g: u64, held: u64, a: u64) -> u64
     ensures { λ r. ⌜ (r ≡ matchOf mode g held a) × (r ≤ a) ⌝ }
 {
-    if mode == 3 {
-        if g <= held {
-            return 0;
-        }
+    if mode == 2 {
+        return a;
+    }
+    if g <= held {
+        return 0;
     }
     a
 }
@@ -106,7 +88,7 @@ pub(crate) fn wanted(last: bool, entry: u64, p: u64, g: u64, held: u64, m: u64) 
     ensures { λ r. ⌜ (r ≡ wantOf last entry p g held m) × (r ≤ max g m) ⌝ }
 {
     if last {
-        return g - lesser(g, held);
+        return g - base::lesser(g, held);
     }
     if p < entry {
         return 0;
@@ -118,18 +100,18 @@ pub(crate) fn wanted(last: bool, entry: u64, p: u64, g: u64, held: u64, m: u64) 
 pub(crate) fn shared_of(left: u64, c: u64, want: u64) -> u64
     ensures { λ r. ⌜ (r ≡ sharedOf left c want) × (r ≤ left) ⌝ }
 {
-    let after = left - lesser(left, c);
-    after - lesser(after, want)
+    let after = left - base::lesser(left, c);
+    after - base::lesser(after, want)
 }
 
 // What the Contra Order gets at a level: c and t are the sizes of its Customers and of the others.
 pub(crate) fn contra_of(left: u64, c: u64, t: u64, want: u64, last: bool) -> u64
     ensures { λ r. ⌜ r ≡ contraOf left c t want last ⌝ }
 {
-    let first = lesser(left - lesser(left, c), want);
+    let first = base::lesser(left - base::lesser(left, c), want);
     if last {
         let shared = shared_of(left, c, want);
-        return first + (shared - lesser(shared, t));
+        return first + (shared - base::lesser(shared, t));
     }
     first
 }
@@ -142,7 +124,7 @@ pub(crate) fn left_of(left: u64, c: u64, t: u64, want: u64, last: bool) -> u64
     if last {
         return 0;
     }
-    left - lesser(left, c + t + want)
+    left - base::lesser(left, c + t + want)
 }
 
 // The walk goes on while something is left and the last price is not passed.
@@ -156,12 +138,12 @@ pub(crate) fn going(left: u64, from: u64, top: u64) -> bool
 }
 
 // A price as it is reported: a sell's is mirrored back.
-pub(crate) fn shown_price(sell: bool, p: u64) -> u32
+pub(crate) fn reported_price(sell: bool, p: u64) -> u32
     requires { ⌜ p ≤ 4294967295 ⌝ }
-    ensures { λ r. ⌜ r ≡ shown sell p ⌝ }
+    ensures { λ r. ⌜ r ≡ reportedPrice sell p ⌝ }
 {
     if sell {
-        return (1000000 - lesser(1000000, p)) as u32;
+        return base::mirror(p as u32);
     }
     p as u32
 }

@@ -1,26 +1,27 @@
 // Looks over the places of a word, from the lowest up.
 ghost use mathlib.Core.Path.{_≡_};
 ghost use Prim.Native.Nat.{_+_, _*_, _/_, _≤_, _<_};
-ghost use Rattle.board.specs.Board.{liveIn};
-ghost use Rattle.board.specs.Lists.{sum};
-ghost use Rattle.share.specs.Share.{floors};
-ghost use Rattle.share.specs.Fills.{sizes};
-ghost use Rattle.trade.specs.Code.{leastOf, foundAt, Takes, FoundAt};
+ghost use Rattle.board.specs.rules.Board.{liveIn, liveOf};
+ghost use Rattle.base.specs.Lists.{sum};
+ghost use Rattle.share.specs.rules.Share.{floors};
+ghost use Rattle.share.specs.rules.Fills.{sizes};
+ghost use Rattle.trade.specs.inside.Code.{leastOf, foundAt, Takes, FoundAt};
 use crate::Found;
 use crate::numbers;
+use board::Board;
 use board::Response;
 use words::bits;
 
 // The least working price, but at most the last.
-pub(crate) fn least_price(places: [Response; 64], word: u64, bound: u32, last: u64) -> u64
-    ensures { λ r. ⌜ (r ≡ leastOf bound last (liveIn word places)) × (r ≤ last) ⌝ }
+pub(crate) fn least_price(b: Board, bound: u32, last: u64) -> u64
+    ensures { λ r. ⌜ (r ≡ leastOf bound last (liveOf b)) × (r ≤ last) ⌝ }
 {
     let mut best = last;
-    let mut rest = word;
+    let mut rest = b.live;
     while rest != 0 {
         let i = bits::first_set(rest) as usize;
-        best = numbers::lesser(numbers::working(places[i].price, bound), best);
-        rest = bits::without_bit(rest, i);
+        best = base::lesser(numbers::working(b.places[i].price, bound), best);
+        rest = bits::without_lowest(rest);
     }
     best
 }
@@ -52,33 +53,33 @@ fn found(f: Found, r: Response, bound: u32, i: usize) -> Found
     if f.price < p {
         return f;
     }
-    let b = found_at(f, p);
+    let at = found_at(f, p);
     if r.customer {
         return Found {
             price: p,
-            customers: bits::with_bit(b.customers, i),
-            others: b.others,
-            served: b.served + numbers::wide(r.size),
-            total: b.total,
+            customers: bits::with_bit(at.customers, i),
+            others: at.others,
+            served: at.served + base::wide(r.size),
+            total: at.total,
             customer: r.sequence,
-            other: b.other,
+            other: at.other,
         };
     }
     Found {
         price: p,
-        customers: b.customers,
-        others: bits::with_bit(b.others, i),
-        served: b.served,
-        total: b.total + numbers::wide(r.size),
-        customer: b.customer,
+        customers: at.customers,
+        others: bits::with_bit(at.others, i),
+        served: at.served,
+        total: at.total + base::wide(r.size),
+        customer: at.customer,
         other: r.sequence,
     }
 }
 
 // The least working price, but at most the last, and the places that work at it: Customers and others, their sizes, and the sequence of the last of each.
-pub(crate) fn found_least(places: [Response; 64], word: u64, bound: u32, last: u64) -> Found
-    ensures { λ r. ⌜ (r .price ≡ leastOf bound last (liveIn word places)) × (r .price ≤ last) ⌝ }
-    ensures { λ r. ⌜ FoundAt bound (r .price) places word r ⌝ }
+pub(crate) fn found_least(b: Board, word: u64, bound: u32, last: u64) -> Found
+    ensures { λ r. ⌜ (r .price ≡ leastOf bound last (liveIn word (b .places))) × (r .price ≤ last) ⌝ }
+    ensures { λ r. ⌜ FoundAt bound (r .price) (b .places) word r ⌝ }
 {
     let mut f = Found {
         price: last,
@@ -92,8 +93,8 @@ pub(crate) fn found_least(places: [Response; 64], word: u64, bound: u32, last: u
     let mut rest = word;
     while rest != 0 {
         let i = bits::first_set(rest) as usize;
-        f = found(f, places[i], bound, i);
-        rest = bits::without_bit(rest, i);
+        f = found(f, b.places[i], bound, i);
+        rest = bits::without_lowest(rest);
     }
     f
 }
@@ -103,20 +104,20 @@ pub(crate) fn part_of(amount: u64, total: u64, size: u32) -> u64
     requires { ⌜ (amount ≤ 4294967295) × (amount < total) ⌝ }
     ensures { λ r. ⌜ (r ≡ amount * size / total) × (r ≤ size) × (size ≤ 4294967295) ⌝ }
 {
-    amount * numbers::wide(size) / total
+    amount * base::wide(size) / total
 }
 
 // The whole parts, summed.
-pub(crate) fn parts_of(places: [Response; 64], word: u64, amount: u64, total: u64) -> u64
+pub(crate) fn parts_of(b: Board, word: u64, amount: u64, total: u64) -> u64
     requires { ⌜ (amount ≤ 4294967295) × (amount < total) ⌝ }
-    ensures { λ r. ⌜ r ≡ sum (floors amount total (sizes (liveIn word places))) ⌝ }
+    ensures { λ r. ⌜ r ≡ sum (floors amount total (sizes (liveIn word (b .places)))) ⌝ }
 {
     let mut given: u64 = 0;
     let mut rest = word;
     while rest != 0 {
         let i = bits::first_set(rest) as usize;
-        given += part_of(amount, total, places[i].size);
-        rest = bits::without_bit(rest, i);
+        given += part_of(amount, total, b.places[i].size);
+        rest = bits::without_lowest(rest);
     }
     given
 }

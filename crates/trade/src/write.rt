@@ -4,21 +4,21 @@ ghost use mathlib.Core.Bool.{true, false, cond};
 ghost use Prim.Native.Nat.{_+_, _*_, _≤_, _<_, min};
 ghost use lib.Dec.{eqb};
 ghost use lib.ListN.{length};
-ghost use Rattle.words.specs.Bits.{withoutBit, setIn};
-ghost use Rattle.board.specs.Board.{liveIn, inSequence};
-ghost use Rattle.share.specs.Fills.{fillOf, Wrote};
-ghost use Rattle.trade.specs.Code.{eachFills, shareFills, isRising, Known, Gives};
+ghost use Rattle.words.specs.rules.Bits.{withoutLowest};
+ghost use Rattle.board.specs.rules.Board.{liveIn, inSequence};
+ghost use Rattle.share.specs.rules.Fills.{fillOf};
+ghost use Rattle.share.specs.inside.Fills.{WroteFills};
+ghost use Rattle.trade.specs.inside.Code.{eachFills, shareFills, isRising, Summed, Gives};
 use crate::Given;
-use crate::numbers;
 use crate::scan;
-use board::Response;
+use board::Board;
 use words::bits;
 
 // One fill of three words, and none where the quantity is zero. Answers the place after it.
 pub(crate) fn put_fill(out: &mut [u32], at: usize, party: u32, price: u32, quantity: u64) -> usize
     requires { ⌜ quantity ≤ 4294967295 ⌝ }
     requires { ⌜ at + 3 * length (fillOf party price quantity) ≤ length (now out) ⌝ }
-    ensures { λ r. ⌜ Wrote (now (out .entry)) at (fillOf party price quantity) r (now (out .exit)) ⌝ }
+    ensures { λ r. ⌜ WroteFills (now (out .entry)) at (fillOf party price quantity) r (now (out .exit)) ⌝ }
 {
     if 0 < quantity {
         out[at] = party;
@@ -49,7 +49,7 @@ fn given(turns: bool, amount: u64, total: u64, k: u64, size: u32) -> Given
     ensures { λ g. ⌜ Gives turns amount total k size g ⌝ }
 {
     if turns {
-        let q = numbers::lesser(k, numbers::wide(size));
+        let q = base::lesser(k, base::wide(size));
         return Given {
             quantity: q,
             left: k - q,
@@ -64,35 +64,35 @@ fn given(turns: bool, amount: u64, total: u64, k: u64, size: u32) -> Given
 }
 
 // Whether the places of the word stand in rising order of sequence.
-fn rising(places: [Response; 64], word: u64) -> bool
-    ensures { λ r. ⌜ r ≡ isRising 0 (liveIn word places) ⌝ }
+fn rising(b: Board, word: u64) -> bool
+    ensures { λ r. ⌜ r ≡ isRising 0 (liveIn word (b .places)) ⌝ }
 {
     let mut last = 0;
     let mut rest = word;
     while rest != 0 {
         let i = bits::first_set(rest) as usize;
-        if places[i].sequence < last {
+        if b.places[i].sequence < last {
             return false;
         }
-        last = places[i].sequence;
-        rest = bits::without_bit(rest, i);
+        last = b.places[i].sequence;
+        rest = bits::without_lowest(rest);
     }
     true
 }
 
-// The places to look at for the lowest sequence, where best is the first: none, where they stand in rising order.
-fn unseen_of(sorted: bool, rest: u64, best: usize) -> u64
-    ensures { λ r. ⌜ r ≡ cond sorted 0 (withoutBit rest best) ⌝ }
+// The places to look at for the lowest sequence after the first: none, where they stand in rising order.
+fn unseen_of(sorted: bool, rest: u64) -> u64
+    ensures { λ r. ⌜ r ≡ cond sorted 0 (withoutLowest rest) ⌝ }
 {
     if sorted {
         return 0;
     }
-    bits::without_bit(rest, best)
+    bits::without_lowest(rest)
 }
 
 // The responses of the word by sequence, each with what it is given. A turn looks at one more place for the lowest sequence, or writes the fill of the place found.
 pub(crate) fn write_each(
-    places: [Response; 64],
+    b: Board,
     word: u64,
     price: u32,
     turns: bool,
@@ -103,44 +103,43 @@ pub(crate) fn write_each(
     at: usize,
 ) -> usize
     requires { ⌜ (amount ≤ 4294967295) × (k ≤ 4294967295) × (turns ≡ false → amount < total) ⌝ }
-    requires { ⌜ at + 3 * length (eachFills price turns amount total k (inSequence (liveIn word places))) ≤ length (now out) ⌝ }
-    ensures { λ r. ⌜ Wrote (now (out .entry)) at (eachFills price turns amount total k (inSequence (liveIn word places))) r (now (out .exit)) ⌝ }
+    requires { ⌜ at + 3 * length (eachFills price turns amount total k (inSequence (liveIn word (b .places)))) ≤ length (now out) ⌝ }
+    ensures { λ r. ⌜ WroteFills (now (out .entry)) at (eachFills price turns amount total k (inSequence (liveIn word (b .places)))) r (now (out .exit)) ⌝ }
 {
     let mut w = at;
     let mut left = k;
     let mut rest = word;
     let mut best = bits::first_set(word) as usize;
-    let sorted = rising(places, word);
-    let mut unseen = unseen_of(sorted, word, best);
+    let sorted = rising(b, word);
+    let mut unseen = unseen_of(sorted, word);
     while rest != 0 {
         if unseen != 0 {
             let i = bits::first_set(unseen) as usize;
-            best = board::sooner(places[best].sequence, best, places[i].sequence, i);
-            unseen = bits::without_bit(unseen, i);
+            best = board::sooner(b.places[best].sequence, best, b.places[i].sequence, i);
+            unseen = bits::without_lowest(unseen);
             continue;
         }
-        let r = places[best];
+        let r = b.places[best];
         let g = given(turns, amount, total, left, r.size);
         w = put_fill(out, w, r.sequence, price, g.quantity);
         left = g.left;
         rest = bits::without_bit(rest, best);
         best = bits::first_set(rest) as usize;
-        unseen = unseen_of(sorted, rest, best);
+        unseen = unseen_of(sorted, rest);
     }
     w
 }
 
 // Whether the word has one place at most.
 fn alone(word: u64) -> bool
-    ensures { λ r. ⌜ r ≡ eqb (withoutBit word (setIn 64 word)) 0 ⌝ }
+    ensures { λ r. ⌜ r ≡ eqb (withoutLowest word) 0 ⌝ }
 {
-    let first = bits::first_set(word) as usize;
-    bits::without_bit(word, first) == 0
+    bits::without_lowest(word) == 0
 }
 
-// The responses of the word in turn out of k: one is the sequence of the last of them, and total the sum of their sizes. For one alone, and for none, the places are not even copied.
+// The responses of the word in turn out of k: one is the sequence of the last of them, and total the sum of their sizes. For one alone, and for none, no place is looked at.
 pub(crate) fn write_turns(
-    places: [Response; 64],
+    b: Board,
     word: u64,
     one: u32,
     total: u64,
@@ -149,22 +148,22 @@ pub(crate) fn write_turns(
     out: &mut [u32],
     at: usize,
 ) -> usize
-    requires { ⌜ (k ≤ 4294967295) × Known places word one total ⌝ }
-    requires { ⌜ at + 3 * length (eachFills price true 0 0 k (inSequence (liveIn word places))) ≤ length (now out) ⌝ }
-    ensures { λ r. ⌜ Wrote (now (out .entry)) at (eachFills price true 0 0 k (inSequence (liveIn word places))) r (now (out .exit)) ⌝ }
+    requires { ⌜ (k ≤ 4294967295) × Summed (b .places) word one total ⌝ }
+    requires { ⌜ at + 3 * length (eachFills price true 0 0 k (inSequence (liveIn word (b .places)))) ≤ length (now out) ⌝ }
+    ensures { λ r. ⌜ WroteFills (now (out .entry)) at (eachFills price true 0 0 k (inSequence (liveIn word (b .places)))) r (now (out .exit)) ⌝ }
 {
     if word == 0 {
         return at;
     }
     if alone(word) {
-        return put_fill(out, at, one, price, numbers::lesser(k, total));
+        return put_fill(out, at, one, price, base::lesser(k, total));
     }
-    write_each(places, word, price, true, 0, 0, k, out, at)
+    write_each(b, word, price, true, 0, 0, k, out, at)
 }
 
 // The amount over the responses of the word, pro rata: one and total as for those in turn.
 pub(crate) fn write_shares(
-    places: [Response; 64],
+    b: Board,
     word: u64,
     one: u32,
     price: u32,
@@ -173,19 +172,19 @@ pub(crate) fn write_shares(
     out: &mut [u32],
     at: usize,
 ) -> usize
-    requires { ⌜ (amount ≤ 4294967295) × Known places word one total ⌝ }
-    requires { ⌜ at + 3 * length (shareFills price amount (inSequence (liveIn word places))) ≤ length (now out) ⌝ }
-    ensures { λ r. ⌜ Wrote (now (out .entry)) at (shareFills price amount (inSequence (liveIn word places))) r (now (out .exit)) ⌝ }
+    requires { ⌜ (amount ≤ 4294967295) × Summed (b .places) word one total ⌝ }
+    requires { ⌜ at + 3 * length (shareFills price amount (inSequence (liveIn word (b .places)))) ≤ length (now out) ⌝ }
+    ensures { λ r. ⌜ WroteFills (now (out .entry)) at (shareFills price amount (inSequence (liveIn word (b .places)))) r (now (out .exit)) ⌝ }
 {
     if word == 0 {
         return at;
     }
     if alone(word) {
-        return put_fill(out, at, one, price, numbers::lesser(amount, total));
+        return put_fill(out, at, one, price, base::lesser(amount, total));
     }
     if total <= amount {
-        return write_each(places, word, price, true, amount, total, amount, out, at);
+        return write_each(b, word, price, true, amount, total, amount, out, at);
     }
-    let leftover = amount - scan::parts_of(places, word, amount, total);
-    write_each(places, word, price, false, amount, total, leftover, out, at)
+    let leftover = amount - scan::parts_of(b, word, amount, total);
+    write_each(b, word, price, false, amount, total, leftover, out, at)
 }

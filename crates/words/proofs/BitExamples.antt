@@ -1,7 +1,7 @@
 -- Worked examples, by computation. Assumes nothing.
 use mathlib.Core.Path.{_≡_, refl}
 use mathlib.Core.Bool.{true, false}
-use Rattle.words.specs.Bits.{bitAt, withBit, withoutBit, onesIn, clearIn, setIn}
+use Rattle.words.specs.rules.Bits.{bitAt, withBit, withoutBit, onesIn, clearIn, trailingZeros, withoutLowest}
 
 -- bits 0, 2 and 63, of 0x8000_0000_0000_0005
 top : bitAt 0x8000_0000_0000_0005 63 ≡ true
@@ -42,10 +42,22 @@ none-clear : clearIn 64 0xFFFF_FFFF_FFFF_FFFF ≡ 64
 unfolding clearIn
 none-clear = refl
 
-first-set : setIn 64 0x8000_0000_0000_0000 ≡ 63
-unfolding setIn
+first-set : trailingZeros 64 0x8000_0000_0000_0000 ≡ 63
+unfolding trailingZeros
 first-set = refl
 
-none-set : setIn 64 0 ≡ 64
-unfolding setIn
+none-set : trailingZeros 64 0 ≡ 64
+unfolding trailingZeros
 none-set = refl
+
+clears-lowest : withoutLowest 0x8000_0000_0000_0028 ≡ 0x8000_0000_0000_0020
+unfolding withoutLowest withoutBit trailingZeros
+clears-lowest = refl
+
+clears-top : withoutLowest 0x8000_0000_0000_0000 ≡ 0
+unfolding withoutLowest withoutBit trailingZeros
+clears-top = refl
+
+clears-none : withoutLowest 0 ≡ 0
+unfolding withoutLowest withoutBit trailingZeros
+clears-none = refl

@@ -1,23 +1,20 @@
 -- What the bits of a word mean. Assumes nothing.
 use mathlib.Core.Path.{_≡_, refl, sym, ap, _∙_}
-use mathlib.Core.Bool.{Bool, true, false, cond, true≢false}
+use mathlib.Core.Bool.{true, false, cond, true≢false}
 use mathlib.Core.Logic.{_⊎_, inl, inr, ⊎-elim}
 use Prim.Native.Nat.{ℕ, zero, suc, _+_, _-_, _*_, _/_, _%_, _^_, _≤_, _<_}
 use native.Mathlib.Nat.{pow-suc, div-one, not-suc-le-zero, le-of-suc-le-suc, one-mul, suc-mul, mul-le-mul-right, mod-lt, div-eq-of-lt, div-div-eq-div-mul}
 use native.Mathlib.Omega.{arith}
-use lib.Dec.{leb, eqb}
+use lib.Dec.{eqb}
+use lib.Count.{under}
+pub use lib.Count.{trailing-le}
 use lib.Pow.{pow-pos, pow-mono, split, high}
-use borrow.Author.Tests.{leb-true, leb-false, lt-ltb, le-ltb, eqb-true, eqb-false, eq-eqb, ne-eqb}
-use Rattle.words.specs.Bits.{bitAt, withBit, withoutBit, onesIn, clearIn, setIn}
+use borrow.Author.Tests.{lt-ltb, le-ltb, eqb-true, eqb-false, eq-eqb, ne-eqb}
+use Rattle.base.proofs.Bools.{bool-or}
+use Rattle.base.proofs.Numbers.{le-or-lt}
+use Rattle.words.specs.rules.Bits.{bitAt, withBit, withoutBit, onesIn, clearIn, trailingZeros, withoutLowest}
 
--- ---- tests
-pub bool-or : (t : Bool) → (t ≡ true) ⊎ (t ≡ false)
-bool-or true = inl refl
-bool-or false = inr refl
-
-pub le-or-lt : (a b : ℕ) → (a ≤ b) ⊎ (b < a)
-le-or-lt a b = ⊎-elim (λ e. inl (leb-true a b e)) (λ e. inr (leb-false a b e)) (bool-or (leb a b))
-
+-- ---- the lowest digit
 pub bit-or : (w : ℕ) → (w % 2 ≡ 0) ⊎ (w % 2 ≡ 1)
 bit-or w = ⊎-elim (λ e. inr (eqb-true (w % 2) 1 e)) (λ e. let h : w % 2 ≡ 1 → ⊥ = eqb-false (w % 2) 1 e in inl (omega arith)) (bool-or (eqb (w % 2) 1))
 
@@ -28,14 +25,14 @@ bit-one w i t = eqb-true (w / 2 ^ i % 2) 1 t
 pub bit-zero : (w i : ℕ) → bitAt w i ≡ false → w / 2 ^ i % 2 ≡ 0
 bit-zero w i t = let h : w / 2 ^ i % 2 ≡ 1 → ⊥ = eqb-false (w / 2 ^ i % 2) 1 t in omega arith
 
-pub one-bit : (w i : ℕ) → w / 2 ^ i % 2 ≡ 1 → bitAt w i ≡ true
+one-bit : (w i : ℕ) → w / 2 ^ i % 2 ≡ 1 → bitAt w i ≡ true
 one-bit w i e = eq-eqb (w / 2 ^ i % 2) 1 e
 
-pub zero-bit : (w i : ℕ) → w / 2 ^ i % 2 ≡ 0 → bitAt w i ≡ false
+zero-bit : (w i : ℕ) → w / 2 ^ i % 2 ≡ 0 → bitAt w i ≡ false
 zero-bit w i e = ne-eqb (w / 2 ^ i % 2) 1 (omega arith)
 
 -- ---- bit i + 1 of w is bit i of w / 2
-pub half-bit : (w i : ℕ) → w / 2 / 2 ^ i ≡ w / 2 ^ suc i
+half-bit : (w i : ℕ) → w / 2 / 2 ^ i ≡ w / 2 ^ suc i
 half-bit w i = div-div-eq-div-mul w 2 (2 ^ i) ∙ ap (λ (n : ℕ). w / n) (omega (arith, pow-suc 2 i))
 
 pub bit-half : (w i : ℕ) → bitAt (w / 2) i ≡ bitAt w (suc i)
@@ -58,7 +55,7 @@ bit-le w i t =
     omega (arith, split w i, one-mul (2 ^ i))
 
 -- ---- 2 ^ i more, where bit i is clear
-pub add-same : (w i : ℕ) → bitAt w i ≡ false → bitAt (w + 2 ^ i) i ≡ true
+add-same : (w i : ℕ) → bitAt w i ≡ false → bitAt (w + 2 ^ i) i ≡ true
 add-same w i t =
     let m : suc (w / 2 ^ i) * 2 ^ i ≡ w / 2 ^ i * 2 ^ i + 2 ^ i = suc-mul (w / 2 ^ i) (2 ^ i) in
     let e : w + 2 ^ i ≡ suc (w / 2 ^ i) * 2 ^ i + w % 2 ^ i = omega (arith, split w i) in
@@ -71,7 +68,7 @@ add-half w i = omega (arith, pow-suc 2 i)
 pub add-odd : (w i : ℕ) → (w + 2 ^ suc i) % 2 ≡ w % 2
 add-odd w i = omega (arith, pow-suc 2 i)
 
-pub add-other : (w i j : ℕ) → bitAt w i ≡ false → (j ≡ i → ⊥) → bitAt (w + 2 ^ i) j ≡ bitAt w j
+add-other : (w i j : ℕ) → bitAt w i ≡ false → (j ≡ i → ⊥) → bitAt (w + 2 ^ i) j ≡ bitAt w j
 add-other w zero zero t n = absurd (n refl)
 add-other w zero (suc j) t n =
     let h = bit-zero w 0 t in
@@ -82,7 +79,7 @@ add-other w (suc i) (suc j) t n =
     let ih = add-other (w / 2) i j (bit-half w i ∙ t) (λ e. n (ap suc e)) in
     rw (← half-bit (w + 2 ^ suc i) j, ← half-bit w j, add-half) ih
 
-pub add-ones : (k w i : ℕ) → i < k → bitAt w i ≡ false → onesIn k (w + 2 ^ i) ≡ suc (onesIn k w)
+add-ones : (k w i : ℕ) → i < k → bitAt w i ≡ false → onesIn k (w + 2 ^ i) ≡ suc (onesIn k w)
 unfolding onesIn
 add-ones zero w i l t = absurd (not-suc-le-zero l)
 add-ones (suc k) w zero l t =
@@ -258,23 +255,16 @@ ones-clear (suc k) w h =
     (bit-or w)
 
 -- ---- the lowest set bit
-pub set-even : (k w : ℕ) → w % 2 ≡ 0 → setIn (suc k) w ≡ suc (setIn k (w / 2))
-unfolding setIn
-set-even k w e = ap (λ (d : ℕ). cond (eqb d 1) 0 (suc (setIn k (w / 2)))) e
+pub set-even : (k w : ℕ) → w % 2 ≡ 0 → trailingZeros (suc k) w ≡ suc (trailingZeros k (w / 2))
+unfolding trailingZeros
+set-even k w e = ap (λ (d : ℕ). under d (trailingZeros k (w / 2))) e
 
-pub set-odd : (k w : ℕ) → w % 2 ≡ 1 → setIn (suc k) w ≡ 0
-unfolding setIn
-set-odd k w e = ap (λ (d : ℕ). cond (eqb d 1) 0 (suc (setIn k (w / 2)))) e
-
-pub set-le : (k w : ℕ) → setIn k w ≤ k
-unfolding setIn
-set-le zero w = omega arith
-set-le (suc k) w =
-    let ih = set-le k (w / 2) in
-    ⊎-elim (λ e. omega (arith, set-even k w e)) (λ e. omega (arith, set-odd k w e)) (bit-or w)
+pub set-odd : (k w : ℕ) → w % 2 ≡ 1 → trailingZeros (suc k) w ≡ 0
+unfolding trailingZeros
+set-odd k w e = ap (λ (d : ℕ). under d (trailingZeros k (w / 2))) e
 
 -- it is set
-pub set-is : (k w : ℕ) → setIn k w < k → bitAt w (setIn k w) ≡ true
+pub set-is : (k w : ℕ) → trailingZeros k w < k → bitAt w (trailingZeros k w) ≡ true
 set-is zero w h = absurd (not-suc-le-zero h)
 set-is (suc k) w h =
     let ih = set-is k (w / 2) in
@@ -284,8 +274,8 @@ set-is (suc k) w h =
     (bit-or w)
 
 -- all below it are clear
-pub set-least : (k w j : ℕ) → j < setIn k w → bitAt w j ≡ false
-unfolding setIn
+pub set-least : (k w j : ℕ) → j < trailingZeros k w → bitAt w j ≡ false
+unfolding trailingZeros
 set-least zero w j h = absurd (not-suc-le-zero h)
 set-least (suc k) w zero h =
     ⊎-elim (λ e. zero-bit w 0 (omega arith)) (λ e. absurd (omega (arith, set-odd k w e))) (bit-or w)
@@ -297,7 +287,7 @@ set-least (suc k) w (suc j) h =
     (bit-or w)
 
 -- there is one where the word is not 0
-pub some-set : (k w : ℕ) → 0 < w → w < 2 ^ k → setIn k w < k
+pub some-set : (k w : ℕ) → 0 < w → w < 2 ^ k → trailingZeros k w < k
 some-set zero w p h = absurd (omega arith)
 some-set (suc k) w p h =
     ⊎-elim
@@ -305,18 +295,18 @@ some-set (suc k) w p h =
     (λ e. omega (arith, set-odd k w e))
     (bit-or w)
 
-pub none-set : (k : ℕ) → setIn k 0 ≡ k
-unfolding setIn
-none-set zero = refl
-none-set (suc k) = set-even k 0 refl ∙ ap suc (none-set k)
-
 -- all of it together: what a loop over the set bits of a word knows of the one that it looks at
-pub record Lowest (w i : ℕ) : Type 0 where
+pub record LowestBit (w i : ℕ) : Type 0 where
   pub place : i < 64
   pub set : bitAt w i ≡ true
   pub none : (j : ℕ) → j < i → bitAt w j ≡ false
 
-pub lowest-set : (w i : ℕ) → 0 < w → w < 2 ^ 64 → i ≡ setIn 64 w → Lowest w i
+pub lowest-set : (w i : ℕ) → 0 < w → w < 2 ^ 64 → i ≡ trailingZeros 64 w → LowestBit w i
 lowest-set w i p h e =
     let l = some-set 64 w p h in
     record { place = omega arith; set = rw e (set-is 64 w l); none = λ j m. set-least 64 w j (omega arith) }
+
+-- and what it has left after that
+pub without-lowest : (w i : ℕ) → i ≡ trailingZeros 64 w → withoutLowest w ≡ withoutBit w i
+unfolding withoutLowest
+without-lowest w i e = ap (withoutBit w) (sym e)

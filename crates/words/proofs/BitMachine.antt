@@ -8,10 +8,11 @@ use native.Mathlib.Numerals.{one-add}
 use native.Mathlib.Omega.{arith}
 use lib.Dec.{lit<}
 use lib.Pow.{pow-lt, shl-exact}
-use lib.Count.{ones, ones-step, trailingZeros}
-use lib.Bits.{bitAnd, bitOr, and-step, and-high, or-add-and}
-use Rattle.words.specs.Bits.{bitAt, withBit, withoutBit, onesIn, clearIn, setIn}
-use Rattle.words.proofs.BitLaws.{bool-or, bit-or, bit-one, bit-zero, with-clear, with-set, without-set, without-clear, clear-even, clear-odd}
+use lib.Count.{ones, ones-step}
+use lib.Bits.{bitAnd, bitOr, and-step, and-self, and-high, or-add-and}
+use Rattle.words.specs.rules.Bits.{bitAt, withBit, withoutBit, onesIn, clearIn, trailingZeros, withoutLowest}
+use Rattle.base.proofs.Bools.{bool-or}
+use Rattle.words.proofs.BitLaws.{bit-or, bit-one, bit-zero, with-clear, with-set, without-set, without-clear, clear-even, clear-odd, set-even, set-odd, some-set, set-is}
 
 -- ---- one bit
 and-bit : (w i : ℕ) → bitAnd w (2 ^ i) ≡ (w / 2 ^ i % 2) * 2 ^ i
@@ -66,15 +67,8 @@ unfolding onesIn ones
 ones-is zero w h = let e : w ≡ 0 = omega arith in rw e
 ones-is (suc k) w h = ones-step w ∙ ap (λ (n : ℕ). w % 2 + n) (ones-is k (w / 2) (omega (arith, pow-suc 2 k)))
 
-pub trailing-is : (k w : ℕ) → trailingZeros k w ≡ setIn k w
-unfolding trailingZeros setIn
-trailing-is zero w = refl
-trailing-is (suc k) w =
-    let ih = trailing-is k (w / 2) in
-    ⊎-elim (λ e. rw e (ap suc ih)) (λ e. rw e) (bit-or w)
-
-pub inverted-is : (k w : ℕ) → w < 2 ^ k → setIn k ((2 ^ k - 1) - w) ≡ clearIn k w
-unfolding setIn clearIn
+pub inverted-is : (k w : ℕ) → w < 2 ^ k → trailingZeros k ((2 ^ k - 1) - w) ≡ clearIn k w
+unfolding trailingZeros clearIn
 inverted-is zero w h = refl
 inverted-is (suc k) w h =
     let odd : w % 2 + (2 ^ suc k - 1 - w) % 2 ≡ 1 = omega (arith, pow-suc 2 k) in
@@ -84,3 +78,33 @@ inverted-is (suc k) w h =
     (λ e. let f : (2 ^ suc k - 1 - w) % 2 ≡ 1 = omega arith in rw f (sym (clear-even k w e)))
     (λ e. let f : (2 ^ suc k - 1 - w) % 2 ≡ 0 = omega arith in rw (f, half) (ap suc ih ∙ sym (clear-odd k w e)))
     (bit-or w)
+
+-- ---- the lowest set bit: a word and one less than it share all but that one
+less-even : (w i : ℕ) → w % 2 ≡ 0 → (w / 2 - 2 ^ i) * 2 + min (w % 2) 1 ≡ w - 2 ^ suc i
+less-even w i e = omega (arith, pow-suc 2 i)
+
+less-odd : (w : ℕ) → w % 2 ≡ 1 → w / 2 * 2 + min (w % 2) 0 ≡ w - 1
+less-odd w e = omega arith
+
+and-less : (k w : ℕ) → 0 < w → w < 2 ^ k → bitAnd w (w - 1) ≡ w - 2 ^ trailingZeros k w
+and-less zero w p h = absurd (omega arith)
+and-less (suc k) w p h =
+    ⊎-elim
+    (λ e.
+    let half : (w - 1) / 2 ≡ w / 2 - 1 = omega arith in
+    let odd : (w - 1) % 2 ≡ 1 = omega arith in
+    let ih = and-less k (w / 2) (omega arith) (omega (arith, pow-suc 2 k)) in
+    and-step w (w - 1) ∙ rw (half, odd, set-even k w e, ih) (less-even w (trailingZeros k (w / 2)) e))
+    (λ e.
+    let half : (w - 1) / 2 ≡ w / 2 = omega arith in
+    let odd : (w - 1) % 2 ≡ 0 = omega arith in
+    and-step w (w - 1) ∙ rw (half, odd, set-odd k w e, and-self (w / 2)) (less-odd w e))
+    (bit-or w)
+
+pub and-less-is : (w : ℕ) → 0 < w → w < 2 ^ 64 → bitAnd w (w - 1) ≡ withoutLowest w
+unfolding withoutLowest
+and-less-is w p h = and-less 64 w p h ∙ sym (without-set w (trailingZeros 64 w) (set-is 64 w (some-set 64 w p h)))
+
+pub none-less : withoutLowest 0 ≡ 0
+unfolding withoutLowest withoutBit trailingZeros
+none-less = refl

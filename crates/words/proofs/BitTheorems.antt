@@ -1,5 +1,6 @@
--- The statements of specs/BitTheorems.antt, proved. Assumes nothing.
-use Rattle.words.specs.BitTheorems.{BitsMean}
+-- The statements of specs/promises/Bits.antt, proved. Assumes nothing.
+use lib.Count.{trailing-le, trailing-of-zero}
+use Rattle.words.specs.promises.Bits.{BitsMean}
 use Rattle.words.proofs.BitLaws as law
 
 pub bits-mean : BitsMean
@@ -17,9 +18,9 @@ bits-mean = record {
   clear-some = law.some-clear 64;
   clear-room = law.ones-clear 64;
   clear-full = law.clear-ones 64;
-  set-at-most = law.set-le 64;
+  set-at-most = trailing-le 64;
   set-is = law.set-is 64;
   set-lowest = law.set-least 64;
   set-some = law.some-set 64;
-  set-none = law.none-set 64;
+  set-none = trailing-of-zero 64;
 }

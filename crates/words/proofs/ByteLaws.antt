@@ -1,16 +1,17 @@
--- Laws of words in bytes: what was written is read, what was read is written back, other bytes stay. Assumes nothing.
+-- Laws of words in bytes: what was written is read, what was read is written back. Assumes nothing.
 use mathlib.Core.Path.{_≡_, refl, ap, sym, _∙_}
 use mathlib.Core.List.{List, [], _∷_, _++_, append-assoc}
-use mathlib.Core.Logic.{_⊎_, ⊎-elim}
+use mathlib.Core.Logic.{⊎-elim}
 use Prim.Native.Nat.{ℕ, zero, suc, _+_, _*_, _/_, _%_, _≤_, _<_, _^_}
-use native.Mathlib.Nat.{add-zero, zero-add, div-add-mod', div-div-eq-div-mul}
+use native.Mathlib.Nat.{add-zero, div-add-mod', div-div-eq-div-mul}
 use borrow.Author.Tests.{le-leb, lt-leb}
 use native.Mathlib.Omega.{arith}
-use lib.ListN.{length, getD, set, take, drop, take-append-drop, length-append}
-use lib.Seq.{sets, sets-eq, take-suc, drop-cons, length-take-le, getD-append-add, getD-set-other}
+use lib.ListN.{length, getD, set, take, drop, length-append}
+use lib.Seq.{sets, take-suc, drop-cons, length-take-le, getD-append-add}
 use native.Mathlib.Numerals.{add-one}
-use Rattle.words.proofs.BitLaws.{le-or-lt}
-use Rattle.words.specs.Bytes.{AllBytes, joined, u32Bytes, wordBytes, wordAt, wordsFrom, withWord, withWords}
+use Rattle.base.proofs.Numbers.{le-or-lt}
+use Rattle.base.proofs.SetsLaws.{sets-append, sets-front}
+use Rattle.words.specs.rules.Bytes.{AllBytes, joined, u32Bytes, wordBytes, wordAt, wordsFrom, withWord, withWords}
 
 -- four stores in a row, as code writes their places
 pub sets4 : (s : List ℕ) (i a b c d : ℕ) → set (set (set (set s i a) (i + 1) b) (i + 2) c) (i + 3) d ≡ sets s i (a ∷ b ∷ c ∷ d ∷ [])
@@ -20,17 +21,12 @@ sets4 s i a b c d =
     let e3 : i + 3 ≡ suc (suc (suc i)) = omega arith in
     rw (e1, e2, e3)
 
--- a run of stores is the one of its first part, then that of the rest
-pub sets-append : (xs ys s : List ℕ) (i : ℕ) → sets s i (xs ++ ys) ≡ sets (sets s i xs) (i + length xs) ys
-sets-append [] ys s i = rw add-zero
-sets-append (x ∷ xs) ys s i = sets-append xs ys (set s i x) (suc i) ∙ ap (λ (k : ℕ). sets (sets (set s i x) (suc i) xs) k ys) (omega arith)
-
 -- four digits of 256 make the number, in plain variables: linear
 four : (v q1 q2 q3 r0 r1 r2 : ℕ) → q1 * 256 + r0 ≡ v → q2 * 256 + r1 ≡ q1 → q3 * 256 + r2 ≡ q2 → r0 + r1 * 256 + r2 * 65536 + q3 * 16777216 ≡ v
 four v q1 q2 q3 r0 r1 r2 e0 e1 e2 = omega arith
 
 -- the number comes back from its bytes
-pub joined-bytes : (v : ℕ) → v < 2 ^ 32 → joined (v % 256) (v / 256 % 256) (v / 65536 % 256) (v / 16777216 % 256) ≡ v
+joined-bytes : (v : ℕ) → v < 2 ^ 32 → joined (v % 256) (v / 256 % 256) (v / 65536 % 256) (v / 16777216 % 256) ≡ v
 joined-bytes v h =
     let d2 : v / 256 / 256 ≡ v / 65536 = div-div-eq-div-mul v 256 256 in
     let d3 : v / 65536 / 256 ≡ v / 16777216 = div-div-eq-div-mul v 65536 256 in
@@ -60,7 +56,7 @@ pub length-wordBytes : (ws : List ℕ) → length (wordBytes ws) ≡ length ws *
 length-wordBytes [] = refl
 length-wordBytes (w ∷ ws) = omega (arith, length-wordBytes ws)
 
-pub wordBytes-append : (xs ys : List ℕ) → wordBytes (xs ++ ys) ≡ wordBytes xs ++ wordBytes ys
+wordBytes-append : (xs ys : List ℕ) → wordBytes (xs ++ ys) ≡ wordBytes xs ++ wordBytes ys
 wordBytes-append [] ys = refl
 wordBytes-append (x ∷ xs) ys = ap (λ (l : List ℕ). u32Bytes x ++ l) (wordBytes-append xs ys)
 
@@ -72,14 +68,8 @@ word-more s ws at i h =
     sym
     (ap (λ (l : List ℕ). sets s at (wordBytes l)) e
     ∙ ap (λ (l : List ℕ). sets s at l) (wordBytes-append (take i ws) (getD ws i 0 ∷ []))
-    ∙ sets-append (wordBytes (take i ws)) (u32Bytes (getD ws i 0)) s at
+    ∙ sets-append s at (wordBytes (take i ws)) (u32Bytes (getD ws i 0))
     ∙ ap (λ (k : ℕ). sets (sets s at (wordBytes (take i ws))) (at + k) (u32Bytes (getD ws i 0))) n)
-
--- stores from the front on replace the first bytes, and no other
-pub sets-front : (vs l : List ℕ) (n : ℕ) → length vs ≡ n → n ≤ length l → sets l 0 vs ≡ vs ++ drop n l
-sets-front vs l n e h =
-    let z : 0 + length vs ≡ n = omega arith in
-    sets-eq vs l 0 (omega arith) ∙ ap (λ (k : ℕ). vs ++ drop k l) z
 
 -- ---- one word
 
@@ -134,21 +124,11 @@ word-past xs l k at e = ⊎-elim inside outside (le-or-lt (at + 4) (length l))
     outside h = word-out (xs ++ l) (k + at) (omega (arith, n)) ∙ sym (word-out l at h)
 
 -- a word that was put in front is read
-pub word-front : (v : ℕ) (l : List ℕ) → v < 2 ^ 32 → wordAt (u32Bytes v ++ l) 0 ≡ v
+word-front : (v : ℕ) (l : List ℕ) → v < 2 ^ 32 → wordAt (u32Bytes v ++ l) 0 ≡ v
 word-front v l h = word-in (u32Bytes v ++ l) 0 (omega arith) ∙ joined-bytes v h
 
--- what was written is read
-pub read-written : (s : List ℕ) (at v : ℕ) → at + 4 ≤ length s → v < 2 ^ 32 → wordAt (withWord s at v) at ≡ v
-read-written s at v h hv =
-    let t : length (take at s) ≡ at = length-take-le at s (omega arith) in
-    let e : withWord s at v ≡ take at s ++ (u32Bytes v ++ drop (at + 4) s) = with-in s at v h ∙ sets-eq (u32Bytes v) s at h ∙ append-assoc (take at s) (u32Bytes v) (drop (at + 4) s) in
-    ap (λ (l : List ℕ). wordAt l at) e
-    ∙ ap (λ (k : ℕ). wordAt (take at s ++ (u32Bytes v ++ drop (at + 4) s)) k) (sym (add-zero at))
-    ∙ word-past (take at s) (u32Bytes v ++ drop (at + 4) s) at 0 t
-    ∙ word-front v (drop (at + 4) s) hv
-
 -- the bytes of the word at `at`, and what is after them
-pub word-back : (s : List ℕ) (at : ℕ) → AllBytes s → at + 4 ≤ length s → u32Bytes (wordAt s at) ++ drop (at + 4) s ≡ drop at s
+word-back : (s : List ℕ) (at : ℕ) → AllBytes s → at + 4 ≤ length s → u32Bytes (wordAt s at) ++ drop (at + 4) s ≡ drop at s
 word-back s at b h =
     let e1 : suc at ≡ at + 1 = omega arith in
     let e2 : suc (at + 1) ≡ at + 2 = omega arith in
@@ -161,50 +141,6 @@ word-back s at b h =
     ap (λ (v : ℕ). u32Bytes v ++ drop (at + 4) s) (word-in s at h)
     ∙ ap (λ (l : List ℕ). l ++ drop (at + 4) s) (bytes-joined (getD s at 0) (getD s (at + 1) 0) (getD s (at + 2) 0) (getD s (at + 3) 0) (b at) (b (at + 1)) (b (at + 2)) (b (at + 3)))
     ∙ sym (d0 ∙ ap (λ (l : List ℕ). getD s at 0 ∷ l) (d1 ∙ ap (λ (l : List ℕ). getD s (at + 1) 0 ∷ l) (d2 ∙ ap (λ (l : List ℕ). getD s (at + 2) 0 ∷ l) d3)))
-
--- what was read, written back, changes nothing
-pub written-read : (s : List ℕ) (at : ℕ) → AllBytes s → withWord s at (wordAt s at) ≡ s
-written-read s at b = ⊎-elim inside outside (le-or-lt (at + 4) (length s))
-  where
-    inside : at + 4 ≤ length s → withWord s at (wordAt s at) ≡ s
-    inside h =
-        with-in s at (wordAt s at) h
-        ∙ sets-eq (u32Bytes (wordAt s at)) s at h
-        ∙ append-assoc (take at s) (u32Bytes (wordAt s at)) (drop (at + 4) s)
-        ∙ ap (λ (l : List ℕ). take at s ++ l) (word-back s at b h)
-        ∙ take-append-drop at s
-
-    outside : length s < at + 4 → withWord s at (wordAt s at) ≡ s
-    outside h = with-out s at (wordAt s at) h
-
--- no other byte changes
-pub other-stays : (s : List ℕ) (at v j : ℕ) → (j < at) ⊎ (at + 4 ≤ j) → getD (withWord s at v) j 0 ≡ getD s j 0
-other-stays s at v j o = ⊎-elim inside outside (le-or-lt (at + 4) (length s))
-  where
-    far : (k : ℕ) → k < 4 → j ≡ at + k → ⊥
-    far k h e = ⊎-elim (λ x. omega arith) (λ x. omega arith) o
-
-    s0 : List ℕ
-    s0 = set s at (v % 256)
-
-    s1 : List ℕ
-    s1 = set s0 (suc at) (v / 256 % 256)
-
-    s2 : List ℕ
-    s2 = set s1 (suc (suc at)) (v / 65536 % 256)
-
-    stores : getD (sets s at (u32Bytes v)) j 0 ≡ getD s j 0
-    stores =
-        getD-set-other s2 (suc (suc (suc at))) j (v / 16777216 % 256) 0 (λ e. far 3 (omega arith) (omega arith))
-        ∙ getD-set-other s1 (suc (suc at)) j (v / 65536 % 256) 0 (λ e. far 2 (omega arith) (omega arith))
-        ∙ getD-set-other s0 (suc at) j (v / 256 % 256) 0 (λ e. far 1 (omega arith) (omega arith))
-        ∙ getD-set-other s at j (v % 256) 0 (λ e. far 0 (omega arith) (omega arith))
-
-    inside : at + 4 ≤ length s → getD (withWord s at v) j 0 ≡ getD s j 0
-    inside h = ap (λ (l : List ℕ). getD l j 0) (with-in s at v h) ∙ stores
-
-    outside : length s < at + 4 → getD (withWord s at v) j 0 ≡ getD s j 0
-    outside h = ap (λ (l : List ℕ). getD l j 0) (with-out s at v h)
 
 -- ---- rows of words: a record of any length is one
 

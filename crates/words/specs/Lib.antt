@@ -1,5 +1,3 @@
--- What the contracts of `words` cite, what its bits mean, and what it is that a contract settles.
-pub mod Bytes
-pub mod Bits
-pub mod BitTheorems
-pub mod Settled
+-- What the contracts of `words` cite, and what its bits mean.
+pub mod rules
+pub mod promises

@@ -1,12 +1,19 @@
 // The bits of a word of 64 bits: a board's places, a record's marks.
 ghost use mathlib.Core.Path.{_≡_};
-ghost use Rattle.words.specs.Bits.{bitAt, withBit, withoutBit, onesIn, clearIn, setIn};
+ghost use Rattle.words.specs.rules.Bits.{bitAt, withBit, withoutBit, withoutLowest, onesIn, clearIn, trailingZeros};
 
 // Bit i of a word. A word has no bit from 64 on.
 pub fn test(w: u64, i: usize) -> bool
     ensures { λ r. ⌜ r ≡ bitAt w i ⌝ }
 {
     if i < 64 { (w >> i) & 1 == 1 } else { false }
+}
+
+// Mark bit i of a record.
+pub fn mark(marks: u8, i: usize) -> bool
+    ensures { λ r. ⌜ r ≡ bitAt marks i ⌝ }
+{
+    test(marks as u64, i)
 }
 
 // The word with bit i set.
@@ -39,7 +46,14 @@ pub fn first_clear(w: u64) -> u32
 
 // The lowest bit that is set, and 64 where none is.
 pub fn first_set(w: u64) -> u32
-    ensures { λ r. ⌜ r ≡ setIn 64 w ⌝ }
+    ensures { λ r. ⌜ r ≡ trailingZeros 64 w ⌝ }
 {
     u64::trailing_zeros(w)
+}
+
+// The word with its lowest set bit clear; 0 has none.
+pub fn without_lowest(w: u64) -> u64
+    ensures { λ r. ⌜ r ≡ withoutLowest w ⌝ }
+{
+    if w == 0 { 0 } else { w & (w - 1) }
 }

@@ -3,7 +3,7 @@ ghost use mathlib.Core.Path.{_≡_};
 ghost use Prim.Native.Nat.{_+_, _*_, _≤_};
 ghost use lib.ListN.{length};
 ghost use lib.Seq.{sets};
-ghost use Rattle.words.specs.Bytes.{joined, u32Bytes, wordBytes, wordAt, withWord, withWords};
+ghost use Rattle.words.specs.rules.Bytes.{joined, u32Bytes, wordBytes, wordAt, withWord, withWords};
 
 // The number that four bytes say.
 pub fn join(a: u8, b: u8, c: u8, d: u8) -> u32

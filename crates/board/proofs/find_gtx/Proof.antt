@@ -4,9 +4,10 @@ use mathlib.Core.Path.{_≡_, sym, ap, _∙_}
 use native.Mathlib.Omega.{arith}
 use borrow.Author.Needs.{needs}
 use lib.ListN.{length}
-use Rattle.words.proofs.BitLaws.{without-le, without-lt, Lowest, lowest-set}
-use Rattle.board.specs.Board.{noResponse, findIn, isGtx, findGtx}
-use Rattle.board.proofs.Facts.{length-mapped}
+use Rattle.words.specs.rules.Bits.{withoutBit}
+use Rattle.words.proofs.BitLaws.{without-le, without-lt, without-lowest, LowestBit, lowest-set}
+use Rattle.board.specs.rules.Board.{noResponse, findIn, isGtx, findGtx}
+use Rattle.base.proofs.ListLaws.{length-mapped}
 use Rattle.board.proofs.FindLaws.{find-low, find-rest, find-none}
 use Rattle.board.proofs.find_gtx.Statement.{statement}
 use Rattle.board.proofs.find_gtx.Tie as tie
@@ -22,7 +23,7 @@ len : (c : tie.Start Inv-loop μ-loop) → length (c .args .t1 .places) ≡ 64
 len c = search (needs, length-mapped)
 
 -- the place that a turn looks at
-low : (c : tie.After-first-set Inv-loop μ-loop) → Lowest (c .before .before .loop .rest) (c .first-set .result)
+low : (c : tie.After-first-set Inv-loop μ-loop) → LowestBit (c .before .before .loop .rest) (c .first-set .result)
 low c = lowest-set _ _ (omega arith) (c .before .before .loop .inv .0) (c .first-set .ensures)
 
 loop-holds : tie.Need-loop-holds Inv-loop μ-loop
@@ -52,13 +53,17 @@ returns c =
     sym (find-low (isGtx (s .args .sequence)) (f .before .before .loop .rest) (s .args .t1 .places) noResponse i h (low f) (sym (c .before .is-gtx .ensures) ∙ c .if1 .taken))
     ∙ f .before .before .loop .inv .1
 
-without-bit-requires : tie.Need-without-bit-requires Inv-loop μ-loop
-without-bit-requires c κs = search needs
+without-lowest-requires : tie.Need-without-lowest-requires Inv-loop μ-loop
+without-lowest-requires c κs = search needs
+
+-- the places still to come after that turn
+left : (c : tie.After-without-lowest Inv-loop μ-loop) → (c .without-lowest .result) ≡ withoutBit (c .before .before .before .before .before .before .loop .rest) (c .before .before .before .before .first-set .result)
+left c = c .without-lowest .ensures ∙ without-lowest _ _ (c .before .before .before .before .first-set .ensures)
 
 loop-less : tie.Need-loop-less Inv-loop μ-loop
 loop-less c =
     let f = c .before .before .before .before in
-    omega (arith, c .without-bit .ensures, without-lt (f .before .before .loop .rest) (f .first-set .result) (low f .set))
+    omega (arith, left c, without-lt (f .before .before .loop .rest) (f .first-set .result) (low f .set))
 
 loop-again : tie.Need-loop-again Inv-loop μ-loop
 loop-again c =
@@ -67,8 +72,8 @@ loop-again c =
     let s = l .before in
     let t = isGtx (s .args .sequence) in
     let ps = s .args .t1 .places in (
-      omega (arith, c .without-bit .ensures, without-le (l .loop .rest) (f .first-set .result)),
-      ap (λ (v : ℕ). findIn t v ps) (c .without-bit .ensures)
+      omega (arith, left c, without-le (l .loop .rest) (f .first-set .result)),
+      ap (λ (v : ℕ). findIn t v ps) (left c)
           ∙ find-rest t (l .loop .rest) ps noResponse (f .first-set .result) (sym (c .before .before .is-gtx .ensures) ∙ c .before .if1 .left)
           ∙ l .loop .inv .1,
     )
@@ -93,7 +98,7 @@ find-gtx-spec =
     element-copy-out-is-gtx
     is-gtx-requires
     returns
-    without-bit-requires
+    without-lowest-requires
     loop-less
     loop-again
     returns-2)

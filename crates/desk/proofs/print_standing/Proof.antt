@@ -1,4 +1,3 @@
-use Rattle.board.proofs.Facts.{length-mapped}
 use borrow.Author.Needs.{needs}
 use Prim.Native.Nat.{_-_, _≤_}
 use Rattle.desk.proofs.print_standing.Statement.{statement}
@@ -16,11 +15,8 @@ loop-holds c = search needs
 is-live-requires : tie.Need-is-live-requires Inv-loop μ-loop
 is-live-requires c κs = search needs
 
-mul-r : tie.Need-mul-r Inv-loop μ-loop
-mul-r c = search needs
-
-element-copy-out-r : tie.Need-element-copy-out-r Inv-loop μ-loop
-element-copy-out-r c = search (needs, length-mapped)
+response-at-requires : tie.Need-response-at-requires Inv-loop μ-loop
+response-at-requires c κs = search needs
 
 print-response-requires : tie.Need-print-response-requires Inv-loop μ-loop
 print-response-requires c κs = search needs
@@ -48,8 +44,7 @@ print-standing-spec =
     μ-loop
     loop-holds
     is-live-requires
-    mul-r
-    element-copy-out-r
+    response-at-requires
     print-response-requires
     returns
     add-i

@@ -12,9 +12,6 @@ abbrev μ-loop : tie.MeasureT-loop
 loop-holds : tie.Need-loop-holds Inv-loop μ-loop
 loop-holds c = search needs
 
-record-of-requires : tie.Need-record-of-requires Inv-loop μ-loop
-record-of-requires c κs = search needs
-
 after-requires : tie.Need-after-requires Inv-loop μ-loop
 after-requires c κs = search needs
 
@@ -55,7 +52,6 @@ trace-events-spec =
     Inv-loop
     μ-loop
     loop-holds
-    record-of-requires
     after-requires
     slice-aggregate-print-auction
     print-auction-requires

@@ -1,5 +1,5 @@
 use mathlib.Core.Path.{ap, _∙_}
-use Rattle.listing.specs.Listing.{lengthIn}
+use Rattle.listing.specs.rules.Listing.{lengthIn}
 use borrow.Author.Needs.{needs}
 use Rattle.engine.proofs.cube_listing.Statement.{statement}
 use Rattle.engine.proofs.cube_listing.Tie as tie

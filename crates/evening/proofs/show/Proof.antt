@@ -4,7 +4,7 @@ use native.Mathlib.Omega.{arith}
 use denote.Ref.{now}
 use lib.ListN.{length}
 use lib.Seq.{length-take-le}
-use Rattle.listing.specs.Listing.{lengthIn}
+use Rattle.listing.specs.rules.Listing.{lengthIn}
 use Rattle.listing.proofs.Theorems.{within}
 use borrow.Author.Needs.{needs}
 use Rattle.evening.proofs.show.Statement.{statement}

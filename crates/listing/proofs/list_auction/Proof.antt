@@ -2,9 +2,9 @@ use mathlib.Core.Path.{ap, _∙_}
 use native.Mathlib.Omega.{arith}
 use denote.Ref.{now}
 use lib.ListN.{drop}
-use Rattle.tape.specs.Tape.{eventPlace}
-use Rattle.auction.specs.Fills.{hasEnded}
-use Rattle.listing.specs.Run.{heardAll, closed}
+use Rattle.tape.specs.rules.Tape.{eventPlace}
+use Rattle.fills.specs.rules.Fills.{hasEnded}
+use Rattle.run.specs.rules.Run.{heardAll, closed}
 use Rattle.listing.proofs.RunLaws.{closed-ended}
 use Rattle.listing.proofs.ListsLaws.{auction-lists}
 use borrow.Author.Needs.{needs}

@@ -1,10 +1,9 @@
 use Rattle.auction.specs.declared.Entry.the-variants.{Accepted}
 use mathlib.Core.Path.{sym, ap, _∙_}
 use denote.Ref.{now}
-use lib.ListN.{drop}
-use Rattle.tape.specs.Tape.{eventPlace}
+use Rattle.tape.specs.rules.Tape.{recordsOf}
 use Rattle.auction.specs.declared.Opening.{Opening}
-use Rattle.listing.specs.Run.{refused, runEntry}
+use Rattle.run.specs.rules.Run.{refused, runEntry}
 use Rattle.listing.proofs.ListsLaws.{lists-same}
 use borrow.Author.Needs.{needs}
 use Rattle.listing.proofs.list_order.Statement.{statement}
@@ -31,9 +30,9 @@ same-length c = search needs
 returns : tie.Need-returns
 returns c =
     let a = c .before .before .before .before .before .before .before .before .before .before .args in
-    let s = drop (eventPlace (a .at) 0) (now (a .tape)) in
+    let s = recordsOf (now (a .tape)) (a .t) in
     let o = c .before .before .before .before .before .before .before .accept in
-    lists-same (runEntry (a .events) s (o .result .auction) Accepted) (c .before .before .list-auction .ensures) (ap (runEntry (a .events) s (o .result .auction)) (sym (c .before .before .before .before .enum-told .given .1)) ∙ ap (λ (x : Opening). runEntry (a .events) s (x .auction) (x .answer)) (o .ensures))
+    lists-same (runEntry s (o .result .auction) Accepted) (c .before .before .list-auction .ensures) (ap (runEntry s (o .result .auction)) (sym (c .before .before .before .before .enum-told .given .1)) ∙ ap (λ (x : Opening). runEntry s (x .auction) (x .answer)) (o .ensures))
 
 same-length-2 : tie.Need-same-length-2
 same-length-2 c = search needs
@@ -41,9 +40,9 @@ same-length-2 c = search needs
 returns-2 : tie.Need-returns-2
 returns-2 c =
     let a = c .before .before .before .before .before .before .before .before .before .before .before .args in
-    let s = drop (eventPlace (a .at) 0) (now (a .tape)) in
+    let s = recordsOf (now (a .tape)) (a .t) in
     let o = c .before .before .before .before .before .before .before .before .accept in
-    lists-same (refused (c .before .before .before .before .before .answer .given .0 .0)) (c .before .before .list-refused .ensures) (ap (runEntry (a .events) s (o .result .auction)) (sym (c .before .before .before .before .before .answer .given .1)) ∙ ap (λ (x : Opening). runEntry (a .events) s (x .auction) (x .answer)) (o .ensures))
+    lists-same (refused (c .before .before .before .before .before .answer .given .0 .0)) (c .before .before .list-refused .ensures) (ap (runEntry s (o .result .auction)) (sym (c .before .before .before .before .before .answer .given .1)) ∙ ap (λ (x : Opening). runEntry s (x .auction) (x .answer)) (o .ensures))
 
 pub list-order-spec : {M : Type 1} → statement M
 list-order-spec =

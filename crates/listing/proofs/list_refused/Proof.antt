@@ -1,4 +1,4 @@
-use Rattle.listing.specs.Run.{refused}
+use Rattle.run.specs.rules.Run.{refused}
 use Rattle.listing.proofs.ListsLaws.{wrote-lists}
 use borrow.Author.Needs.{needs}
 use Rattle.listing.proofs.list_refused.Statement.{statement}

@@ -1,7 +1,7 @@
-use Rattle.tape.specs.declared.Opened.the-variants.{Tape}
+use Rattle.tape.specs.declared.trailer.Opened.the-variants.{Tape}
 use mathlib.Core.Path.{sym, ap, _∙_}
 use denote.Ref.{now}
-use Rattle.listing.specs.Run.{refused, runTape, runOf}
+use Rattle.run.specs.rules.Run.{refused, runTape, runOf}
 use Rattle.listing.proofs.RunLaws.{tape-fits}
 use Rattle.listing.proofs.ListsLaws.{lists-same, too-small, lists-whole}
 use borrow.Author.Needs.{needs}
@@ -17,17 +17,10 @@ open-tape-requires c κs = search needs
 enum-known-t : tie.Need-enum-known-t
 enum-known-t c = search needs
 
-cast-list-tape : tie.Need-cast-list-tape
-cast-list-tape c = search needs
-
-cast-list-tape-2 : tie.Need-cast-list-tape-2
-cast-list-tape-2 c = search needs
-
 list-tape-requires : tie.Need-list-tape-requires
 list-tape-requires c κs =
-    let a = c .before .before .before .before .before .before .before .before .before .before .args in
-    let f = tape-fits (now (a .tape)) (c .before .before .before .before .t .given .0 .0) (sym (c .before .before .before .before .before .before .open-tape .ensures) ∙ c .before .before .before .before .t .given .1) in
-    (f .0, f .1, c .before .before .before .before .before .before .before .if1 .left)
+    let a = c .before .before .before .before .before .before .before .before .args in
+    (tape-fits (now (a .tape)) (c .before .before .t .given .0 .0) (sym (c .before .before .before .before .open-tape .ensures) ∙ c .before .before .t .given .1), c .before .before .before .before .before .if1 .left)
 
 enum-known-number : tie.Need-enum-known-number
 enum-known-number c = search needs
@@ -41,8 +34,8 @@ same-length c = search needs
 returns-2 : tie.Need-returns-2
 unfolding runOf
 returns-2 c =
-    let a = c .before .before .before .before .before .before .before .before .before .before .before .before .before .args in
-    lists-whole (now (a .tape)) (now (a .out)) (c .before .before .before .before .before .before .before .before .before .before .if1 .left) (lists-same (runTape (now (a .tape)) (Tape (c .before .before .before .before .before .before .before .t .given .0 .0))) (c .before .before .list-tape .ensures) (ap (runTape (now (a .tape))) (sym (c .before .before .before .before .before .before .before .t .given .1) ∙ c .before .before .before .before .before .before .before .before .before .open-tape .ensures)))
+    let a = c .before .before .before .before .before .before .before .before .before .before .before .args in
+    lists-whole (now (a .tape)) (now (a .out)) (c .before .before .before .before .before .before .before .before .if1 .left) (lists-same (runTape (now (a .tape)) (Tape (c .before .before .before .before .before .t .given .0 .0))) (c .before .before .list-tape .ensures) (ap (runTape (now (a .tape))) (sym (c .before .before .before .before .before .t .given .1) ∙ c .before .before .before .before .before .before .before .open-tape .ensures)))
 
 same-length-2 : tie.Need-same-length-2
 same-length-2 c = search needs
@@ -60,8 +53,6 @@ listing-spec =
     returns
     open-tape-requires
     enum-known-t
-    cast-list-tape
-    cast-list-tape-2
     list-tape-requires
     enum-known-number
     list-refused-requires

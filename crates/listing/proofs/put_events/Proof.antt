@@ -7,10 +7,11 @@ use lib.ListN.{length}
 use borrow.Author.Needs.{needs}
 use Rattle.auction.specs.declared.Auction.{Auction}
 use Rattle.auction.specs.declared.Head.{Head}
-use Rattle.auction.specs.Head.{wholeOf, placesAfter}
-use Rattle.listing.specs.Listing.{eventLines}
-use Rattle.listing.proofs.WroteLaws.{wrote-same, Left, left-start, left-wrote, left-same, left-done}
-use Rattle.listing.specs.Run.{closed}
+use Rattle.events.specs.rules.Step.{wholeOf, placesAfter}
+use Rattle.listing.specs.rules.Listing.{eventLines}
+use Rattle.listing.proofs.WroteLaws.{wrote-same, left-start, left-wrote, left-same, left-done}
+use Rattle.listing.specs.inside.Code.{Left}
+use Rattle.run.specs.rules.Run.{closed}
 use Rattle.listing.proofs.RunLaws.{whole-closed, answersFrom, heardFrom, answers-all, heard-all, place-set, place-kept, events-turn, heard-turn, answers-none, heard-none}
 use Rattle.listing.proofs.put_events.Statement.{statement}
 use Rattle.listing.proofs.put_events.Tie as tie

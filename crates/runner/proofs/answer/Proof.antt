@@ -2,7 +2,7 @@ use mathlib.Core.Path.{ap, _∙_}
 use native.Mathlib.Omega.{arith}
 use denote.Ref.{now}
 use Rattle.io.proofs.Counting.{counts}
-use Rattle.listing.specs.Listing.{lengthIn}
+use Rattle.listing.specs.rules.Listing.{lengthIn}
 use Rattle.listing.proofs.Theorems.{within}
 use borrow.Author.Needs.{needs}
 use Rattle.runner.proofs.answer.Statement.{statement}

@@ -4,11 +4,12 @@ use native.Mathlib.Omega.{arith}
 use lib.ListN.{length}
 use Rattle.trade.proofs.LevelLaws.{looks}
 use borrow.Author.Needs.{needs}
+use Rattle.base.proofs.ListLaws.{length-mapped}
 use Rattle.trade.proofs.level_at.Statement.{statement}
 use Rattle.trade.proofs.level_at.Tie as tie
 
-len : (c : tie.Start) → length (c .args .places) ≡ 64
-len c = search needs
+len : (c : tie.Start) → length (c .args .b .places) ≡ 64
+len c = search (needs, length-mapped)
 
 word : (c : tie.Start) → c .args .s .rest < 2 ^ 64
 word c = search needs
@@ -43,7 +44,7 @@ returns c =
     let a = s .args in
     let t = c .before .before .before .before .before .before .top-of .ensures in
     let f = c .before .before .before .before .found-least in
-    looks (a .d) (a .places) (a .g) (a .s) (len s) (word s) _ (f .result) _ _ _ (t .0) (c .before .before .before .before .before .entry-of .ensures) (f .ensures .0 .0) (f .ensures .1) refl refl refl refl refl refl
+    looks (a .d) (a .b .places) (a .g) (a .s) (len s) (word s) _ (f .result) _ _ _ (t .0) (c .before .before .before .before .before .entry-of .ensures) (f .ensures .0 .0) (f .ensures .1) refl refl refl refl refl refl
     (c .before .before .matched .ensures .0) (c .before .is-last .ensures) (c .wanted .ensures .0)
     (omega (arith, f .ensures .0 .1, t .1))
     (omega (arith, f .ensures .1 .small, c .before .before .matched .ensures .1, c .wanted .ensures .1, s .pre))

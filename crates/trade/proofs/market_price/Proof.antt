@@ -3,14 +3,15 @@ use Prim.Native.Nat.{ℕ}
 use native.Mathlib.Omega.{arith}
 use lib.ListN.{length}
 use Rattle.trade.proofs.WholeLaws.{market-mid, market-low, market-stop}
-use Rattle.trade.specs.Code.{leastOf}
-use Rattle.board.specs.Board.{liveIn}
+use Rattle.trade.specs.inside.Code.{leastOf}
+use Rattle.board.specs.rules.Board.{liveIn}
 use borrow.Author.Needs.{needs}
+use Rattle.base.proofs.ListLaws.{length-mapped}
 use Rattle.trade.proofs.market_price.Statement.{statement}
 use Rattle.trade.proofs.market_price.Tie as tie
 
-len : (c : tie.Start) → length (c .args .places) ≡ 64
-len c = search needs
+len : (c : tie.Start) → length (c .args .b .places) ≡ 64
+len c = search (needs, length-mapped)
 
 top-of-requires : tie.Need-top-of-requires
 top-of-requires c κs = search needs
@@ -32,16 +33,16 @@ add-result-2 c = search needs
 
 returns : tie.Need-returns
 returns c =
-    let s = c .before .before .before .before .before .before .before in
+    let s = c .before .before .before .before .before .before .before .before in
     let a = s .args in
-    let e = market-mid (a .d) (a .places) (a .live) _ (c .before .before .before .before .before .least-price .ensures .0 ∙ ap (λ (k : ℕ). leastOf (a .d .bound) k (liveIn (a .live) (a .places))) (c .before .before .before .before .before .before .top-of .ensures .0)) (c .before .before .before .if1 .taken) (c .before .before .if2 .taken) in
+    let e = market-mid (a .d) (a .b .places) (a .b .live) _ (c .before .before .before .before .before .before .least-price .ensures .0 ∙ ap (λ (k : ℕ). leastOf (a .d .bound) k (liveIn (a .b .live) (a .b .places))) (c .before .before .before .before .before .before .before .top-of .ensures .0)) (c .before .before .before .before .if1 .taken) (c .before .before .if2 .taken) in
     (rw (c .before .wide .ensures .0, c .wide2 .ensures .0) e, omega (arith, c .before .wide .ensures .1, c .wide2 .ensures .1))
 
 returns-2 : tie.Need-returns-2
 returns-2 c =
-    let s = c .before .before .before .before .before in
+    let s = c .before .before .before .before .before .before in
     let a = s .args in
-    (market-low (a .d) (a .places) (a .live) _ (c .before .before .before .least-price .ensures .0 ∙ ap (λ (k : ℕ). leastOf (a .d .bound) k (liveIn (a .live) (a .places))) (c .before .before .before .before .top-of .ensures .0)) (c .before .if1 .taken) (len s) (omega arith) (search needs), omega (arith, c .before .before .before .least-price .ensures .1, c .before .before .before .before .top-of .ensures .1))
+    (market-low (a .d) (a .b .places) (a .b .live) _ (c .before .before .before .before .least-price .ensures .0 ∙ ap (λ (k : ℕ). leastOf (a .d .bound) k (liveIn (a .b .live) (a .b .places))) (c .before .before .before .before .before .top-of .ensures .0)) (c .before .before .if1 .taken) (len s) (omega arith) (search needs), omega (arith, c .before .before .before .before .least-price .ensures .1, c .before .before .before .before .before .top-of .ensures .1))
 
 working-requires : tie.Need-working-requires
 working-requires c κs = search needs
@@ -53,7 +54,7 @@ returns-3 : tie.Need-returns-3
 returns-3 c =
     let s = c .before .before .before .before .before .before in
     let a = s .args in
-    (c .lesser .ensures ∙ market-stop (a .d) (a .places) (a .live) _ (c .before .before .before .before .least-price .ensures .0 ∙ ap (λ (k : ℕ). leastOf (a .d .bound) k (liveIn (a .live) (a .places))) (c .before .before .before .before .before .top-of .ensures .0)) (c .before .before .if1 .left) _ (c .before .working .ensures .0), omega (arith, c .lesser .ensures, c .before .working .ensures .1))
+    (c .lesser .ensures ∙ market-stop (a .d) (a .b .places) (a .b .live) _ (c .before .before .before .before .least-price .ensures .0 ∙ ap (λ (k : ℕ). leastOf (a .d .bound) k (liveIn (a .b .live) (a .b .places))) (c .before .before .before .before .before .top-of .ensures .0)) (c .before .before .if1 .left) _ (c .before .working .ensures .0), omega (arith, c .lesser .ensures, c .before .working .ensures .1))
 
 pub market-price-spec : {M : Type 1} → statement M
 market-price-spec =

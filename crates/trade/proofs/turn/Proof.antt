@@ -15,8 +15,8 @@ contra-of-requires c κs = search needs
 left-of-requires : tie.Need-left-of-requires
 left-of-requires c κs = search needs
 
-shown-price-requires : tie.Need-shown-price-requires
-shown-price-requires c κs = search needs
+reported-price-requires : tie.Need-reported-price-requires
+reported-price-requires c κs = search needs
 
 write-level-requires : tie.Need-write-level-requires
 write-level-requires c κs =
@@ -26,7 +26,7 @@ write-level-requires c κs =
     let k = l .ensures in
     let e = c .before .before .before .contra-of .ensures in (
       (omega (arith, s .pre .0 .1), omega (arith, s .pre .0 .1, e, contra-within (a .s .left) (l .result .served) (l .result .total) (l .result .want) (l .result .last)), k .customers-known, k .others-known),
-      rw (place-is (a .d) (a .places) (a .g) (a .s) (l .result) k _ _ (c .before .shown-price .ensures) e) (s .pre .1),
+      rw (place-is (a .d) (a .b .places) (a .g) (a .s) (l .result) k _ _ (c .before .reported-price .ensures) e) (s .pre .1),
     )
 
 add-t13 : tie.Need-add-t13
@@ -55,8 +55,8 @@ returns c =
     let l = c .before .before .before .before .before .before .before .before .before .before .before .before .level-at in
     let k = l .ensures in
     let e = c .before .before .before .before .before .before .before .before .before .before .before .contra-of .ensures in (
-      stepped (a .d) (a .places) (a .g) (a .s) (l .result) k _ refl refl (c .before .before .before .before .before .before .before .before .before .before .left-of .ensures) (ap (λ (n : ℕ). a .s .held + n) e),
-      rw (← place-is (a .d) (a .places) (a .g) (a .s) (l .result) k _ _ (c .before .before .before .before .before .before .before .before .before .shown-price .ensures) e) (c .before .before .before .before .before .before .before .write-level .ensures),
+      stepped (a .d) (a .b .places) (a .g) (a .s) (l .result) k _ refl refl (c .before .before .before .before .before .before .before .before .before .before .left-of .ensures) (ap (λ (n : ℕ). a .s .held + n) e),
+      rw (← place-is (a .d) (a .b .places) (a .g) (a .s) (l .result) k _ _ (c .before .before .before .before .before .before .before .before .before .reported-price .ensures) e) (c .before .before .before .before .before .before .before .write-level .ensures),
     )
 
 pub turn-spec : {M : Type 1} → statement M
@@ -66,7 +66,7 @@ turn-spec =
     level-at-requires
     contra-of-requires
     left-of-requires
-    shown-price-requires
+    reported-price-requires
     write-level-requires
     add-t13
     sub-t14

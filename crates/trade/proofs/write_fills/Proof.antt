@@ -3,8 +3,8 @@ use Prim.Native.Nat.{_-_, _≤_}
 use native.Mathlib.Omega.{arith}
 use lib.ListN.{length}
 use Rattle.trade.proofs.WholeLaws.{fills-few, words-back, not-ended, start-past, too-short, counted, words-after}
-use Rattle.trade.specs.Write.{fillsOf}
-use Rattle.board.proofs.Facts.{length-mapped}
+use Rattle.trade.specs.rules.Write.{fillsOf}
+use Rattle.base.proofs.ListLaws.{length-mapped}
 use denote.Ref.{now}
 use borrow.Author.Tests.{not-true, not-false}
 use borrow.Author.Needs.{needs}

@@ -3,19 +3,19 @@ use mathlib.Core.Bool.{true}
 use Prim.Native.Nat.{_+_}
 use native.Mathlib.Omega.{arith}
 use lib.ListN.{length}
-use Rattle.board.specs.Board.{liveIn, inSequence}
-use Rattle.share.specs.Fills.{fillOf}
+use Rattle.board.specs.rules.Board.{liveIn, inSequence}
+use Rattle.share.specs.rules.Fills.{fillOf}
 use Rattle.share.proofs.FillsLaws.{wrote-append}
-use Rattle.trade.specs.Code.{eachFills, shareFills, placeFills, sharedOf}
+use Rattle.trade.specs.inside.Code.{eachFills, shareFills, placeFills, sharedOf}
 use Rattle.trade.proofs.LevelLaws.{place-length}
 use borrow.Author.Needs.{needs}
 use Rattle.trade.proofs.write_level.Statement.{statement}
 use Rattle.trade.proofs.write_level.Tie as tie
 
 sized : (c : tie.Start)
-    → length (placeFills (c .args .price) (c .args .left) (inSequence (liveIn (c .args .l .customers) (c .args .places))) (c .args .contra) (sharedOf (c .args .left) (c .args .l .served) (c .args .l .want)) (inSequence (liveIn (c .args .l .others) (c .args .places))))
-    ≡ length (eachFills (c .args .price) true 0 0 (c .args .left) (inSequence (liveIn (c .args .l .customers) (c .args .places))))
-    + (length (fillOf 0 (c .args .price) (c .args .contra)) + length (shareFills (c .args .price) (sharedOf (c .args .left) (c .args .l .served) (c .args .l .want)) (inSequence (liveIn (c .args .l .others) (c .args .places)))))
+    → length (placeFills (c .args .price) (c .args .left) (inSequence (liveIn (c .args .l .customers) (c .args .b .places))) (c .args .contra) (sharedOf (c .args .left) (c .args .l .served) (c .args .l .want)) (inSequence (liveIn (c .args .l .others) (c .args .b .places))))
+    ≡ length (eachFills (c .args .price) true 0 0 (c .args .left) (inSequence (liveIn (c .args .l .customers) (c .args .b .places))))
+    + (length (fillOf 0 (c .args .price) (c .args .contra)) + length (shareFills (c .args .price) (sharedOf (c .args .left) (c .args .l .served) (c .args .l .want)) (inSequence (liveIn (c .args .l .others) (c .args .b .places)))))
 sized c = place-length (c .args .price) (c .args .left) _ (c .args .contra) _ _
 
 write-turns-requires : tie.Need-write-turns-requires

@@ -1,7 +1,7 @@
 use mathlib.Core.Path.{refl}
 use native.Mathlib.Omega.{arith}
 use borrow.Author.Tests.{le-ltb}
-use Rattle.share.specs.Fills.{written}
+use Rattle.share.specs.inside.Fills.{written}
 use Rattle.trade.proofs.WriteLaws.{fill-some}
 use borrow.Author.Needs.{needs}
 use Rattle.trade.proofs.write_market.Statement.{statement}
@@ -14,19 +14,19 @@ returns c = simp (le-ltb 0 (c .before .before .args .takes) (omega (arith, c .if
 market-price-requires : tie.Need-market-price-requires
 market-price-requires c κs = search needs
 
-shown-price-requires : tie.Need-shown-price-requires
-shown-price-requires c κs = search needs
+reported-price-requires : tie.Need-reported-price-requires
+reported-price-requires c κs = search needs
 
 put-fill-requires : tie.Need-put-fill-requires
 put-fill-requires c κs =
     let s = c .before .before .before .before .before in
-    (s .pre .0, omega (arith, s .pre .1, fill-some (s .args .d .market) (c .before .shown-price .result) (s .args .takes) (omega (arith, c .before .before .before .if1 .left))))
+    (s .pre .0, omega (arith, s .pre .1, fill-some (s .args .d .market) (c .before .reported-price .result) (s .args .takes) (omega (arith, c .before .before .before .if1 .left))))
 
 same-length : tie.Need-same-length
 same-length c = search needs
 
 returns-2 : tie.Need-returns-2
-returns-2 c = rw (c .before .before .before .before .shown-price .ensures, c .before .before .before .before .before .market-price .ensures .0) at (c .before .before .put-fill .ensures)
+returns-2 c = rw (c .before .before .before .before .reported-price .ensures, c .before .before .before .before .before .market-price .ensures .0) at (c .before .before .put-fill .ensures)
 
 pub write-market-spec : {M : Type 1} → statement M
 write-market-spec =
@@ -34,7 +34,7 @@ write-market-spec =
     (tie.spec
     returns
     market-price-requires
-    shown-price-requires
+    reported-price-requires
     put-fill-requires
     same-length
     returns-2)

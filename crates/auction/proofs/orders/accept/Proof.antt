@@ -1,5 +1,5 @@
 use borrow.Author.Tests.{eq-eqb, ne-eqb}
-use Rattle.auction.specs.Accept.{acceptOf}
+use Rattle.auction.specs.rules.Accept.{acceptOf}
 use borrow.Author.Needs.{needs}
 use Rattle.auction.proofs.orders.accept.Statement.{statement}
 use Rattle.auction.proofs.orders.accept.Tie as tie

@@ -1,5 +1,5 @@
 use native.Mathlib.Omega.{arith}
-use Rattle.auction.specs.Accept.{boundOf}
+use Rattle.auction.specs.rules.Accept.{boundOf}
 use borrow.Author.Needs.{needs}
 use Rattle.auction.proofs.orders.bound.Statement.{statement}
 use Rattle.auction.proofs.orders.bound.Tie as tie

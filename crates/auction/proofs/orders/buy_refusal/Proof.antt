@@ -1,5 +1,5 @@
 use borrow.Author.Tests.{lt-ltb, le-ltb, le-leb, lt-leb, eq-eqb, ne-eqb}
-use Rattle.auction.specs.Accept.{buyRefusal}
+use Rattle.auction.specs.rules.Accept.{buyRefusal}
 use borrow.Author.Needs.{needs}
 use Rattle.auction.proofs.orders.buy_refusal.Statement.{statement}
 use Rattle.auction.proofs.orders.buy_refusal.Tie as tie

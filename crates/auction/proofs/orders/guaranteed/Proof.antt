@@ -1,7 +1,7 @@
 use mathlib.Core.Path.{_∙_}
 use borrow.Author.Tests.{eq-eqb, ne-eqb}
 use native.Mathlib.Omega.{arith}
-use Rattle.auction.specs.Accept.{guaranteedOf}
+use Rattle.auction.specs.rules.Accept.{guaranteedOf}
 use borrow.Author.Needs.{needs}
 use Rattle.auction.proofs.orders.guaranteed.Statement.{statement}
 use Rattle.auction.proofs.orders.guaranteed.Tie as tie
@@ -22,12 +22,12 @@ wide-requires-2 c κs = search needs
 first-bound-requires : tie.Need-first-bound-requires
 first-bound-requires c κs = search needs
 
-higher-requires : tie.Need-higher-requires
-higher-requires c κs = search needs
+greater-requires : tie.Need-greater-requires
+greater-requires c κs = search needs
 
 returns-2 : tie.Need-returns-2
 unfolding guaranteedOf
-returns-2 c = (simp (ne-eqb _ _ (c .before .before .before .if1 .left)) (cc), omega (arith, c .higher .ensures, c .before .before .wide2 .ensures .1, c .before .first-bound .ensures .1))
+returns-2 c = (simp (ne-eqb _ _ (c .before .before .before .if1 .left)) (cc), omega (arith, c .greater .ensures, c .before .before .wide2 .ensures .1, c .before .first-bound .ensures .1))
 
 pub guaranteed-spec : {M : Type 1} → statement M
 guaranteed-spec =
@@ -38,5 +38,5 @@ guaranteed-spec =
     returns
     wide-requires-2
     first-bound-requires
-    higher-requires
+    greater-requires
     returns-2)

@@ -1,5 +1,5 @@
 use borrow.Author.Tests.{lt-ltb, le-ltb}
-use Rattle.auction.specs.Accept.{initiatingOf}
+use Rattle.auction.specs.rules.Accept.{initiatingOf}
 use borrow.Author.Needs.{needs}
 use Rattle.auction.proofs.orders.initiating.Statement.{statement}
 use Rattle.auction.proofs.orders.initiating.Tie as tie

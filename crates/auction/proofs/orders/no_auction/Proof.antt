@@ -1,4 +1,4 @@
-use Rattle.auction.specs.Accept.{noAuction}
+use Rattle.auction.specs.rules.Accept.{noAuction}
 use borrow.Author.Needs.{needs}
 use Rattle.auction.proofs.orders.no_auction.Statement.{statement}
 use Rattle.auction.proofs.orders.no_auction.Tie as tie

@@ -1,4 +1,4 @@
-use Rattle.auction.specs.Accept.{openedBy}
+use Rattle.auction.specs.rules.Accept.{openedBy}
 use borrow.Author.Needs.{needs}
 use Rattle.auction.proofs.orders.opened_by.Statement.{statement}
 use Rattle.auction.proofs.orders.opened_by.Tie as tie

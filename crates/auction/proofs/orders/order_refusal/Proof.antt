@@ -1,4 +1,4 @@
-use Rattle.auction.specs.Accept.{orderRefusal}
+use Rattle.auction.specs.rules.Accept.{orderRefusal}
 use borrow.Author.Needs.{needs}
 use Rattle.auction.proofs.orders.order_refusal.Statement.{statement}
 use Rattle.auction.proofs.orders.order_refusal.Tie as tie

@@ -1,4 +1,4 @@
-use Rattle.auction.specs.Accept.{quotesOf}
+use Rattle.auction.specs.rules.Accept.{quotesOf}
 use borrow.Author.Needs.{needs}
 use Rattle.auction.proofs.orders.quotes_of.Statement.{statement}
 use Rattle.auction.proofs.orders.quotes_of.Tie as tie

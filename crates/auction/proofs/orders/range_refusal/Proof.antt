@@ -1,5 +1,5 @@
 use borrow.Author.Tests.{lt-ltb, le-ltb}
-use Rattle.auction.specs.Accept.{rangeRefusal}
+use Rattle.auction.specs.rules.Accept.{rangeRefusal}
 use borrow.Author.Needs.{needs}
 use Rattle.auction.proofs.orders.range_refusal.Statement.{statement}
 use Rattle.auction.proofs.orders.range_refusal.Tie as tie

@@ -1,4 +1,4 @@
-use Rattle.auction.specs.Accept.{termsOf}
+use Rattle.auction.specs.rules.Accept.{termsOf}
 use borrow.Author.Needs.{needs}
 use Rattle.auction.proofs.orders.terms_of.Statement.{statement}
 use Rattle.auction.proofs.orders.terms_of.Tie as tie

@@ -1,5 +1,5 @@
 use native.Mathlib.Omega.{arith}
-use Rattle.auction.specs.Accept.{tickOf}
+use Rattle.auction.specs.rules.Accept.{tickOf}
 use Rattle.auction.proofs.orders.tick.Statement.{statement}
 use Rattle.auction.proofs.orders.tick.Tie as tie
 

@@ -1,7 +1,7 @@
 use mathlib.Core.Path.{sym, ap}
 use native.Mathlib.Omega.{arith}
 use Rattle.listing.proofs.WroteLaws.{wrote-append, wrote-same}
-use Rattle.listing.specs.Listing.{answerText}
+use Rattle.listing.specs.rules.Listing.{answerText}
 use borrow.Author.Needs.{needs}
 use Rattle.listing.proofs.lines.put_answer.Statement.{statement}
 use Rattle.listing.proofs.lines.put_answer.Tie as tie

@@ -1,7 +1,7 @@
 use mathlib.Core.Path.{ap}
 use native.Mathlib.Omega.{arith}
 use Rattle.listing.proofs.WroteLaws.{wrote-append, wrote-same}
-use Rattle.listing.specs.Listing.{rangeText, auctionLine}
+use Rattle.listing.specs.rules.Listing.{rangeText, auctionLine}
 use borrow.Author.Needs.{needs}
 use Rattle.listing.proofs.lines.put_auction.Statement.{statement}
 use Rattle.listing.proofs.lines.put_auction.Tie as tie

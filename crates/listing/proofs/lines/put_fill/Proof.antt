@@ -1,6 +1,6 @@
 use native.Mathlib.Omega.{arith}
 use Rattle.listing.proofs.WroteLaws.{wrote-append}
-use Rattle.listing.specs.Listing.{fillLine}
+use Rattle.listing.specs.rules.Listing.{fillLine}
 use borrow.Author.Needs.{needs}
 use Rattle.listing.proofs.lines.put_fill.Statement.{statement}
 use Rattle.listing.proofs.lines.put_fill.Tie as tie

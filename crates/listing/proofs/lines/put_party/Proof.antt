@@ -1,6 +1,6 @@
 use borrow.Author.Tests.{eq-eqb, ne-eqb}
 use native.Mathlib.Omega.{arith}
-use Rattle.listing.specs.Listing.{partyText}
+use Rattle.listing.specs.rules.Listing.{partyText}
 use borrow.Author.Needs.{needs}
 use Rattle.listing.proofs.lines.put_party.Statement.{statement}
 use Rattle.listing.proofs.lines.put_party.Tie as tie

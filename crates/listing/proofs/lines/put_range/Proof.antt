@@ -1,6 +1,6 @@
 use native.Mathlib.Omega.{arith}
 use Rattle.listing.proofs.WroteLaws.{wrote-append}
-use Rattle.listing.specs.Listing.{rangeText}
+use Rattle.listing.specs.rules.Listing.{rangeText}
 use borrow.Author.Needs.{needs}
 use Rattle.listing.proofs.lines.put_range.Statement.{statement}
 use Rattle.listing.proofs.lines.put_range.Tie as tie

@@ -1,5 +1,5 @@
 use Rattle.listing.proofs.WroteLaws.{wrote-append}
-use Rattle.listing.specs.Listing.{refusedLine}
+use Rattle.listing.specs.rules.Listing.{refusedLine}
 use borrow.Author.Needs.{needs}
 use Rattle.listing.proofs.lines.put_refused.Statement.{statement}
 use Rattle.listing.proofs.lines.put_refused.Tie as tie

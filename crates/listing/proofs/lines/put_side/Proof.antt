@@ -1,7 +1,7 @@
 use mathlib.Core.Path.{sym, ap}
 use native.Mathlib.Omega.{arith}
 use Rattle.listing.proofs.WroteLaws.{wrote-same}
-use Rattle.listing.specs.Listing.{sideText}
+use Rattle.listing.specs.rules.Listing.{sideText}
 use borrow.Author.Needs.{needs}
 use Rattle.listing.proofs.lines.put_side.Statement.{statement}
 use Rattle.listing.proofs.lines.put_side.Tie as tie

@@ -1,5 +1,5 @@
 use Rattle.listing.proofs.WroteLaws.{wrote-append}
-use Rattle.listing.specs.Listing.{totalLine}
+use Rattle.listing.specs.rules.Listing.{totalLine}
 use borrow.Author.Needs.{needs}
 use Rattle.listing.proofs.lines.put_total.Statement.{statement}
 use Rattle.listing.proofs.lines.put_total.Tie as tie

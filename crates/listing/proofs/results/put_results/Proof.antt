@@ -1,15 +1,15 @@
 use mathlib.Core.Path.{_≡_, refl, ap, _∙_}
 use native.Mathlib.Omega.{arith}
 use lib.ListN.{length, replicate}
-use Rattle.board.proofs.Facts.{length-mapped}
-use Rattle.trade.specs.Trade.{total}
-use Rattle.listing.specs.Listing.{fillLines, totalLine, endLines}
+use Rattle.base.proofs.ListLaws.{length-mapped}
+use Rattle.trade.specs.rules.Trade.{total}
+use Rattle.listing.specs.rules.Listing.{fillLines, totalLine, endLines}
 use Rattle.listing.proofs.WroteLaws.{wrote-append, wrote-same}
 use Rattle.listing.proofs.FillLaws.{Reported, reported}
 use borrow.Author.Needs.{needs}
 use Rattle.listing.proofs.results.put_results.Statement.{statement}
 use Rattle.listing.proofs.results.put_results.Tie as tie
-use Rattle.listing.specs.Code.{countIn}
+use Rattle.listing.specs.inside.Code.{countIn}
 
 len : (c : tie.Start) → length (c .args .a .board .places) ≡ 64
 len c = search (needs, length-mapped)

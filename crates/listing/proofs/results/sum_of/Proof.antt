@@ -3,14 +3,14 @@ use Prim.Native.Nat.{_+_, _-_, _*_, _≤_}
 use native.Mathlib.Omega.{arith}
 use denote.Ref.{now}
 use borrow.Author.Needs.{needs}
-use Rattle.trade.specs.Trade.{total}
+use Rattle.trade.specs.rules.Trade.{traded}
 use Rattle.listing.proofs.FillLaws.{fillsFrom, fills-all, fills-more, fills-none}
 use Rattle.listing.proofs.results.sum_of.Statement.{statement}
 use Rattle.listing.proofs.results.sum_of.Tie as tie
-use Rattle.listing.specs.Code.{fillsIn}
+use Rattle.listing.specs.inside.Code.{fillsIn}
 
 abbrev Inv-loop : tie.InvT-loop
-Inv-loop words n sum₀ i₀ sum i = (i ≤ n) × (sum ≤ 4294967295 * i) × (sum + total (fillsFrom n words i) ≡ total (fillsIn n words))
+Inv-loop words n sum₀ i₀ sum i = (i ≤ n) × (sum ≤ 4294967295 * i) × (sum + traded (fillsFrom n words i) ≡ traded (fillsIn n words))
 
 abbrev μ-loop : tie.MeasureT-loop
 μ-loop words n sum₀ i₀ sum i = n - i
@@ -18,7 +18,7 @@ abbrev μ-loop : tie.MeasureT-loop
 loop-holds : tie.Need-loop-holds Inv-loop μ-loop
 loop-holds c =
     let a = c .before .args in
-    (omega arith, omega arith, omega (arith, ap total (fills-all (a .n) (now (a .words)))))
+    (omega arith, omega arith, omega (arith, ap traded (fills-all (a .n) (now (a .words)))))
 
 mul-wide : tie.Need-mul-wide Inv-loop μ-loop
 mul-wide c = search needs
@@ -48,13 +48,13 @@ loop-again : tie.Need-loop-again Inv-loop μ-loop
 loop-again c =
     let a = c .before .before .before .before .before .args in
     let l = c .before .before .before .loop in
-    (omega arith, omega arith, omega (arith, l .inv .2, c .wide .ensures .0, ap total (fills-more (a .n) (now (a .words)) (l .i) (omega arith))))
+    (omega arith, omega arith, omega (arith, l .inv .2, c .wide .ensures .0, ap traded (fills-more (a .n) (now (a .words)) (l .i) (omega arith))))
 
 returns : tie.Need-returns Inv-loop μ-loop
 returns c =
     let a = c .before .before .before .args in
     let l = c .before .loop in
-    omega (arith, l .inv .2, ap total (fills-none (a .n) (now (a .words)) (l .i) (omega arith)))
+    omega (arith, l .inv .2, ap traded (fills-none (a .n) (now (a .words)) (l .i) (omega arith)))
 
 pub sum-of-spec : {M : Type 1} → statement M
 sum-of-spec =

@@ -3,7 +3,7 @@ use Prim.Native.Nat.{_+_, _^_, _<_}
 use native.Mathlib.Omega.{arith}
 use lib.ListN.{length}
 use borrow.Author.Needs.{needs}
-use Rattle.listing.specs.Text.{decimal}
+use Rattle.listing.specs.rules.Text.{decimal}
 use Rattle.listing.proofs.DecimalLaws.{decimal-short, four-fewer}
 use Rattle.listing.proofs.text.count_digits.Statement.{statement}
 use Rattle.listing.proofs.text.count_digits.Tie as tie

@@ -48,7 +48,7 @@ returns : tie.Need-returns Inv-loop μ-loop
 returns c =
     let l = c .before .before .loop in
     let k = c .before .before .before .count-digits .ensures in
-    (record { bytes = rw (c .last-digit2 .ensures) (left-last (search needs) (l .inv)); place = omega arith }, omega arith)
+    (record { words = rw (c .last-digit2 .ensures) (left-last (search needs) (l .inv)); place = omega arith }, omega arith)
 
 pub put-number-spec : {M : Type 1} → statement M
 put-number-spec =

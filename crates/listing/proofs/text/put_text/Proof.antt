@@ -6,7 +6,7 @@ use native.Mathlib.Omega.{arith}
 use lib.ListN.{length, take, set, getD}
 use lib.Seq.{sets, take-all}
 use borrow.Author.Needs.{needs}
-use Rattle.listing.proofs.WroteLaws.{sets-more}
+use Rattle.base.proofs.SetsLaws.{sets-more}
 use Rattle.listing.proofs.text.put_text.Statement.{statement}
 use Rattle.listing.proofs.text.put_text.Tie as tie
 
@@ -54,7 +54,7 @@ returns : tie.Need-returns Inv-loop μ-loop
 returns c =
     let a = c .before .before .args in
     let l = c .before .loop in
-    record { bytes = l .inv .2 ∙ ap (λ (t : List ℕ). sets (now (a .out)) (a .at) t) (take-all (l .i) (now (a .s)) (omega arith)); place = omega arith }
+    record { words = l .inv .2 ∙ ap (λ (t : List ℕ). sets (now (a .out)) (a .at) t) (take-all (l .i) (now (a .s)) (omega arith)); place = omega arith }
 
 pub put-text-spec : {M : Type 1} → statement M
 put-text-spec =

@@ -1,4 +1,4 @@
-use Rattle.trade.specs.Code.{contraOf}
+use Rattle.trade.specs.inside.Code.{contraOf}
 use Rattle.trade.proofs.CodeLaws.{contra-last, contra-open, contra-fits}
 use mathlib.Core.Path.{sym, ap, _∙_}
 use native.Mathlib.Omega.{arith}

@@ -1,5 +1,5 @@
 use borrow.Author.Tests.{eq-eqb, ne-eqb}
-use Rattle.trade.specs.Trade.{entry}
+use Rattle.trade.specs.rules.Trade.{entry}
 use borrow.Author.Needs.{needs}
 use Rattle.trade.proofs.numbers.entry_of.Statement.{statement}
 use Rattle.trade.proofs.numbers.entry_of.Tie as tie

@@ -1,5 +1,5 @@
 use borrow.Author.Tests.{le-leb, lt-leb, eq-eqb, ne-eqb}
-use Rattle.trade.specs.Code.{lastOf}
+use Rattle.trade.specs.inside.Code.{lastOf}
 use Rattle.trade.proofs.numbers.is_last.Statement.{statement}
 use Rattle.trade.proofs.numbers.is_last.Tie as tie
 

@@ -1,5 +1,5 @@
 use native.Mathlib.Omega.{arith}
-use Rattle.trade.specs.Code.{leftOf}
+use Rattle.trade.specs.inside.Code.{leftOf}
 use borrow.Author.Needs.{needs}
 use Rattle.trade.proofs.numbers.left_of.Statement.{statement}
 use Rattle.trade.proofs.numbers.left_of.Tie as tie

@@ -1,5 +1,5 @@
 use borrow.Author.Tests.{eq-eqb, ne-eqb}
-use Rattle.trade.specs.Trade.{top}
+use Rattle.trade.specs.rules.Trade.{top}
 use borrow.Author.Needs.{needs}
 use Rattle.trade.proofs.numbers.top_of.Statement.{statement}
 use Rattle.trade.proofs.numbers.top_of.Tie as tie

@@ -1,6 +1,6 @@
 use native.Mathlib.Omega.{arith}
 use borrow.Author.Tests.{le-leb, lt-leb}
-use Rattle.trade.specs.Code.{wantOf}
+use Rattle.trade.specs.inside.Code.{wantOf}
 use borrow.Author.Needs.{needs}
 use Rattle.trade.proofs.numbers.wanted.Statement.{statement}
 use Rattle.trade.proofs.numbers.wanted.Tie as tie

@@ -1,5 +1,6 @@
 use native.Mathlib.Omega.{arith}
-use Rattle.share.proofs.ShareLaws.{mul-small, floor-le}
+use Rattle.base.proofs.Numbers.{mul-small}
+use Rattle.share.proofs.ShareLaws.{floor-le}
 use borrow.Author.Needs.{needs}
 use Rattle.trade.proofs.scan.part_of.Statement.{statement}
 use Rattle.trade.proofs.scan.part_of.Tie as tie

@@ -1,22 +1,15 @@
-use mathlib.Core.Path.{ap, _∙_}
+use mathlib.Core.Path.{ap}
 use Prim.Native.Nat.{ℕ}
 use lib.Dec.{eqb}
 use borrow.Author.Needs.{needs}
-use Rattle.words.specs.Bits.{withoutBit}
 use Rattle.trade.proofs.write.alone.Statement.{statement}
 use Rattle.trade.proofs.write.alone.Tie as tie
 
-first-set-requires : tie.Need-first-set-requires
-first-set-requires c κs = search needs
-
-cast-first : tie.Need-cast-first
-cast-first c = search needs
-
-without-bit-requires : tie.Need-without-bit-requires
-without-bit-requires c κs = search needs
+without-lowest-requires : tie.Need-without-lowest-requires
+without-lowest-requires c κs = search needs
 
 returns : tie.Need-returns
-returns c = ap (λ (n : ℕ). eqb n 0) (c .without-bit .ensures ∙ ap (withoutBit (c .before .before .args .word)) (c .before .first-set .ensures))
+returns c = ap (λ (n : ℕ). eqb n 0) (c .without-lowest .ensures)
 
 pub alone-spec : {M : Type 1} → statement M
-alone-spec = tie.close (tie.spec first-set-requires cast-first without-bit-requires returns)
+alone-spec = tie.close (tie.spec without-lowest-requires returns)

@@ -1,11 +1,10 @@
 use mathlib.Core.Path.{refl}
 use Prim.Native.Nat.{_+_, _≤_}
 use native.Mathlib.Omega.{arith}
-use lib.ListN.{length}
+use lib.ListN.{length, length-set}
 use borrow.Author.Tests.{le-ltb, lt-ltb}
 use Rattle.trade.proofs.WriteLaws.{fill-some}
-use Rattle.share.specs.Fills.{written}
-use lib.ListN.{length-set}
+use Rattle.share.specs.inside.Fills.{written}
 use denote.Ref.{now}
 use borrow.Author.Needs.{needs}
 use Rattle.trade.proofs.write.put_fill.Statement.{statement}

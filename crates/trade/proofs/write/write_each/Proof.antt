@@ -3,41 +3,42 @@ use mathlib.Core.Bool.{true}
 use mathlib.Core.List.{_++_}
 use Prim.Native.Nat.{_+_, _*_, _^_, _≤_, _<_}
 use native.Mathlib.Omega.{arith}
-use lib.ListN.{length, getD}
+use lib.ListN.{length, getD, length-append}
 use borrow.Author.Needs.{needs}
-use Rattle.words.specs.Bits.{withoutBit}
-use Rattle.words.proofs.BitLaws.{without-le, set-le}
-use Rattle.board.specs.Board.{noResponse, liveIn, inSequence}
-use Rattle.board.specs.Theorems.{RisingFrom}
+use Rattle.base.proofs.ListLaws.{length-mapped}
+use Rattle.words.specs.rules.Bits.{withoutBit}
+use Rattle.words.proofs.BitLaws.{without-le, without-lowest, trailing-le}
+use Rattle.board.specs.rules.Board.{noResponse, liveIn, inSequence}
+use Rattle.board.specs.promises.Board.{RisingFrom}
 use Rattle.board.proofs.FirstLaws.{Best}
-use Rattle.share.specs.Fills.{fillOf}
-use Rattle.share.proofs.FillsLaws.{Left, left-start, left-turn, left-done}
-use Rattle.trade.specs.Code.{eachFills}
+use Rattle.share.specs.rules.Fills.{fillOf}
+use Rattle.share.specs.inside.Fills.{LeftFills}
+use Rattle.share.proofs.FillsLaws.{left-start, left-turn, left-done}
+use Rattle.trade.specs.inside.Code.{eachFills}
 use Rattle.trade.proofs.CodeLaws.{Turn, turn-of}
 use Rattle.trade.proofs.WriteLaws.{Pick, each-pick, each-none, rising-is, rising-without, unseen-le, hunt-start, hunt-step, hunt-end, gives-left}
-use lib.ListN.{length-append}
 use Rattle.trade.proofs.write.write_each.Statement.{statement}
 use Rattle.trade.proofs.write.write_each.Tie as tie
 
 abbrev Inv-loop : tie.InvT-loop
-Inv-loop word price turns amount total k out₀ at places w₀ left₀ rest₀ best₀ sorted unseen₀ out w left rest best unseen =
+Inv-loop word price turns amount total k out₀ at b w₀ left₀ rest₀ best₀ sorted unseen₀ out w left rest best unseen =
     (rest < 2 ^ 64)
     × (unseen < 2 ^ 64)
     × (left ≤ 4294967295)
     × (length out ≡ length out₀)
-    × (0 < rest → Best places rest best unseen)
-    × (sorted ≡ true → RisingFrom 0 (liveIn rest places))
-    × Left out₀ at (eachFills price turns amount total k (inSequence (liveIn word places))) out w (eachFills price turns amount total left (inSequence (liveIn rest places)))
+    × (0 < rest → Best (b .places) rest best unseen)
+    × (sorted ≡ true → RisingFrom 0 (liveIn rest (b .places)))
+    × LeftFills out₀ at (eachFills price turns amount total k (inSequence (liveIn word (b .places)))) out w (eachFills price turns amount total left (inSequence (liveIn rest (b .places))))
 
 abbrev μ-loop : tie.MeasureT-loop
-μ-loop word price turns amount total k out₀ at places w₀ left₀ rest₀ best₀ sorted unseen₀ out w left rest best unseen =
+μ-loop word price turns amount total k out₀ at b w₀ left₀ rest₀ best₀ sorted unseen₀ out w left rest best unseen =
     rest * 18446744073709551616 + unseen
 
 first-set-requires : tie.Need-first-set-requires Inv-loop μ-loop
 first-set-requires c κs = search needs
 
 cast-best : tie.Need-cast-best Inv-loop μ-loop
-cast-best c = omega (arith, c .first-set .ensures, set-le 64 (c .before .before .args .word))
+cast-best c = omega (arith, c .first-set .ensures, trailing-le 64 (c .before .before .args .word))
 
 rising-requires : tie.Need-rising-requires Inv-loop μ-loop
 rising-requires c κs = search needs
@@ -45,31 +46,31 @@ rising-requires c κs = search needs
 unseen-of-requires : tie.Need-unseen-of-requires Inv-loop μ-loop
 unseen-of-requires c κs = search needs
 
-len : (c : tie.Start Inv-loop μ-loop) → length (c .args .t1) ≡ 64
-len c = search needs
+len : (c : tie.Start Inv-loop μ-loop) → length (c .args .t1 .places) ≡ 64
+len c = search (needs, length-mapped)
 
 -- the next place to look at
-look : (c : tie.After-first-set2 Inv-loop μ-loop) → Turn (c .before .before .before .before .before .before .before .before .args .t1) (c .before .before .before .loop .unseen) (c .first-set2 .result)
-look c = turn-of (c .before .before .before .before .before .before .before .before .args .t1) (c .before .before .before .loop .unseen) _ (len (c .before .before .before .before .before .before .before .before)) (omega arith) (c .before .before .before .loop .inv .1) (c .first-set2 .ensures)
+look : (c : tie.After-first-set2 Inv-loop μ-loop) → Turn (c .before .before .before .before .before .before .before .before .args .t1 .places) (c .before .before .before .loop .unseen) (c .first-set2 .result)
+look c = turn-of (c .before .before .before .before .before .before .before .before .args .t1 .places) (c .before .before .before .loop .unseen) _ (len (c .before .before .before .before .before .before .before .before)) (omega arith) (c .before .before .before .loop .inv .1) (c .first-set2 .ensures)
 
 -- where all were looked at, the place found is the next in sequence
-pick : (c : tie.Else1 Inv-loop μ-loop) → Pick (c .before .before .before .before .before .before .before .args .t1) (c .before .before .loop .rest) (c .before .before .loop .best)
+pick : (c : tie.Else1 Inv-loop μ-loop) → Pick (c .before .before .before .before .before .before .before .args .t1 .places) (c .before .before .loop .rest) (c .before .before .loop .best)
 pick c =
     let l = c .before .before in
     let p : 0 < l .loop .rest = omega arith in
-    hunt-end (c .before .before .before .before .before .before .before .args .t1) (len (c .before .before .before .before .before .before .before)) (l .loop .rest) (l .loop .best) (l .loop .unseen) p (l .loop .inv .0) (c .if1 .left) (l .loop .inv .4 p)
+    hunt-end (c .before .before .before .before .before .before .before .args .t1 .places) (len (c .before .before .before .before .before .before .before)) (l .loop .rest) (l .loop .best) (l .loop .unseen) p (l .loop .inv .0) (c .if1 .left) (l .loop .inv .4 p)
 
 -- what is still to be written: this response's fill, and the others'
 step : (c : tie.After-given Inv-loop μ-loop)
     → eachFills (c .before .before .before .before .before .before .before .before .before .args .price) (c .before .before .before .before .before .before .before .before .before .args .turns) (c .before .before .before .before .before .before .before .before .before .args .amount) (c .before .before .before .before .before .before .before .before .before .args .total) (c .before .before .before .before .loop .left)
-    (inSequence (liveIn (c .before .before .before .before .loop .rest) (c .before .before .before .before .before .before .before .before .before .args .t1)))
-    ≡ fillOf (getD (c .before .before .before .before .before .before .before .before .before .args .t1) (c .before .before .before .before .loop .best) noResponse .sequence) (c .before .before .before .before .before .before .before .before .before .args .price) (c .given .result .quantity)
+    (inSequence (liveIn (c .before .before .before .before .loop .rest) (c .before .before .before .before .before .before .before .before .before .args .t1 .places)))
+    ≡ fillOf (getD (c .before .before .before .before .before .before .before .before .before .args .t1 .places) (c .before .before .before .before .loop .best) noResponse .sequence) (c .before .before .before .before .before .before .before .before .before .args .price) (c .given .result .quantity)
     ++ eachFills (c .before .before .before .before .before .before .before .before .before .args .price) (c .before .before .before .before .before .before .before .before .before .args .turns) (c .before .before .before .before .before .before .before .before .before .args .amount) (c .before .before .before .before .before .before .before .before .before .args .total) (c .given .result .left)
-    (inSequence (liveIn (withoutBit (c .before .before .before .before .loop .rest) (c .before .before .before .before .loop .best)) (c .before .before .before .before .before .before .before .before .before .args .t1)))
+    (inSequence (liveIn (withoutBit (c .before .before .before .before .loop .rest) (c .before .before .before .before .loop .best)) (c .before .before .before .before .before .before .before .before .before .args .t1 .places)))
 step c =
     let l = c .before .before .before .before in
     let a = c .before .before .before .before .before .before .before .before .before .args in
-    each-pick (a .price) (a .turns) (a .amount) (a .total) (l .loop .left) (a .t1) (l .loop .rest) (l .loop .best) (c .given .result) (pick (c .before .before)) (c .given .ensures)
+    each-pick (a .price) (a .turns) (a .amount) (a .total) (l .loop .left) (a .t1 .places) (l .loop .rest) (l .loop .best) (c .given .result) (pick (c .before .before)) (c .given .ensures)
 
 loop-holds : tie.Need-loop-holds Inv-loop μ-loop
 loop-holds c =
@@ -78,13 +79,13 @@ loop-holds c =
     let f : a .word < 2 ^ 64 = search needs in
     let i = c .before .before .first-set in
     let o = c .before .rising in
-    let rises : o .result ≡ true → RisingFrom 0 (liveIn (a .word) (a .t1)) = λ t. rising-is 0 (liveIn (a .word) (a .t1)) (sym (o .ensures) ∙ t) in
+    let rises : o .result ≡ true → RisingFrom 0 (liveIn (a .word) (a .t1 .places)) = λ t. rising-is 0 (liveIn (a .word) (a .t1 .places)) (sym (o .ensures) ∙ t) in
     let e = c .unseen-of .ensures in (
       f,
-      rw e (omega (arith, unseen-le (o .result) (a .word) (i .result))),
+      rw e (omega (arith, unseen-le (o .result) (a .word))),
       s .pre .0 .1,
       refl,
-      λ p. rw e (hunt-start (a .t1) (len s) (o .result) (a .word) _ p f (i .ensures) rises),
+      λ p. rw e (hunt-start (a .t1 .places) (len s) (o .result) (a .word) _ p f (i .ensures) rises),
       rises,
       left-start _ _ _,
     )
@@ -110,11 +111,13 @@ element-copy-out-sooner-2 c = look c .low
 sooner-requires : tie.Need-sooner-requires Inv-loop μ-loop
 sooner-requires c κs = search needs
 
-without-bit-requires : tie.Need-without-bit-requires Inv-loop μ-loop
-without-bit-requires c κs = search needs
+without-lowest-requires : tie.Need-without-lowest-requires Inv-loop μ-loop
+without-lowest-requires c κs = search needs
 
 loop-less : tie.Need-loop-less Inv-loop μ-loop
-loop-less c = rw (c .without-bit .ensures) (omega (arith, look (c .before .before) .less))
+loop-less c =
+    let d = c .before .before in
+    omega (arith, c .without-lowest .ensures, without-lowest _ _ (d .first-set2 .ensures), look d .less)
 
 loop-again : tie.Need-loop-again Inv-loop μ-loop
 loop-again c =
@@ -122,12 +125,12 @@ loop-again c =
     let l = d .before .before .before in
     let s = l .before .before .before .before .before in
     let a = s .args in
-    let e = c .without-bit .ensures in (
+    let e = c .without-lowest .ensures in (
       l .loop .inv .0,
-      rw e (omega (arith, without-le (l .loop .unseen) (d .first-set2 .result), l .loop .inv .1)),
+      omega (arith, e, without-lowest _ _ (d .first-set2 .ensures), without-le (l .loop .unseen) (d .first-set2 .result), l .loop .inv .1),
       l .loop .inv .2,
       l .loop .inv .3,
-      λ p. rw e (hunt-step (a .t1) (len s) (l .loop .rest) (l .loop .best) (l .loop .unseen) _ _ (omega arith) (l .loop .inv .1) (d .first-set2 .ensures) (c .before .sooner .ensures) (l .loop .inv .4 p)),
+      λ p. rw e (hunt-step (a .t1 .places) (len s) (l .loop .rest) (l .loop .best) (l .loop .unseen) _ _ (omega arith) (l .loop .inv .1) (d .first-set2 .ensures) (c .before .sooner .ensures) (l .loop .inv .4 p)),
       l .loop .inv .5,
       l .loop .inv .6,
     )
@@ -135,8 +138,8 @@ loop-again c =
 mul-r : tie.Need-mul-r Inv-loop μ-loop
 mul-r c = omega (arith, pick c .low)
 
-array-copy-out-r : tie.Need-array-copy-out-r Inv-loop μ-loop
-array-copy-out-r c = pick c .low
+element-copy-out-r : tie.Need-element-copy-out-r Inv-loop μ-loop
+element-copy-out-r c = pick c .low
 
 given-requires : tie.Need-given-requires Inv-loop μ-loop
 given-requires c κs =
@@ -151,14 +154,14 @@ put-fill-requires c κs =
     let s = l .before .before .before .before .before in
     (g .given .ensures .small, omega (arith, l .loop .inv .3, l .loop .inv .6 .place, s .pre .1, simp length-append at (ap length (step g))))
 
-without-bit-requires-2 : tie.Need-without-bit-requires-2 Inv-loop μ-loop
-without-bit-requires-2 c κs = search needs
+without-bit-requires : tie.Need-without-bit-requires Inv-loop μ-loop
+without-bit-requires c κs = search needs
 
 first-set-requires-3 : tie.Need-first-set-requires-3 Inv-loop μ-loop
 first-set-requires-3 c κs = search needs
 
 cast-best-2 : tie.Need-cast-best-2 Inv-loop μ-loop
-cast-best-2 c = omega (arith, c .first-set3 .ensures, set-le 64 (c .before .without-bit2 .result))
+cast-best-2 c = omega (arith, c .first-set3 .ensures, trailing-le 64 (c .before .without-bit .result))
 
 unseen-of-requires-2 : tie.Need-unseen-of-requires-2 Inv-loop μ-loop
 unseen-of-requires-2 c κs = search needs
@@ -166,8 +169,8 @@ unseen-of-requires-2 c κs = search needs
 loop-less-2 : tie.Need-loop-less-2 Inv-loop μ-loop
 loop-less-2 c =
     let d = c .before .before .before .before .before .before .before .before .before in
-    let r = c .before .before .without-bit2 in
-    omega (arith, rw (← r .ensures) at (pick d .less), c .unseen-of2 .ensures, unseen-le (d .before .before .before .before .rising .result) (r .result) (c .before .first-set3 .result), d .before .before .loop .inv .0)
+    let r = c .before .before .without-bit in
+    omega (arith, rw (← r .ensures) at (pick d .less), c .unseen-of2 .ensures, unseen-le (d .before .before .before .before .rising .result) (r .result), d .before .before .loop .inv .0)
 
 loop-again-2 : tie.Need-loop-again-2 Inv-loop μ-loop
 loop-again-2 c =
@@ -177,17 +180,17 @@ loop-again-2 c =
     let s = l .before .before .before .before .before in
     let a = s .args in
     let o = l .before .before .rising .result in
-    let r = c .before .before .without-bit2 in
+    let r = c .before .before .without-bit in
     let f = c .before .before .before .before .before .put-fill in
     let e = c .unseen-of2 .ensures in
     let best = l .loop .inv .4 (omega arith) in
     let small : r .result < 2 ^ 64 = rw (r .ensures) (omega (arith, without-le (l .loop .rest) (l .loop .best), l .loop .inv .0)) in
-    let rises : o ≡ true → RisingFrom 0 (liveIn (r .result) (a .t1)) = rw (r .ensures) (λ t. rising-without (a .t1) (l .loop .rest) (l .loop .best) (best .place) (best .set) (l .loop .inv .5 t)) in (
+    let rises : o ≡ true → RisingFrom 0 (liveIn (r .result) (a .t1 .places)) = rw (r .ensures) (λ t. rising-without (a .t1 .places) (l .loop .rest) (l .loop .best) (best .place) (best .set) (l .loop .inv .5 t)) in (
       small,
-      rw e (omega (arith, unseen-le o (r .result) (c .before .first-set3 .result))),
+      rw e (omega (arith, unseen-le o (r .result))),
       omega (arith, gives-left (a .turns) (a .amount) (a .total) (l .loop .left) _ (g .given .result) (g .given .ensures), l .loop .inv .2),
       omega (arith, f .kept .0, l .loop .inv .3),
-      λ p. rw e (hunt-start (a .t1) (len s) o (r .result) _ p small (c .before .first-set3 .ensures) rises),
+      λ p. rw e (hunt-start (a .t1 .places) (len s) o (r .result) _ p small (c .before .first-set3 .ensures) rises),
       rises,
       rw (r .ensures) (left-turn (rw (step g) at (l .loop .inv .6)) (f .ensures)),
     )
@@ -219,14 +222,14 @@ write-each-spec =
     mul-sooner-2
     element-copy-out-sooner-2
     sooner-requires
-    without-bit-requires
+    without-lowest-requires
     loop-less
     loop-again
     mul-r
-    array-copy-out-r
+    element-copy-out-r
     given-requires
     put-fill-requires
-    without-bit-requires-2
+    without-bit-requires
     first-set-requires-3
     cast-best-2
     unseen-of-requires-2

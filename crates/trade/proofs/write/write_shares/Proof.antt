@@ -4,17 +4,18 @@ use Prim.Native.Nat.{ℕ, _-_, _^_, _<_, min}
 use native.Mathlib.Omega.{arith}
 use borrow.Author.Tests.{eqb-true}
 use lib.ListN.{length}
-use Rattle.board.specs.Board.{liveIn, inSequence}
-use Rattle.share.specs.Fills.{fillOf}
+use Rattle.board.specs.rules.Board.{liveIn, inSequence}
+use Rattle.share.specs.rules.Fills.{fillOf}
 use Rattle.share.proofs.FillsLaws.{left-start, left-done}
-use Rattle.trade.specs.Code.{shareFills}
+use Rattle.trade.specs.inside.Code.{shareFills}
 use Rattle.trade.proofs.WriteLaws.{shares-all, shares-parts, shares-none, shares-one, parts-le}
 use borrow.Author.Needs.{needs}
+use Rattle.base.proofs.ListLaws.{length-mapped}
 use Rattle.trade.proofs.write.write_shares.Statement.{statement}
 use Rattle.trade.proofs.write.write_shares.Tie as tie
 
-len : (c : tie.Start) → length (c .args .places) ≡ 64
-len c = search needs
+len : (c : tie.Start) → length (c .args .b .places) ≡ 64
+len c = search (needs, length-mapped)
 
 word : (c : tie.Start) → c .args .word < 2 ^ 64
 word c = search needs
@@ -27,12 +28,12 @@ alone-requires c κs = search needs
 
 -- the fill of one alone
 fill : (c : tie.Then2)
-    → shareFills (c .before .before .before .before .args .price) (c .before .before .before .before .args .amount) (inSequence (liveIn (c .before .before .before .before .args .word) (c .before .before .before .before .args .places)))
+    → shareFills (c .before .before .before .before .args .price) (c .before .before .before .before .args .amount) (inSequence (liveIn (c .before .before .before .before .args .word) (c .before .before .before .before .args .b .places)))
     ≡ fillOf (c .before .before .before .before .args .one) (c .before .before .before .before .args .price) (min (c .before .before .before .before .args .amount) (c .before .before .before .before .args .total))
 fill c =
     let s = c .before .before .before .before in
     let a = s .args in
-    shares-one (a .places) (a .word) (a .one) (a .total) (len s) (omega (arith, c .before .before .if1 .left)) (word s) (eqb-true _ 0 (sym (c .before .alone .ensures) ∙ c .if2 .taken)) (s .pre .0 .1) (a .price) (a .amount)
+    shares-one (a .b .places) (a .word) (a .one) (a .total) (len s) (omega (arith, c .before .before .if1 .left)) (word s) (eqb-true _ 0 (sym (c .before .alone .ensures) ∙ c .if2 .taken)) (s .pre .0 .1) (a .price) (a .amount)
 
 lesser-requires : tie.Need-lesser-requires
 lesser-requires c κs = search needs
@@ -52,7 +53,7 @@ write-each-requires : tie.Need-write-each-requires
 write-each-requires c κs =
     let s = c .before .before .before .before .before .before in
     let a = s .args in
-    ((s .pre .0 .0, s .pre .0 .0, λ e. absurd (true≢false e)), rw (shares-all (a .price) (a .amount) (a .total) (liveIn (a .word) (a .places)) (s .pre .0 .1 .total-is) (c .before .if3 .taken)) at (s .pre .1))
+    ((s .pre .0 .0, s .pre .0 .0, λ e. absurd (true≢false e)), rw (shares-all (a .price) (a .amount) (a .total) (liveIn (a .word) (a .b .places)) (s .pre .0 .1 .total-is) (c .before .if3 .taken)) at (s .pre .1))
 
 same-length-2 : tie.Need-same-length-2
 same-length-2 c = search needs
@@ -61,7 +62,7 @@ returns-3 : tie.Need-returns-3
 returns-3 c =
     let s = c .before .before .before .before .before .before .before .before .before in
     let a = s .args in
-    rw (shares-all (a .price) (a .amount) (a .total) (liveIn (a .word) (a .places)) (s .pre .0 .1 .total-is) (c .before .before .before .before .if3 .taken)) (c .before .before .write-each .ensures)
+    rw (shares-all (a .price) (a .amount) (a .total) (liveIn (a .word) (a .b .places)) (s .pre .0 .1 .total-is) (c .before .before .before .before .if3 .taken)) (c .before .before .write-each .ensures)
 
 parts-of-requires : tie.Need-parts-of-requires
 parts-of-requires c κs = search needs
@@ -70,14 +71,14 @@ sub-leftover : tie.Need-sub-leftover
 sub-leftover c =
     let s = c .before .before .before .before .before .before in
     let a = s .args in
-    omega (arith, c .parts-of .ensures, parts-le (a .amount) (a .total) (liveIn (a .word) (a .places)) (s .pre .0 .1 .total-is) (omega arith))
+    omega (arith, c .parts-of .ensures, parts-le (a .amount) (a .total) (liveIn (a .word) (a .b .places)) (s .pre .0 .1 .total-is) (omega arith))
 
 write-each-requires-2 : tie.Need-write-each-requires-2
 write-each-requires-2 c κs =
     let s = c .before .before .before .before .before .before .before in
     let a = s .args in (
       (s .pre .0 .0, omega (arith, s .pre .0 .0), λ e. omega arith),
-      rw (shares-parts (a .price) (a .amount) (a .total) _ (liveIn (a .word) (a .places)) (s .pre .0 .1 .total-is) (omega arith) (ap (λ (n : ℕ). a .amount - n) (c .before .parts-of .ensures))) at (s .pre .1),
+      rw (shares-parts (a .price) (a .amount) (a .total) _ (liveIn (a .word) (a .b .places)) (s .pre .0 .1 .total-is) (omega arith) (ap (λ (n : ℕ). a .amount - n) (c .before .parts-of .ensures))) at (s .pre .1),
     )
 
 same-length-3 : tie.Need-same-length-3
@@ -87,7 +88,7 @@ returns-4 : tie.Need-returns-4
 returns-4 c =
     let s = c .before .before .before .before .before .before .before .before .before .before in
     let a = s .args in
-    rw (shares-parts (a .price) (a .amount) (a .total) _ (liveIn (a .word) (a .places)) (s .pre .0 .1 .total-is) (omega arith) (ap (λ (n : ℕ). a .amount - n) (c .before .before .before .before .parts-of .ensures))) (c .before .before .write-each2 .ensures)
+    rw (shares-parts (a .price) (a .amount) (a .total) _ (liveIn (a .word) (a .b .places)) (s .pre .0 .1 .total-is) (omega arith) (ap (λ (n : ℕ). a .amount - n) (c .before .before .before .before .parts-of .ensures))) (c .before .before .write-each2 .ensures)
 
 pub write-shares-spec : {M : Type 1} → statement M
 write-shares-spec =

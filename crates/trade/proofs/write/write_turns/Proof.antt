@@ -4,17 +4,18 @@ use Prim.Native.Nat.{_^_, _<_, min}
 use native.Mathlib.Omega.{arith}
 use borrow.Author.Tests.{eqb-true}
 use lib.ListN.{length}
-use Rattle.board.specs.Board.{liveIn, inSequence}
-use Rattle.share.specs.Fills.{fillOf}
+use Rattle.board.specs.rules.Board.{liveIn, inSequence}
+use Rattle.share.specs.rules.Fills.{fillOf}
 use Rattle.share.proofs.FillsLaws.{left-start, left-done}
-use Rattle.trade.specs.Code.{eachFills}
+use Rattle.trade.specs.inside.Code.{eachFills}
 use Rattle.trade.proofs.WriteLaws.{each-none, turns-one}
 use borrow.Author.Needs.{needs}
+use Rattle.base.proofs.ListLaws.{length-mapped}
 use Rattle.trade.proofs.write.write_turns.Statement.{statement}
 use Rattle.trade.proofs.write.write_turns.Tie as tie
 
-len : (c : tie.Start) → length (c .args .places) ≡ 64
-len c = search needs
+len : (c : tie.Start) → length (c .args .b .places) ≡ 64
+len c = search (needs, length-mapped)
 
 word : (c : tie.Start) → c .args .word < 2 ^ 64
 word c = search needs
@@ -27,12 +28,12 @@ alone-requires c κs = search needs
 
 -- the fill of one alone
 fill : (c : tie.Then2)
-    → eachFills (c .before .before .before .before .args .price) true 0 0 (c .before .before .before .before .args .k) (inSequence (liveIn (c .before .before .before .before .args .word) (c .before .before .before .before .args .places)))
+    → eachFills (c .before .before .before .before .args .price) true 0 0 (c .before .before .before .before .args .k) (inSequence (liveIn (c .before .before .before .before .args .word) (c .before .before .before .before .args .b .places)))
     ≡ fillOf (c .before .before .before .before .args .one) (c .before .before .before .before .args .price) (min (c .before .before .before .before .args .k) (c .before .before .before .before .args .total))
 fill c =
     let s = c .before .before .before .before in
     let a = s .args in
-    turns-one (a .places) (a .word) (a .one) (a .total) (len s) (omega (arith, c .before .before .if1 .left)) (word s) (eqb-true _ 0 (sym (c .before .alone .ensures) ∙ c .if2 .taken)) (s .pre .0 .1) (a .price) (a .k)
+    turns-one (a .b .places) (a .word) (a .one) (a .total) (len s) (omega (arith, c .before .before .if1 .left)) (word s) (eqb-true _ 0 (sym (c .before .alone .ensures) ∙ c .if2 .taken)) (s .pre .0 .1) (a .price) (a .k)
 
 lesser-requires : tie.Need-lesser-requires
 lesser-requires c κs = search needs

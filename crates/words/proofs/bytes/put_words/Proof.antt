@@ -6,7 +6,7 @@ use native.Mathlib.Omega.{arith}
 use borrow.Author.Needs.{needs}
 use lib.ListN.{length, take, getD}
 use lib.Seq.{sets, take-all}
-use Rattle.words.specs.Bytes.{wordBytes, u32Bytes}
+use Rattle.words.specs.rules.Bytes.{wordBytes, u32Bytes}
 use Rattle.words.proofs.ByteLaws.{word-more}
 use Rattle.words.proofs.bytes.put_words.Statement.{statement}
 use Rattle.words.proofs.bytes.put_words.Tie as tie

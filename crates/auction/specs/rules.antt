@@ -1,0 +1,3 @@
+-- Acceptance and the range, as document 01 has them.
+pub mod Accept
+pub mod Range

@@ -1,0 +1,127 @@
+-- What the board's definitions mean, as statements. Each has its proof. Assumes nothing.
+use mathlib.Core.Path.{_≡_}
+use mathlib.Core.Bool.{Bool, true, false}
+use mathlib.Core.List.{List, [], _∷_, map}
+use Prim.Native.Nat.{ℕ, suc, _+_, _^_, _≤_, _<_}
+use lib.ListN.{length}
+use Rattle.words.specs.rules.Bits.{bitAt, withoutBit}
+use Rattle.base.specs.Lists.{filter, sum, Inserts, Shuffles}
+use Rattle.board.specs.rules.Board.{responseAt, emptyBoard, isLive, liveCount, firstFree, liveIn, liveOf, wordOf, seatedAt, placed, cleared, findGtx, inSequence, bears, firstInSequence}
+use Rattle.board.specs.declared.Response.{Response}
+use Rattle.board.specs.declared.Board.{Board}
+
+-- what every value of the type Board has: 64 places, and a word of 64 bits
+pub record Good (b : Board) : Type 0 where
+  pub places-are : length (b .places) ≡ 64
+  pub live-fits : b .live < 2 ^ 64
+
+-- ---- placing and clearing
+
+-- a response is seated at a free place
+pub record Seating (b : Board) (i : ℕ) (r : Response) : Type 0 where
+  -- the live responses are those before and r, at some place of the list
+  pub adds : Inserts r (liveOf b) (liveOf (seatedAt b i r))
+  pub count : liveCount (seatedAt b i r) ≡ suc (liveCount b)
+  pub sums : (f : Response → ℕ) → sum (map f (liveOf (seatedAt b i r))) ≡ f r + sum (map f (liveOf b))
+  -- r stands there now, and is live
+  pub stands : responseAt (seatedAt b i r .places) i ≡ r
+  pub live : isLive (seatedAt b i r) i ≡ true
+  -- every other place stays
+  pub others : (j : ℕ) → (j ≡ i → ⊥) → (responseAt (seatedAt b i r .places) j ≡ responseAt (b .places) j) × (isLive (seatedAt b i r) j ≡ isLive b j)
+
+-- a response is placed where a place is free
+pub record Placing (b : Board) (r : Response) : Type 0 where
+  -- the place was free, and it is the lowest
+  pub free : isLive b (firstFree b) ≡ false
+  pub lowest : (j : ℕ) → j < firstFree b → isLive b j ≡ true
+  -- r is seated there
+  pub seats : placed b r ≡ seatedAt b (firstFree b) r
+  pub adds : Inserts r (liveOf b) (liveOf (placed b r))
+
+-- a live place is cleared
+pub record Clearing (b : Board) (i : ℕ) : Type 0 where
+  -- the live responses are those before without the one at i
+  pub takes : Inserts (responseAt (b .places) i) (liveOf (cleared b i)) (liveOf b)
+  pub count : liveCount b ≡ suc (liveCount (cleared b i))
+  pub sums : (f : Response → ℕ) → sum (map f (liveOf b)) ≡ f (responseAt (b .places) i) + sum (map f (liveOf (cleared b i)))
+  -- the place is free
+  pub dead : isLive (cleared b i) i ≡ false
+  pub free : firstFree (cleared b i) ≤ i
+
+-- what seating, placing and clearing do, and when they do nothing
+pub record Changes : Type 0 where
+  pub seats : (b : Board) (i : ℕ) (r : Response) → Good b → i < 64 → isLive b i ≡ false → Seating b i r
+  pub places : (b : Board) (r : Response) → Good b → firstFree b < 64 → Placing b r
+  pub clears : (b : Board) (i : ℕ) → Good b → isLive b i ≡ true → Clearing b i
+  -- where there is no such place, where none is free, and where the place is not live, the board stays
+  pub past : (b : Board) (i : ℕ) (r : Response) → 64 ≤ i → seatedAt b i r ≡ b
+  pub full : (b : Board) (r : Response) → 64 ≤ firstFree b → placed b r ≡ b
+  pub dead : (b : Board) (i : ℕ) → isLive b i ≡ false → cleared b i ≡ b
+  -- clearing moves nothing else
+  pub others : (b : Board) (i j : ℕ) → (j ≡ i → ⊥) → isLive (cleared b i) j ≡ isLive b j
+  -- what is seated on a board, placed and cleared on it is a board
+  pub good-empty : Good emptyBoard
+  pub good-seated : (b : Board) (i : ℕ) (r : Response) → Good b → Good (seatedAt b i r)
+  pub good-placed : (b : Board) (r : Response) → Good b → Good (placed b r)
+  pub good-cleared : (b : Board) (i : ℕ) → Good b → Good (cleared b i)
+
+-- ---- what can be seen
+
+-- only what is live can be seen
+pub record Seen : Type 0 where
+  pub empty : liveOf emptyBoard ≡ []
+  -- the count is the number of live responses, and a place is free where it is below 64
+  pub count : (b : Board) → Good b → liveCount b ≡ length (liveOf b)
+  pub room : (b : Board) → liveCount b < 64 → firstFree b < 64
+  pub no-room : (b : Board) → firstFree b < 64 → liveCount b < 64
+  -- what is not live can't be seen
+  pub live : (b c : Board) → Good b → Good c → b .live ≡ c .live → ((j : ℕ) → isLive b j ≡ true → responseAt (b .places) j ≡ responseAt (c .places) j) → liveOf b ≡ liveOf c
+  pub find : (b c : Board) (s : ℕ) → Good b → Good c → b .live ≡ c .live → ((j : ℕ) → isLive b j ≡ true → responseAt (b .places) j ≡ responseAt (c .places) j) → findGtx b s ≡ findGtx c s
+
+-- ---- a GTX response is found by its sequence
+
+-- the place i is live, and a GTX response with this sequence stands there
+pub record GtxAt (b : Board) (s i : ℕ) : Type 0 where
+  pub live : isLive b i ≡ true
+  pub gtx : responseAt (b .places) i .gtx ≡ true
+  pub sequence : responseAt (b .places) i .sequence ≡ s
+
+-- finding a GTX response by its sequence
+pub record Finding : Type 0 where
+  -- found exactly where there is one, and the lowest
+  pub found : (b : Board) (s : ℕ) → Good b → findGtx b s < 64 → GtxAt b s (findGtx b s)
+  pub some : (b : Board) (s i : ℕ) → Good b → GtxAt b s i → findGtx b s ≤ i
+  pub none : (b : Board) (s : ℕ) → Good b → ((i : ℕ) → GtxAt b s i → ⊥) → findGtx b s ≡ 64
+
+-- ---- rising order of sequence
+
+-- sequences rise, from m on
+abbrev pub RisingFrom : ℕ → List Response → Type 0
+RisingFrom m [] = Unit {0}
+RisingFrom m (r ∷ rs) = (m ≤ r .sequence) × RisingFrom (r .sequence) rs
+
+-- of the places whose bit in w is set, k has the lowest sequence, and no lower place has the same
+pub record Earliest (ps : List Response) (w k : ℕ) : Type 0 where
+  pub set : bitAt w k ≡ true
+  pub least : (j : ℕ) → j < length ps → bitAt w j ≡ true → responseAt ps k .sequence ≤ responseAt ps j .sequence
+  pub lowest : (j : ℕ) → j < k → bitAt w j ≡ true → responseAt ps k .sequence < responseAt ps j .sequence
+
+-- the order in which responses of one price trade
+pub record Ordering : Type 0 where
+  -- the same responses, rising; those of one sequence in the order that they had
+  pub shuffles : (xs : List Response) → Shuffles xs (inSequence xs)
+  pub rises : (xs : List Response) → RisingFrom 0 (inSequence xs)
+  pub stable : (s : ℕ) (xs : List Response) → filter (bears s) (inSequence xs) ≡ filter (bears s) xs
+  pub length-stays : (xs : List Response) → length (inSequence xs) ≡ length xs
+  pub sums-stay : (f : Response → ℕ) (xs : List Response) → sum (map f (inSequence xs)) ≡ sum (map f xs)
+  -- any filter goes through
+  pub filters : (t : Response → Bool) (xs : List Response) → filter t (inSequence xs) ≡ inSequence (filter t xs)
+  -- the first place is the earliest, the only such place, and there is one where the word is not 0
+  pub earliest : (ps : List Response) (w : ℕ) → firstInSequence ps w < length ps → Earliest ps w (firstInSequence ps w)
+  pub only : (ps : List Response) (w k : ℕ) → k < length ps → Earliest ps w k → firstInSequence ps w ≡ k
+  pub some : (ps : List Response) (w : ℕ) → 0 < w → w < 2 ^ length ps → firstInSequence ps w < length ps
+  pub none : (ps : List Response) → firstInSequence ps 0 ≡ length ps
+  -- it comes first of the live ones in order, and the rest after it
+  pub takes : (ps : List Response) (w k : ℕ) → k ≡ firstInSequence ps w → k < length ps → inSequence (liveIn w ps) ≡ responseAt ps k ∷ inSequence (liveIn (withoutBit w k) ps)
+  -- the word of those that pass a test has those of the live ones that pass it
+  pub word : (t : Response → Bool) (w : ℕ) (ps : List Response) → liveIn (wordOf t w ps) ps ≡ filter t (liveIn w ps)

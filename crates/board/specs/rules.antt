@@ -1,0 +1,2 @@
+-- The board, as document 01 has it.
+pub mod Board

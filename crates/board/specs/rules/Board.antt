@@ -1,0 +1,110 @@
+-- The board: what its functions give, as definitions that compute. Assumes nothing.
+use Prim.Native.Nat.{ℕ, suc, _+_, _*_, _/_, _%_, min}
+use mathlib.Core.Bool.{Bool, false, cond, _&&_}
+use mathlib.Core.List.{List, [], _∷_}
+use lib.Dec.{leb, ltb, eqb}
+use lib.ListN.{getD, set, replicate}
+use Rattle.words.specs.rules.Bits.{bitAt, withBit, withoutBit, onesIn, clearIn}
+use Rattle.base.specs.Lists.{keep}
+use Rattle.board.specs.declared.Response.{Response}
+use Rattle.board.specs.declared.Board.{Board}
+
+-- what stands where no response was ever placed
+abbrev pub noResponse : Response
+noResponse = record { sequence = 0; size = 0; price = 0; customer = false; gtx = false }
+
+-- what stands at place i
+abbrev pub responseAt : List Response → ℕ → Response
+responseAt ps i = getD ps i noResponse
+
+-- the board that an auction starts with: no place is live
+unfoldable pub emptyBoard : Board
+emptyBoard = record { places = replicate 64 noResponse; live = 0 }
+
+-- ---- the live ones
+
+-- a place is live where its bit is set
+abbrev pub isLive : Board → ℕ → Bool
+isLive b i = bitAt (b .live) i
+
+-- how many places are live
+abbrev pub liveCount : Board → ℕ
+liveCount b = onesIn 64 (b .live)
+
+-- the lowest free place, and 64 where none is free
+abbrev pub firstFree : Board → ℕ
+firstFree b = clearIn 64 (b .live)
+
+-- the elements of a list whose bit in w is set: bit 0 is the first element's
+unfoldable pub liveIn : {A : Type 0} → ℕ → List A → List A
+liveIn w [] = []
+liveIn w (r ∷ rs) = keep (eqb (w % 2) 1) r (liveIn (w / 2) rs)
+
+-- the live responses, in the order of their places
+abbrev pub liveOf : Board → List Response
+liveOf b = liveIn (b .live) (b .places)
+
+-- the word of those whose bit in w is set and that pass the test
+unfoldable pub wordOf : {A : Type 0} → (A → Bool) → ℕ → List A → ℕ
+wordOf t w [] = 0
+wordOf t w (r ∷ rs) = cond (eqb (w % 2) 1 && t r) 1 0 + 2 * wordOf t (w / 2) rs
+
+-- ---- placing and clearing
+
+-- r at place i, live, and the board as it is where there is no such place
+unfoldable pub seatedAt : Board → ℕ → Response → Board
+seatedAt b i r = cond (ltb i 64) (record { places = set (b .places) i r; live = withBit (b .live) i }) b
+
+-- r at the lowest free place, and the board as it is where none is free
+unfoldable pub placed : Board → Response → Board
+unfolding seatedAt
+placed b r = seatedAt b (firstFree b) r
+
+-- place i is free, and what stands there stays
+abbrev pub cleared : Board → ℕ → Board
+cleared b i = record { places = b .places; live = withoutBit (b .live) i }
+
+-- ---- finding
+
+-- the place of the first of a list whose bit in w is set and that passes the test; the list's length where there is none
+unfoldable pub findIn : {A : Type 0} → (A → Bool) → ℕ → List A → ℕ
+findIn t w [] = 0
+findIn t w (r ∷ rs) = cond (eqb (w % 2) 1 && t r) 0 (suc (findIn t (w / 2) rs))
+
+-- a GTX response with this sequence, and no limit order
+abbrev pub isGtx : ℕ → Response → Bool
+isGtx s r = r .gtx && eqb (r .sequence) s
+
+-- the place of the live GTX response with this sequence, and 64 where there is none
+abbrev pub findGtx : Board → ℕ → ℕ
+findGtx b s = findIn (isGtx s) (b .live) (b .places)
+
+-- ---- rising order of sequence
+
+-- r in front of the first that has no lower sequence
+unfoldable pub inserted : Response → List Response → List Response
+inserted r [] = r ∷ []
+inserted r (x ∷ xs) = cond (leb (r .sequence) (x .sequence)) (r ∷ x ∷ xs) (x ∷ inserted r xs)
+
+-- a list in rising order of sequence; equal ones stay in their order
+unfoldable pub inSequence : List Response → List Response
+inSequence [] = []
+inSequence (r ∷ rs) = inserted r (inSequence rs)
+
+-- the lower of m and the lowest sequence of a list
+unfoldable pub lowestFrom : ℕ → List Response → ℕ
+lowestFrom m [] = m
+lowestFrom m (r ∷ rs) = lowestFrom (min m (r .sequence)) rs
+
+-- the lowest sequence of a list
+abbrev pub lowest : List Response → ℕ
+lowest [] = 0
+lowest (r ∷ rs) = lowestFrom (r .sequence) rs
+
+-- a response with this sequence
+abbrev pub bears : ℕ → Response → Bool
+bears s r = eqb (r .sequence) s
+
+-- the first place that bears the lowest sequence of those whose bit in w is set; the list's length where w is 0
+abbrev pub firstInSequence : List Response → ℕ → ℕ
+firstInSequence ps w = findIn (bears (lowest (liveIn w ps))) w ps

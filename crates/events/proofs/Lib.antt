@@ -1,0 +1,2 @@
+-- Laws and theorems of `events`.
+pub mod Settled

@@ -1,0 +1,2 @@
+-- The theorem of `fills`.
+pub mod Settled

@@ -1,0 +1,2 @@
+-- What the contracts of `fills` cite.
+pub mod rules

@@ -1,0 +1,2 @@
+-- The fills, as document 01 has them.
+pub mod Fills

@@ -1,0 +1,2 @@
+-- What is promised of the listing.
+pub mod Demands

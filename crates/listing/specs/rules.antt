@@ -1,0 +1,3 @@
+-- The listing, as document 01 has it.
+pub mod Text
+pub mod Listing

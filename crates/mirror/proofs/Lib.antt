@@ -1,0 +1,5 @@
+-- Laws and theorems of `mirror`.
+pub mod MarkLaws
+pub mod EventLaws
+pub mod MirrorForm
+pub mod Settled

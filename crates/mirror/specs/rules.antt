@@ -1,0 +1,2 @@
+-- The mirror, as document 01 has it.
+pub mod Mirror

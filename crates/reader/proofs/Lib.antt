@@ -1,0 +1,3 @@
+-- Laws and theorems of `reader`.
+pub mod ReaderLaws
+pub mod Settled

@@ -1,0 +1,3 @@
+-- What the contracts of `reader` cite, and what is promised of reading on.
+pub mod rules
+pub mod promises

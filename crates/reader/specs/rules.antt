@@ -1,0 +1,2 @@
+-- The reader of a tape.
+pub mod Reader

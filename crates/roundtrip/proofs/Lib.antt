@@ -1,0 +1,3 @@
+-- Theorems about the records of a tape.
+pub mod RoundTrip
+pub mod TapeBack

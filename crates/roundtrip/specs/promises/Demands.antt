@@ -1,0 +1,67 @@
+-- What is promised of the records of a tape, beyond each function's own contract.
+use mathlib.Core.Path.{_≡_}
+use mathlib.Core.Bool.{true}
+use mathlib.Core.List.{List, [], _∷_, _++_}
+use Prim.Native.Nat.{ℕ, _+_, _≤_, _<_, _^_}
+use lib.ListN.{length, take, drop}
+use Rattle.words.specs.rules.Bytes.{AllBytes}
+use Rattle.tape.specs.rules.Form.{orderFormed, eventFormed}
+use Rattle.tape.specs.rules.Records.{readOrder, orderAnswer, orderWrote, readEvent, eventAnswer, eventWrote, readTrailer, trailerAnswer, trailerWrote}
+use Rattle.tape.specs.rules.Tape.{lengthOf, openTape, orderIn, recordsOf, tapeOf, wroteTape, trailerFor}
+use Rattle.tape.specs.promises.Holds.{Holds, Recorded}
+use Rattle.tape.specs.declared.order.Order.{Order}
+use Rattle.tape.specs.declared.event.Event.{Event}
+use Rattle.tape.specs.declared.trailer.Trailer.{Trailer}
+use Rattle.tape.specs.declared.order.ReadOrder.the-variants.{Order as GotOrder}
+use Rattle.tape.specs.declared.event.ReadEvent.the-variants.{Event as GotEvent}
+use Rattle.tape.specs.declared.trailer.ReadTrailer.the-variants.{Trailer as GotTrailer}
+use Rattle.tape.specs.declared.Written.the-variants.{Refused}
+use Rattle.tape.specs.declared.trailer.Opened.the-variants.{Tape}
+
+-- a word of 32 bits
+abbrev pub Word : ℕ → Type 0
+Word w = w < 2 ^ 32
+
+-- reading what was written gives the same value
+pub record ValuesBack : Type 0 where
+  pub order : (o : Order) (out : List ℕ) → orderFormed o ≡ true → 64 ≤ length out → readOrder (orderWrote o out) ≡ GotOrder o
+  pub event : (e : Event) (out : List ℕ) → Word (e .sequence) → eventFormed e ≡ true → 32 ≤ length out → readEvent (eventWrote e out) ≡ GotEvent e
+  pub trailer : (t : Trailer) (out : List ℕ) → Word (t .order) → Word (t .events) → 16 ≤ length out → readTrailer (trailerWrote t out) ≡ GotTrailer t
+
+-- writing what was read gives the same bytes, wherever there is room for them, and changes no byte past them
+pub record BytesBack : Type 0 where
+  pub order : (s out : List ℕ) (o : Order) → AllBytes s → readOrder s ≡ GotOrder o → 64 ≤ length out → orderWrote o out ≡ take 64 s ++ drop 64 out
+  pub event : (s out : List ℕ) (e : Event) → AllBytes s → readEvent s ≡ GotEvent e → 32 ≤ length out → eventWrote e out ≡ take 32 s ++ drop 32 out
+  pub trailer : (s out : List ℕ) (t : Trailer) → AllBytes s → readTrailer s ≡ GotTrailer t → 16 ≤ length out → trailerWrote t out ≡ take 16 s ++ drop 16 out
+
+-- a refusal changes no byte
+pub record RefusalsKeep : Type 0 where
+  pub order : (o : Order) (out : List ℕ) (n : ℕ) → orderAnswer o out ≡ Refused n → orderWrote o out ≡ out
+  pub event : (e : Event) (out : List ℕ) (n : ℕ) → eventAnswer e out ≡ Refused n → eventWrote e out ≡ out
+  pub trailer : (t : Trailer) (out : List ℕ) (n : ℕ) → trailerAnswer t out ≡ Refused n → trailerWrote t out ≡ out
+
+-- every event is in form and its sequence is a word
+pub data AllFormed : List Event → Type 0 where
+  none : AllFormed []
+  more : {e : Event} {es : List Event} → Word (e .sequence) → eventFormed e ≡ true → AllFormed es → AllFormed (e ∷ es)
+
+-- an order and events in form, with the recorder's own bytes, that fit a tape
+pub record Tapeable (own : List ℕ) (o : Order) (es : List Event) : Type 0 where
+  pub order : orderFormed o ≡ true
+  pub events : AllFormed es
+  pub fits : lengthOf (trailerFor own es) ≤ 65536
+
+-- a tape that the writers put together is that tape, opens, and gives back its order and its events
+pub record TapeBack (own : List ℕ) (o : Order) (es : List Event) : Type 0 where
+  pub written : (room : List ℕ) → length own + length room ≡ lengthOf (trailerFor own es) → wroteTape own o es room ≡ tapeOf own o es
+  pub opens : openTape (tapeOf own o es) ≡ Tape (trailerFor own es)
+  pub order : orderIn (tapeOf own o es) (trailerFor own es) ≡ GotOrder o
+  pub records : recordsOf (tapeOf own o es) (trailerFor own es) ≡ es
+
+pub record Demands : Type 0 where
+  pub values-back : ValuesBack
+  pub bytes-back : BytesBack
+  pub refusals-keep : RefusalsKeep
+  pub tape-back : (own : List ℕ) (o : Order) (es : List Event) → Tapeable own o es → TapeBack own o es
+  pub holds : (s : List ℕ) (t : Trailer) → openTape s ≡ Tape t → Holds s t
+  pub recorded : (s : List ℕ) → Recorded s

@@ -1,0 +1,61 @@
+-- What seating and clearing keep of the live responses, and what an event sees of a board. Assumes nothing.
+use mathlib.Core.Path.{_≡_, refl, sym, subst}
+use mathlib.Core.Bool.{Bool, true, false, cond}
+use mathlib.Core.List.{List, [], _∷_}
+use mathlib.Core.Logic.{_≢_}
+use Prim.Native.Nat.{ℕ, _≤_, _<_}
+use native.Mathlib.Omega.{arith}
+use Rattle.base.specs.Lists.{Every, Inserts}
+use Rattle.base.specs.Lists.Inserts.{here, there}
+use Rattle.base.proofs.ListLaws.{inserts-every, every-inserts}
+use Rattle.base.proofs.Bools.{by}
+use Rattle.board.specs.rules.Board.{responseAt, isLive, firstFree, liveOf, seatedAt, cleared, findGtx}
+use Rattle.board.specs.promises.Board.{Good, GtxAt}
+use Rattle.board.specs.declared.Board.{Board}
+use Rattle.board.specs.declared.Response.{Response}
+use Rattle.board.proofs.BoardLaws.{seating, clearing, cleared-dead, find-gtx}
+use Rattle.words.proofs.BitLaws.{clear-is}
+use Rattle.tape.specs.declared.event.Event.{Event}
+use Rattle.demand.specs.promises.Demands.{Absent, Distinct}
+use Rattle.events.specs.rules.Step.{nameOf, isCancel, sightOf}
+use Rattle.run.specs.promises.Demands.{Fits}
+
+-- what an event sees of a board fits it
+pub sees : (b : Board) (e : Event) → Good b → Fits b (sightOf b e)
+unfolding sightOf
+sees b e g =
+    record {
+      free = λ h. clear-is 64 (b .live) h;
+      found = by (λ (i : ℕ). i < 64 → isLive b i ≡ true) (isCancel e) (findGtx b (nameOf e)) 64 (λ _ h. find-gtx b (nameOf e) g h .live) (λ _ h. absurd (omega arith));
+      old = refl;
+    }
+
+module _ (b : Board) (g : Good b) where
+  pub seat-every : (P : Response → Type 0) (i : ℕ) (r : Response) → i < 64 → isLive b i ≡ false → P r → Every P (liveOf b) → Every P (liveOf (seatedAt b i r))
+  seat-every P i r l z p h = inserts-every P (seating b i r g l z .adds) p h
+
+  pub clear-every : (P : Response → Type 0) (i : ℕ) → Every P (liveOf b) → Every P (liveOf (cleared b i))
+  clear-every P i h = go (isLive b i) refl
+    where
+      go : (l : Bool) → isLive b i ≡ l → Every P (liveOf (cleared b i))
+      go true z = every-inserts P (clearing b i g z .takes) h .1
+      go false z = subst (λ (c : Board). Every P (liveOf c)) (sym (cleared-dead b i z)) h
+
+distinct-more : {r : Response} {xs ys : List Response} → Inserts r xs ys → Absent (r .sequence) xs → Distinct xs → Distinct ys
+distinct-more here a d = (a, d)
+distinct-more {r} (there {x} i) a d = (inserts-every (λ y. y .sequence ≢ x .sequence) i (λ z. a .0 (sym z)) (d .0), distinct-more i (a .1) (d .1))
+
+distinct-less : {r : Response} {xs ys : List Response} → Inserts r xs ys → Distinct ys → Distinct xs
+distinct-less here d = d .1
+distinct-less (there {x} i) d = (every-inserts (λ y. y .sequence ≢ x .sequence) i (d .0) .1, distinct-less i (d .1))
+
+module _ (b : Board) (g : Good b) where
+  pub seat-distinct : (i : ℕ) (r : Response) → i < 64 → isLive b i ≡ false → Absent (r .sequence) (liveOf b) → Distinct (liveOf b) → Distinct (liveOf (seatedAt b i r))
+  seat-distinct i r l z a d = distinct-more (seating b i r g l z .adds) a d
+
+  pub clear-distinct : (i : ℕ) → Distinct (liveOf b) → Distinct (liveOf (cleared b i))
+  clear-distinct i d = go (isLive b i) refl
+    where
+      go : (l : Bool) → isLive b i ≡ l → Distinct (liveOf (cleared b i))
+      go true z = distinct-less (clearing b i g z .takes) d
+      go false z = subst (λ (c : Board). Distinct (liveOf c)) (sym (cleared-dead b i z)) d

@@ -1,0 +1,10 @@
+-- The theorems about every order and list of events.
+pub mod StepLaws
+pub mod Resend
+pub mod BoardSteps
+pub mod Accepted
+pub mod SoundLaws
+pub mod ComesFrom
+pub mod Mirrors
+pub mod LentLaws
+pub mod Figures

@@ -1,0 +1,212 @@
+-- A refusal changes nothing; an event that was taken, met again, is refused. Assumes nothing.
+use mathlib.Core.Path.{_≡_, refl, sym, ap, subst, _∙_}
+use mathlib.Core.Bool.{Bool, true, false, cond, not, _&&_, _||_}
+use mathlib.Core.List.{List, [], _∷_}
+use mathlib.Core.Logic.{_⊎_, inl, inr, ⊎-elim}
+use Prim.Native.Nat.{ℕ, _+_, _≤_, _<_}
+use native.Mathlib.Nat.{le-refl, le-trans, le-of-lt}
+use native.Mathlib.Omega.{arith}
+use lib.Dec.{leb, ltb, eqb}
+use borrow.Author.Tests.{le-leb, eqb-false}
+use Rattle.words.specs.rules.Bits.{bitAt}
+use Rattle.base.specs.Lists.{In, Every, keep}
+use Rattle.tape.specs.declared.event.Event.{Event}
+use Rattle.tape.specs.declared.order.Order.{Order}
+use Rattle.tape.specs.rules.Form.{orderFormed, eventFormed}
+use Rattle.base.proofs.Bools.{by, no}
+use Rattle.base.proofs.ListLaws.{every-in, every-map}
+use Rattle.mirror.specs.rules.Mirror.{buyOrder, buyEvent}
+use Rattle.auction.specs.rules.Accept.{initiatingOf, firstBound, guaranteedOf, rangeRefusal, buyRefusal, orderRefusal, acceptOf}
+use Rattle.auction.specs.rules.Range.{isOpen}
+use Rattle.events.specs.rules.Step.{sightOf, eventRefusal, headAfter, endedByTime, turnOf, closeTurn, gives, seatedOn, stepBy, stepOf, closeOf}
+use Rattle.run.specs.rules.Run.{run, isTaken, takenOf}
+use Rattle.run.specs.promises.Demands.{RefusedAgain, Keeps}
+use Rattle.auction.specs.declared.Auction.{Auction}
+use Rattle.auction.specs.declared.Terms.{Terms}
+use Rattle.auction.specs.declared.Quotes.{Quotes}
+use Rattle.auction.specs.declared.Ending.{Ending}
+use Rattle.events.specs.declared.Answer.{Answer}
+use Rattle.events.specs.declared.Answer.the-variants.{Taken, Ended, Late, Refused}
+use Rattle.events.specs.declared.Stepped.{Stepped}
+use Rattle.events.specs.declared.Sight.{Sight}
+use Rattle.events.specs.declared.Turn.{Turn}
+use Rattle.auction.specs.declared.Opening.{Opening}
+use Rattle.auction.specs.declared.Entry.the-variants.{Refused as NotAccepted}
+use Rattle.events.specs.declared.Change.{Change}
+use Rattle.events.specs.declared.Change.the-variants.{Nothing, Seat, Free, Quote, Sell}
+use Rattle.events.specs.declared.Outcome.{Outcome}
+use Rattle.events.specs.declared.Outcome.the-variants.{Refuses, Does}
+use Rattle.run.proofs.StepLaws.{EventNumber, Outcomes, Ordinary, Cases, cases}
+
+-- where only refusing or not matters: any change, any ending
+pub any-change : (t : Terms) (q : Quotes) (s : Sight) (m : Event) (P : Outcome → Type 0) → ((n : ℕ) → EventNumber n → P (Refuses n)) → ((c : Change) (g : Ending) → P (Does c g)) → Outcomes t q s m P
+any-change t q s m P r d =
+    record {
+      refuses = r;
+      nothing = λ g. d Nothing g;
+      gtx = λ _ _ _. d (Seat _ _) _;
+      limit = λ g _ _ _. d (Seat _ _) g;
+      clear = λ _ _. d (Free _) _;
+      quote = λ n _. d (Quote n) _;
+      sell = d (Sell _) _;
+    }
+
+-- an event that was taken or ended the auction was not refused
+not-refused : {X : Type 0} (b : Bool) (n : ℕ) → cond b Taken Ended ≡ Refused n → X
+not-refused true n z = no cc
+not-refused false n z = no cc
+
+pub taken-any : (b : Bool) → isTaken (cond b Taken Ended) ≡ true
+taken-any true = refl
+taken-any false = refl
+
+module _ (s : Sight) (a : Auction) (e : Event) where
+  -- P of the step, by cases of the turn
+  abbrev by-cases : (P : Stepped → Type 0) → Cases (a .head) e s (λ t. P (seatedOn (a .board) t)) → P (stepBy s a e)
+  by-cases P k = cases (a .head) e s (λ t. P (seatedOn (a .board) t)) k
+
+  refused-stays : (n : ℕ) → stepBy s a e .answer ≡ Refused n → stepBy s a e .auction ≡ a
+  refused-stays n =
+      by-cases (λ p. p .answer ≡ Refused n → p .auction ≡ a)
+      (record {
+        refused = λ k _ z. refl;
+        late = λ o z. no cc;
+        does = λ o. any-change _ _ _ _ _ (λ k _ z. refl) (λ c g z. not-refused (isOpen g) n z);
+      })
+
+  pub rises : a .head .sequence ≤ stepBy s a e .auction .head .sequence
+  unfolding headAfter endedByTime
+  rises =
+      by-cases (λ p. a .head .sequence ≤ p .auction .head .sequence)
+      (record {
+        refused = λ k _. le-refl _;
+        late = λ o. le-refl _;
+        does = λ o. any-change _ _ _ _ _ (λ k _. le-refl _) (λ c g. le-of-lt (o .newer));
+      })
+
+  ended-refuses : isOpen (a .head .ending) ≡ false → stepBy s a e ≡ gives (Refused 31) a
+  unfolding turnOf eventRefusal
+  ended-refuses z = simp z
+
+  -- what is known of an event that was taken
+  pub taken-is : isTaken (stepBy s a e .answer) ≡ true → (eventFormed e ≡ true) × (a .head .sequence < e .sequence) × (stepBy s a e .auction .head .sequence ≡ e .sequence)
+  unfolding headAfter
+  taken-is =
+      by-cases (λ p. isTaken (p .answer) ≡ true → (eventFormed e ≡ true) × (a .head .sequence < e .sequence) × (p .auction .head .sequence ≡ e .sequence))
+      (record {
+        refused = λ k _ z. no (sym z);
+        late = λ o z. no (sym z);
+        does = λ o. any-change _ _ _ _ _ (λ k _ z. no (sym z)) (λ c g z. (o .formed, o .newer, refl));
+      })
+
+  -- an event in form whose sequence is not above the highest taken is refused
+  old-refused : eventFormed e ≡ true → e .sequence ≤ a .head .sequence → stepBy s a e ≡ gives (Refused (cond (isOpen (a .head .ending)) 33 31)) a
+  unfolding turnOf eventRefusal
+  old-refused f h = go (isOpen (a .head .ending)) refl
+    where
+      go : (b : Bool) → isOpen (a .head .ending) ≡ b → stepBy s a e ≡ gives (Refused (cond (isOpen (a .head .ending)) 33 31)) a
+      go true z = simp (z, f, le-leb _ _ h)
+      go false z = simp z
+
+  -- only 31 to 38 refuse an event
+  event-numbers : (n : ℕ) → stepBy s a e .answer ≡ Refused n → (31 ≤ n) × (n ≤ 38)
+  event-numbers n =
+      by-cases (λ p. p .answer ≡ Refused n → (31 ≤ n) × (n ≤ 38))
+      (record {
+        refused = λ k h z. same k h z;
+        late = λ o z. no cc;
+        does = λ o. any-change _ _ _ _ _ (λ k h z. same k h z) (λ c g z. not-refused (isOpen g) n z);
+      })
+    where
+      same : (k : ℕ) → EventNumber k → Refused k ≡ Refused n → (31 ≤ n) × (n ≤ 38)
+      same k h z = let q : k ≡ n = cc in (omega (arith, h .0), omega (arith, h .1))
+
+-- what the auction itself sees
+abbrev seen : Auction → Event → Sight
+seen a e = sightOf (a .board) e
+
+pub run-rises : (es : List Event) (a : Auction) → a .head .sequence ≤ run a es .head .sequence
+run-rises [] a = le-refl _
+run-rises (e ∷ es) a = le-trans (rises (seen a e) a e) (run-rises es (stepOf a e .auction))
+
+pub older : (a : Auction) (e f : Event) (es : List Event) → isTaken (stepOf a e .answer) ≡ true → eventFormed f ≡ true → f .sequence ≤ e .sequence → RefusedAgain (run (stepOf a e .auction) es) f
+older a e f es z formed h =
+    let k = taken-is (seen a e) a e z in
+    let b : Auction = run (stepOf a e .auction) es in
+    let n : stepOf a e .auction .head .sequence ≤ b .head .sequence = run-rises es (stepOf a e .auction) in
+    old-refused (seen b f) b f formed (omega (arith, k .2))
+
+pub again : (a : Auction) (e : Event) (es : List Event) → isTaken (stepOf a e .answer) ≡ true → RefusedAgain (run (stepOf a e .auction) es) e
+again a e es z = older a e e es z (taken-is (seen a e) a e z .0) (le-refl _)
+
+closed-stays : (a : Auction) (n : ℕ) → closeOf a .answer ≡ Refused n → closeOf a .auction ≡ a
+unfolding closeTurn
+closed-stays a n = by (λ (t : Turn). t .answer ≡ Refused n → seatedOn (a .board) t .auction ≡ a) (isOpen (a .head .ending)) _ _ (λ _ z. no cc) (λ _ z. refl)
+
+ended-stays : (a : Auction) → isOpen (a .head .ending) ≡ false → closeOf a ≡ gives (Refused 31) a
+unfolding closeTurn
+ended-stays a z = simp z
+
+-- ---- orders
+
+range-most : (b : Order) → rangeRefusal b ≤ 12
+unfolding rangeRefusal
+range-most b =
+    let P : ℕ → Type 0 = λ n. n ≤ 12 in
+    by P (ltb (b .limit) (firstBound b)) _ _ (λ _. omega arith) (λ _.
+    by P (ltb (initiatingOf b) (b .stop)) _ _ (λ _. omega arith) (λ _.
+    by P (ltb (b .size) 50 && eqb (b .nbo) (b .nbb + 1) && not (eqb (b .nbo) (guaranteedOf b + 1))) _ _ (λ _. omega arith) (λ _. omega arith)))
+
+buy-most : (b : Order) → buyRefusal b ≤ 12
+unfolding buyRefusal
+buy-most b =
+    let P : ℕ → Type 0 = λ n. n ≤ 12 in
+    by P (ltb (b .nbb) (b .bb) || ltb (b .bo) (b .nbo)) _ _ (λ _. omega arith) (λ _.
+    by P (eqb (b .size) 0) _ _ (λ _. omega arith) (λ _.
+    by P (ltb (b .time) (b .opens)) _ _ (λ _. omega arith) (λ _.
+    by P (leb (b .closes) (b .time + 1000)) _ _ (λ _. omega arith) (λ _.
+    by P (bitAt (b .marks) 0) _ _ (λ _. omega arith) (λ _.
+    by P (bitAt (b .marks) 1) _ _ (λ _. omega arith) (λ _.
+    by P (leb (b .nbo) (b .nbb)) _ _ (λ _. omega arith) (λ _.
+    by P (ltb (b .size) 50 && eqb (b .bo) (b .bb + 1)) _ _ (λ _. omega arith) (λ _. range-most b))))))))
+
+order-most : (o : Order) → orderRefusal o ≤ 12
+unfolding orderRefusal
+order-most o = by (λ (n : ℕ). n ≤ 12) (not (orderFormed o)) _ _ (λ _. omega arith) (λ _. buy-most (buyOrder o))
+
+order-numbers : (o : Order) (n : ℕ) → acceptOf o .answer ≡ NotAccepted n → (1 ≤ n) × (n ≤ 12)
+unfolding acceptOf
+order-numbers o n =
+    by (λ (p : Opening). p .answer ≡ NotAccepted n → (1 ≤ n) × (n ≤ 12)) (eqb (orderRefusal o) 0) _ _
+    (λ _ z. no cc)
+    (λ h z. let q : orderRefusal o ≡ n = cc in let s : orderRefusal o ≡ 0 → ⊥ = eqb-false _ _ h in (omega (arith, s), omega (arith, order-most o)))
+
+pub keeps : Keeps
+keeps = record { refused = refused-stays; not-closed = closed-stays; order-numbers = order-numbers; event-numbers = event-numbers; rises = rises; ended = ended-refuses; ended-close = ended-stays }
+
+-- ---- the sequences of the events taken rise, so no two are the same
+
+above : (es : List Event) (a : Auction) → Every (λ e. a .head .sequence < e .sequence) (takenOf a es)
+above [] a = tt
+above (e ∷ es) a =
+    go (isTaken (stepOf a e .answer)) refl
+    (every-map (λ f. stepOf a e .auction .head .sequence < f .sequence) (λ f. a .head .sequence < f .sequence) (takenOf (stepOf a e .auction) es) (λ f h. omega (arith, rises (seen a e) a e)) (above es (stepOf a e .auction)))
+  where
+    go : (b : Bool) → isTaken (stepOf a e .answer) ≡ b → Every (λ f. a .head .sequence < f .sequence) (takenOf (stepOf a e .auction) es) → Every (λ f. a .head .sequence < f .sequence) (keep b e (takenOf (stepOf a e .auction) es))
+    go true z rest = (taken-is (seen a e) a e z .1, rest)
+    go false z rest = rest
+
+pub one : (a : Auction) (es : List Event) (e f : Event) → In e (takenOf a es) → In f (takenOf a es) → e .sequence ≡ f .sequence → e ≡ f
+one a [] e f i j h = absurd i
+one a (x ∷ es) e f i j h = go (isTaken (stepOf a x .answer)) refl i j (λ i j. one (stepOf a x .auction) es e f i j h)
+  where
+    later : (g : Event) → isTaken (stepOf a x .answer) ≡ true → In g (takenOf (stepOf a x .auction) es) → x .sequence < g .sequence
+    later g z k = omega (arith, every-in (λ f. stepOf a x .auction .head .sequence < f .sequence) (takenOf (stepOf a x .auction) es) g (above es (stepOf a x .auction)) k, taken-is (seen a x) a x z .2)
+
+    go : (b : Bool) → isTaken (stepOf a x .answer) ≡ b → In e (keep b x (takenOf (stepOf a x .auction) es)) → In f (keep b x (takenOf (stepOf a x .auction) es))
+        → (In e (takenOf (stepOf a x .auction) es) → In f (takenOf (stepOf a x .auction) es) → e ≡ f) → e ≡ f
+    go false z i j ih = ih i j
+    go true z (inl p) (inl q) ih = p ∙ sym q
+    go true z (inl p) (inr j) ih = absurd (omega (arith, later f z j, ap (λ (k : Event). k .sequence) p))
+    go true z (inr i) (inl q) ih = absurd (omega (arith, later e z i, ap (λ (k : Event). k .sequence) q))
+    go true z (inr i) (inr j) ih = ih i j

@@ -1,0 +1,269 @@
+-- What every auction that was opened has, every step and closing keep; so demand 3 holds of every one that has ended. Assumes nothing.
+use mathlib.Core.Path.{_≡_, refl, sym, ap, subst, _∙_}
+use mathlib.Core.Bool.{Bool, true, false, cond, not}
+use mathlib.Core.List.{List, [], _∷_}
+use mathlib.Core.Logic.{_≢_}
+use Prim.Native.Nat.{ℕ, _+_, _-_, _≤_, _<_, min, max}
+use native.Mathlib.Nat.{le-refl, le-of-lt}
+use native.Mathlib.Omega.{arith}
+use lib.Dec.{leb, ltb, eqb}
+use borrow.Author.Tests.{eqb-true}
+use Rattle.base.specs.Lists.{Every}
+use Rattle.base.proofs.Bools.{by, no}
+use Rattle.base.proofs.ListLaws.{every-map}
+use Rattle.board.specs.rules.Board.{emptyBoard, liveOf, seatedAt, cleared}
+use Rattle.board.specs.promises.Board.{Good}
+use Rattle.board.specs.declared.Board.{Board}
+use Rattle.board.specs.declared.Response.{Response}
+use Rattle.board.proofs.BoardLaws.{empty-good, empty-live, seated-good, cleared-good}
+use Rattle.share.specs.rules.Fills.{Fill}
+use Rattle.tape.specs.declared.event.Event.{Event}
+use Rattle.tape.specs.declared.order.Order.{Order}
+use Rattle.tape.specs.rules.Form.{eventFormed, shapeOf, shapeTests, orderFormed}
+use Rattle.tape.proofs.FormLaws.{each, within-ge, order-bounds}
+use Rattle.trade.specs.declared.Deal.{Deal}
+use Rattle.trade.specs.rules.Trade.{offers, fills, traded}
+use Rattle.trade.specs.rules.Write.{reportedPrice, reported, fillsOf}
+use Rattle.demand.specs.promises.Demands.{Absent, Distinct, InRange, Demand3, Tradable as SoundDeal}
+use Rattle.demand.proofs.Theorems.{demand3}
+use Rattle.demand.proofs.Theorems.{plans}
+use Rattle.base.specs.Price.{mirrored}
+use Rattle.mirror.specs.rules.Mirror.{mirroredOrder, buyOrder, buyEvent}
+use Rattle.auction.specs.rules.Accept.{initiatingOf, boundOf, firstBound, termsOf, quotesOf, openedBy, acceptOf}
+use Rattle.auction.specs.rules.Range.{isOpen, boundBy}
+use Rattle.events.specs.rules.Step.{sizeOf, sightOf, responseOf, boardAfter, quotesAfter, marketAfter, headAfter, endedByTime, carried, closeTurn, seatedOn, stepBy, stepOf, closeOf}
+use Rattle.auction.specs.rules.Range.{word, boundNow, rangeOf}
+use Rattle.fills.specs.rules.Fills.{dealOf, auctionFills}
+use Rattle.run.specs.rules.Run.{run, played}
+use Rattle.run.specs.promises.Demands.{Fits, Stands, Sound, Within, Trades, Demanded}
+use Rattle.auction.specs.declared.Auction.{Auction}
+use Rattle.auction.specs.declared.Range.{Range}
+use Rattle.auction.specs.declared.Ending.{Ending}
+use Rattle.auction.specs.declared.Ending.the-variants.{Open, Opposite}
+use Rattle.events.specs.declared.Change.{Change}
+use Rattle.events.specs.declared.Change.the-variants.{Nothing, Seat, Free, Quote, Sell}
+use Rattle.events.specs.declared.Stepped.{Stepped}
+use Rattle.events.specs.declared.Sight.{Sight}
+use Rattle.events.specs.declared.Turn.{Turn}
+use Rattle.auction.specs.declared.Entry.the-variants.{Accepted}
+use Rattle.run.proofs.StepLaws.{Outcomes, Ordinary, Cases, cases}
+use Rattle.mirror.proofs.EventLaws.{buy-sequence, buy-kind, mirror-one, mirror-three, priced-size}
+use Rattle.run.proofs.BoardSteps.{sees, seat-every, clear-every, seat-distinct, clear-distinct}
+use Rattle.run.proofs.Accepted.{Passed, bound-fits, Opened, opened, price-fits}
+use Rattle.run.proofs.Resend.{keeps}
+
+-- ---- at the opening
+
+opened-sound : (s : Bool) (b : Order) → Passed b → initiatingOf b ≤ 999999 → (1 ≤ b .mode) × (b .mode ≤ 3) → Sound (openedBy s b)
+unfolding openedBy termsOf quotesOf
+opened-sound s b p q m =
+    record {
+      bound-below = bound-fits b p;
+      stop-below = p .stop;
+      price = q;
+      size = p .size;
+      mode = m;
+      board = empty-good;
+      live = subst (Every _) (sym empty-live) tt;
+      distinct = subst Distinct (sym empty-live) tt;
+      no-market = λ _. refl;
+      market-apart = λ z. absurd (omega arith);
+    }
+
+-- the mode of an accepted order is one of the three
+mode-fits : (o : Order) → orderFormed o ≡ true → (1 ≤ buyOrder o .mode) × (buyOrder o .mode ≤ 3)
+unfolding buyOrder mirroredOrder
+mode-fits o f =
+    let m : (1 ≤ o .mode) × (o .mode ≤ 3) = (order-bounds o f .some-mode, order-bounds o f .mode) in
+    by (λ (b : Order). (1 ≤ b .mode) × (b .mode ≤ 3)) (eqb (o .side) 2) _ _ (λ _. m) (λ _. m)
+
+pub sound-opened : (o : Order) → acceptOf o .answer ≡ Accepted → Sound (acceptOf o .auction)
+sound-opened o h = let k = opened o h in subst Sound (sym (k .auction)) (opened-sound (eqb (o .side) 2) (buyOrder o) (k .passes) (price-fits o (k .formed)) (mode-fits o (k .formed)))
+
+-- ---- a step
+
+-- the size of a GTX response or a limit order in form
+size-some : (e : Event) → eventFormed e ≡ true → shapeOf (e .kind) .f12 .low ≤ sizeOf e
+unfolding eventFormed shapeTests
+size-some e h = within-ge (sizeOf e) (shapeOf (e .kind) .f12 .low) (shapeOf (e .kind) .f12 .high) (each (shapeTests (shapeOf (e .kind)) e) true h 4)
+
+size-one : (e : Event) → e .kind ≡ 1 → eventFormed e ≡ true → 1 ≤ sizeOf e
+unfolding shapeOf
+size-one e k h = let z : shapeOf (e .kind) .f12 .low ≡ 1 = ap (λ (n : ℕ). shapeOf n .f12 .low) k in omega (arith, size-some e h, z)
+
+size-three : (e : Event) → e .kind ≡ 3 → eventFormed e ≡ true → 1 ≤ sizeOf e
+unfolding shapeOf
+size-three e k h = let z : shapeOf (e .kind) .f12 .low ≡ 1 = ap (λ (n : ℕ). shapeOf n .f12 .low) k in omega (arith, size-some e h, z)
+
+-- the auction after an event that changed it
+abbrev after : Auction → Event → Change → Ending → Auction
+after a e c g = record { head = headAfter (a .head) e c g; board = boardAfter (a .board) c }
+
+-- a change that leaves the range, the live responses and the market order sound
+after-sound : (a : Auction) (e : Event) (c : Change) (g : Ending) → Sound a
+    → boundBy (a .head .terms) (quotesAfter (a .head .quotes) c) ≤ a .head .terms .initiating → Good (boardAfter (a .board) c)
+    → Every (Stands (e .sequence) (a .head .terms .initiating)) (liveOf (boardAfter (a .board) c)) → Distinct (liveOf (boardAfter (a .board) c))
+    → (isOpen g ≡ true → marketAfter (a .head .market) c .size ≡ 0)
+    → (0 < marketAfter (a .head .market) c .size → (0 < marketAfter (a .head .market) c .sequence) × Absent (marketAfter (a .head .market) c .sequence) (liveOf (boardAfter (a .board) c)))
+    → Sound (after a e c g)
+unfolding headAfter
+after-sound a e c g s bound good live distinct none apart =
+    record {
+      bound-below = bound;
+      stop-below = s .stop-below;
+      price = s .price;
+      size = s .size;
+      mode = s .mode;
+      board = good;
+      live = live;
+      distinct = distinct;
+      no-market = none;
+      market-apart = apart;
+    }
+
+module _ (v : Sight) (a : Auction) (e : Event) (fits : Fits (a .board) v) (s : Sound a) (o : Ordinary (a .head) e) where
+  no-size : a .head .market .size ≡ 0
+  no-size = s .no-market (o .opened)
+
+  no-more : {X : Type 0} → 0 < a .head .market .size → X
+  no-more z = absurd (omega (arith, no-size))
+
+  -- those that were live stand under the new highest sequence, and none of them bears it
+  stand : Every (Stands (e .sequence) (a .head .terms .initiating)) (liveOf (a .board))
+  stand = every-map (Stands (a .head .sequence) (a .head .terms .initiating)) (Stands (e .sequence) (a .head .terms .initiating)) (liveOf (a .board)) (λ r h. (h .0, omega (arith, h .1, o .newer), h .2, h .3)) (s .live)
+
+  fresh : (k : ℕ) → k ≡ e .sequence → Absent k (liveOf (a .board))
+  fresh k z = every-map (Stands (a .head .sequence) (a .head .terms .initiating)) (λ r. r .sequence ≢ k) (liveOf (a .board)) (λ r h q. omega (arith, h .1, o .newer)) (s .live)
+
+  -- a response of the event is seated
+  seated-sound : (r : Response) (g : Ending) → v .at < 64 → r .sequence ≡ e .sequence → 1 ≤ r .size → r .price ≤ a .head .terms .initiating → Sound (after a e (Seat (v .at) r) g)
+  seated-sound r g f q n p =
+      after-sound a e (Seat (v .at) r) g s (s .bound-below) (seated-good (a .board) (v .at) r (s .board))
+      (seat-every (a .board) (s .board) (Stands (e .sequence) (a .head .terms .initiating)) (v .at) r f (fits .free f) (omega (arith, q, o .newer), omega (arith, q), n, p) stand)
+      (seat-distinct (a .board) (s .board) (v .at) r f (fits .free f) (fresh (r .sequence) q) (s .distinct))
+      (λ _. no-size) no-more
+
+  does-sound : Outcomes (a .head .terms) (a .head .quotes) v (buyEvent (a .head .terms .sell) e) (λ u. Sound (seatedOn (a .board) (carried (a .head) e u) .auction))
+  does-sound =
+      let sell = a .head .terms .sell in
+      record {
+        refuses = λ n _. s;
+        nothing = λ g. after-sound a e Nothing g s (s .bound-below) (s .board) stand (s .distinct) (λ _. no-size) no-more;
+        gtx = λ k f p.
+            let k1 : e .kind ≡ 1 = sym (buy-kind e sell) ∙ k in
+            seated-sound (responseOf true (min (sizeOf (buyEvent sell e)) (a .head .terms .size)) (buyEvent sell e)) Open f (buy-sequence e sell)
+            (omega (arith, priced-size e sell (mirror-one e k1), size-one e k1 (o .formed), s .size)) p;
+        limit = λ g k f p.
+            let k3 : e .kind ≡ 3 = sym (buy-kind e sell) ∙ k in
+            seated-sound (responseOf false (sizeOf (buyEvent sell e)) (buyEvent sell e)) g f (buy-sequence e sell)
+            (omega (arith, priced-size e sell (mirror-three e k3), size-three e k3 (o .formed))) p;
+        clear = λ k f.
+            after-sound a e (Free (v .found)) Open s (s .bound-below) (cleared-good (a .board) (v .found) (s .board))
+            (clear-every (a .board) (s .board) (Stands (e .sequence) (a .head .terms .initiating)) (v .found) stand)
+            (clear-distinct (a .board) (s .board) (v .found) (s .distinct))
+            (λ _. no-size) no-more;
+        quote = λ n f. after-sound a e (Quote n) Open s (f (s .bound-below)) (s .board) stand (s .distinct) (λ _. no-size) no-more;
+        sell =
+            after-sound a e (Sell (record { sequence = buyEvent sell e .sequence; size = sizeOf (buyEvent sell e) })) Opposite s (s .bound-below) (s .board) stand (s .distinct)
+            (λ z. no (sym z))
+            (λ _. (omega (arith, buy-sequence e sell, o .newer), fresh (buyEvent sell e .sequence) (buy-sequence e sell)));
+      }
+
+-- the auction that ends by time
+abbrev timed : Auction → Auction
+timed a = record { head = endedByTime (a .head); board = a .board }
+
+time-sound : (a : Auction) → Sound a → Sound (timed a)
+unfolding endedByTime
+time-sound a s =
+    record {
+      bound-below = s .bound-below;
+      stop-below = s .stop-below;
+      price = s .price;
+      size = s .size;
+      mode = s .mode;
+      board = s .board;
+      live = s .live;
+      distinct = s .distinct;
+      no-market = λ z. no (sym z);
+      market-apart = s .market-apart;
+    }
+
+pub sound-by : (v : Sight) (a : Auction) (e : Event) → Fits (a .board) v → Sound a → Sound (stepBy v a e .auction)
+sound-by v a e f s =
+    cases (a .head) e v (λ t. Sound (seatedOn (a .board) t .auction)) (record { refused = λ _ _. s; late = λ _. time-sound a s; does = does-sound v a e f s })
+
+pub sound-step : (a : Auction) (e : Event) → Sound a → Sound (stepOf a e .auction)
+sound-step a e s = sound-by (sightOf (a .board) e) a e (sees (a .board) e (s .board)) s
+
+pub sound-close : (a : Auction) → Sound a → Sound (closeOf a .auction)
+unfolding closeTurn
+sound-close a s = by (λ (t : Turn). Sound (seatedOn (a .board) t .auction)) (isOpen (a .head .ending)) _ _ (λ _. time-sound a s) (λ _. s)
+
+pub sound-run : (es : List Event) (a : Auction) → Sound a → Sound (run a es)
+sound-run [] a s = s
+sound-run (e ∷ es) a s = sound-run es (stepOf a e .auction) (sound-step a e s)
+
+-- ---- demand 3
+
+-- the bound as a word is the bound
+bound-is : (a : Auction) → Sound a → boundNow (a .head) ≡ boundBy (a .head .terms) (a .head .quotes)
+unfolding boundNow
+bound-is a s = omega (arith, s .bound-below, s .price)
+
+sound-deal : (a : Auction) → Sound a → SoundDeal (dealOf (a .head)) (a .board)
+unfolding dealOf
+sound-deal a s =
+    record {
+      bound-below = omega (arith, bound-is a s, s .bound-below);
+      stop-below = s .stop-below;
+      prices = every-map (Stands (a .head .sequence) (a .head .terms .initiating)) (λ r. r .price ≤ a .head .terms .initiating) (liveOf (a .board)) (λ r h. h .3) (s .live);
+      mode = s .mode;
+      parties = every-map (Stands (a .head .sequence) (a .head .terms .initiating)) (λ r. 0 < r .sequence) (liveOf (a .board)) (λ r h. h .0) (s .live);
+      distinct = s .distinct;
+      market-apart = s .market-apart;
+    }
+
+reported-total : (sell : Bool) (fs : List Fill) → traded (reported sell fs) ≡ traded fs
+reported-total sell [] = refl
+reported-total sell (f ∷ fs) = ap (λ (n : ℕ). f .quantity + n) (reported-total sell fs)
+
+-- a price of the range, as it is reportedPrice
+shown-in : (a : Auction) (f : Fill) → InRange (dealOf (a .head)) f → Within (rangeOf (a .head)) (record { party = f .party; price = reportedPrice (a .head .terms .sell) (f .price); quantity = f .quantity })
+unfolding rangeOf dealOf mirrored
+shown-in a f h = go (a .head .terms .sell)
+  where
+    go : (sell : Bool) → Within (cond sell (record { low = 1000000 - a .head .terms .initiating; high = 1000000 - boundNow (a .head) }) (record { low = boundNow (a .head); high = a .head .terms .initiating })) (record { party = f .party; price = reportedPrice sell (f .price); quantity = f .quantity })
+    go true = record { low = omega (arith, h .high); high = omega (arith, h .low) }
+    go false = record { low = h .low; high = h .high }
+
+reported-in : (a : Auction) (fs : List Fill) → Every (InRange (dealOf (a .head))) fs → Every (Within (rangeOf (a .head))) (reported (a .head .terms .sell) fs)
+reported-in a [] h = tt
+reported-in a (f ∷ fs) h = (shown-in a f (h .0), reported-in a fs (h .1))
+
+pub trades : (a : Auction) → Sound a → isOpen (a .head .ending) ≡ false → Trades a
+unfolding fillsOf dealOf
+trades a s z =
+    let d = demand3 (dealOf (a .head)) (a .board) (sound-deal a s) in
+    record {
+      ended = z;
+      clauses = d;
+      plans = plans (dealOf (a .head)) (a .board) (sound-deal a s);
+      adds-up = reported-total (a .head .terms .sell) (fills (dealOf (a .head)) (offers (a .board))) ∙ d .adds-up;
+      in-range = reported-in a (fills (dealOf (a .head)) (offers (a .board))) (d .in-range);
+    }
+
+pub closed-ended : (a : Auction) → isOpen (closeOf a .auction .head .ending) ≡ false
+unfolding closeTurn endedByTime
+closed-ended a = by (λ (t : Turn). isOpen (t .head .ending) ≡ false) (isOpen (a .head .ending)) _ _ (λ _. refl) (λ z. z)
+
+pub demanded : Demanded
+demanded =
+    record {
+      opened = sound-opened;
+      sees = sees;
+      stepped = sound-by;
+      closed = sound-close;
+      demand-3 = λ o es h. trades (played o es) (sound-close (run (acceptOf o .auction) es) (sound-run es (acceptOf o .auction) (sound-opened o h))) (closed-ended (run (acceptOf o .auction) es));
+      by-event = λ o es z. ap (λ (p : Stepped). p .auction) (keeps .ended-close (run (acceptOf o .auction) es) z);
+    }

@@ -1,0 +1,174 @@
+-- What is promised of an auction, in the user's words.
+use mathlib.Core.Path.{_≡_}
+use mathlib.Core.Bool.{true, false, cond}
+use mathlib.Core.List.{List, [], _∷_}
+use mathlib.Core.Logic.{_⊎_}
+use Prim.Native.Nat.{ℕ, _≤_, _<_, min}
+use lib.Dec.{eqb}
+use Rattle.base.specs.Lists.{In, Every}
+use Rattle.board.specs.rules.Board.{responseAt, isLive, liveOf}
+use Rattle.board.specs.promises.Board.{Good}
+use Rattle.board.specs.declared.Board.{Board}
+use Rattle.board.specs.declared.Response.{Response}
+use Rattle.share.specs.rules.Fills.{Fill}
+use Rattle.tape.specs.declared.order.Order.{Order}
+use Rattle.tape.specs.declared.event.Event.{Event}
+use Rattle.tape.specs.rules.Form.{orderFormed, eventFormed}
+use Rattle.trade.specs.rules.Trade.{offers, fills, traded}
+use Rattle.demand.specs.promises.Demands.{Absent, Distinct, Demand3}
+use Rattle.demand.specs.promises.Demands.{Planned}
+use Rattle.base.specs.Price.{mirrored}
+use Rattle.mirror.specs.rules.Mirror.{mirroredOrder, mirroredEvent, buyEvent}
+use Rattle.auction.specs.rules.Accept.{acceptOf}
+use Rattle.auction.specs.rules.Range.{isOpen, boundBy}
+use Rattle.events.specs.rules.Step.{sizeOf, sightOf, responseOf, gives, stepBy, stepOf, closeOf}
+use Rattle.fills.specs.rules.Fills.{dealOf, auctionFills}
+use Rattle.auction.specs.rules.Range.{rangeOf}
+use Rattle.run.specs.rules.Run.{run, heard, played, isTaken, takenOf}
+use Rattle.auction.specs.declared.Auction.{Auction}
+use Rattle.auction.specs.declared.Head.{Head}
+use Rattle.auction.specs.declared.Terms.{Terms}
+use Rattle.auction.specs.declared.Range.{Range}
+use Rattle.auction.specs.declared.Entry.the-variants.{Accepted, Refused as NotAccepted}
+use Rattle.events.specs.declared.Answer.the-variants.{Refused}
+use Rattle.events.specs.declared.Sight.{Sight}
+
+-- ---- what an event sees of the board
+
+-- a sight fits a board where the place that it offers is free, and the one that it found is live
+pub record Fits (b : Board) (s : Sight) : Type 0 where
+  pub free : s .at < 64 → isLive b (s .at) ≡ false
+  pub found : s .found < 64 → isLive b (s .found) ≡ true
+  pub old : s .old ≡ responseAt (b .places) (s .found)
+
+-- ---- refusals, whatever is seen
+
+pub record Keeps : Type 0 where
+  -- a refusal changes nothing
+  pub refused : (s : Sight) (a : Auction) (e : Event) (n : ℕ) → stepBy s a e .answer ≡ Refused n → stepBy s a e .auction ≡ a
+  pub not-closed : (a : Auction) (n : ℕ) → closeOf a .answer ≡ Refused n → closeOf a .auction ≡ a
+  -- orders are refused by 1 to 12 alone, events by 31 to 38 alone
+  pub order-numbers : (o : Order) (n : ℕ) → acceptOf o .answer ≡ NotAccepted n → (1 ≤ n) × (n ≤ 12)
+  pub event-numbers : (s : Sight) (a : Auction) (e : Event) (n : ℕ) → stepBy s a e .answer ≡ Refused n → (31 ≤ n) × (n ≤ 38)
+  -- the highest sequence never falls
+  pub rises : (s : Sight) (a : Auction) (e : Event) → a .head .sequence ≤ stepBy s a e .auction .head .sequence
+  -- an ended auction never changes again, and answers 31 to all
+  pub ended : (s : Sight) (a : Auction) (e : Event) → isOpen (a .head .ending) ≡ false → stepBy s a e ≡ gives (Refused 31) a
+  pub ended-close : (a : Auction) → isOpen (a .head .ending) ≡ false → closeOf a ≡ gives (Refused 31) a
+
+-- ---- a response that stands on the board is never counted twice
+
+-- the response that an event places: a GTX is capped at the CUBE size, a limit order keeps its own
+abbrev pub madeBy : Terms → Event → Response
+madeBy t e =
+    cond (eqb (e .kind) 1)
+    (responseOf true (min (sizeOf (buyEvent (t .sell) e)) (t .size)) (buyEvent (t .sell) e))
+    (responseOf false (sizeOf (buyEvent (t .sell) e)) (buyEvent (t .sell) e))
+
+-- the live response r comes from one of the events
+pub record ComesFrom (t : Terms) (es : List Event) (r : Response) : Type 0 where
+  pub event : Event
+  pub taken : In event es
+  -- a GTX response or a limit order
+  pub kind : (event .kind ≡ 1) ⊎ (event .kind ≡ 3)
+  pub made : r ≡ madeBy t event
+  pub named : r .sequence ≡ event .sequence
+
+abbrev pub RefusedAgain : Auction → Event → Type 0
+RefusedAgain a e = stepOf a e ≡ gives (Refused (cond (isOpen (a .head .ending)) 33 31)) a
+
+pub record Resend : Type 0 where
+  -- once an event was taken, every event in form with its sequence or a lower one, met after any events between, is refused: by 33 while the auction is open and by 31 after; it changes nothing
+  pub older : (a : Auction) (e f : Event) (es : List Event) → isTaken (stepOf a e .answer) ≡ true → eventFormed f ≡ true → f .sequence ≤ e .sequence → RefusedAgain (run (stepOf a e .auction) es) f
+  -- so the event itself is
+  pub again : (a : Auction) (e : Event) (es : List Event) → isTaken (stepOf a e .answer) ≡ true → RefusedAgain (run (stepOf a e .auction) es) e
+  -- no two live responses bear one sequence
+  pub apart : (o : Order) (es : List Event) → acceptOf o .answer ≡ Accepted → Distinct (liveOf (run (acceptOf o .auction) es .board))
+  -- each live response comes from an event taken, and no two events taken bear one sequence
+  pub comes-from : (o : Order) (es : List Event) → acceptOf o .answer ≡ Accepted → Every (ComesFrom (acceptOf o .auction .head .terms) (takenOf (acceptOf o .auction) es)) (liveOf (run (acceptOf o .auction) es .board))
+  pub one : (a : Auction) (es : List Event) (e f : Event) → In e (takenOf a es) → In f (takenOf a es) → e .sequence ≡ f .sequence → e ≡ f
+
+-- ---- demand 3
+
+-- a live response has a sequence up to the highest taken, a size, and a price up to the initiating price
+abbrev pub Stands : ℕ → ℕ → Response → Type 0
+Stands highest initiating r = (0 < r .sequence) × (r .sequence ≤ highest) × (1 ≤ r .size) × (r .price ≤ initiating)
+
+-- what every auction that was opened has, and keeps
+pub record Sound (a : Auction) : Type 0 where
+  -- the bound has not passed the initiating price, and the stop or limit never does
+  pub bound-below : boundBy (a .head .terms) (a .head .quotes) ≤ a .head .terms .initiating
+  pub stop-below : a .head .terms .stop ≤ a .head .terms .initiating
+  pub price : a .head .terms .initiating ≤ 999999
+  pub size : 1 ≤ a .head .terms .size
+  pub mode : (1 ≤ a .head .terms .mode) × (a .head .terms .mode ≤ 3)
+  pub board : Good (a .board)
+  -- each live response stands rightly, with a sequence of its own
+  pub live : Every (Stands (a .head .sequence) (a .head .terms .initiating)) (liveOf (a .board))
+  pub distinct : Distinct (liveOf (a .board))
+  -- no market order while it is open, and one with a sequence of its own after
+  pub no-market : isOpen (a .head .ending) ≡ true → a .head .market .size ≡ 0
+  pub market-apart : 0 < a .head .market .size → (0 < a .head .market .sequence) × Absent (a .head .market .sequence) (liveOf (a .board))
+
+-- a fill's price lies in the range that holds
+pub record Within (r : Range) (f : Fill) : Type 0 where
+  pub low : r .low ≤ f .price
+  pub high : f .price ≤ r .high
+
+-- demand 3 of an auction: the clauses for the buy that the engine works with, and the fills as they are written
+pub record Trades (a : Auction) : Type 0 where
+  pub ended : isOpen (a .head .ending) ≡ false
+  pub clauses : Demand3 (dealOf (a .head)) (a .board) (fills (dealOf (a .head)) (offers (a .board)))
+  -- each price of the walk has document 01's plan
+  pub plans : Planned (dealOf (a .head)) (a .board)
+  pub adds-up : traded (auctionFills a) ≡ a .head .terms .size
+  pub in-range : Every (Within (rangeOf (a .head))) (auctionFills a)
+
+pub record Demanded : Type 0 where
+  pub opened : (o : Order) → acceptOf o .answer ≡ Accepted → Sound (acceptOf o .auction)
+  -- what an event sees of a board fits it, and whatever fits keeps the auction sound
+  pub sees : (b : Board) (e : Event) → Good b → Fits b (sightOf b e)
+  pub stepped : (s : Sight) (a : Auction) (e : Event) → Fits (a .board) s → Sound a → Sound (stepBy s a e .auction)
+  pub closed : (a : Auction) → Sound a → Sound (closeOf a .auction)
+  -- for every accepted order and every list of events, once the auction has ended
+  pub demand-3 : (o : Order) (es : List Event) → acceptOf o .answer ≡ Accepted → Trades (played o es)
+  -- also where an event ended it: closing by hand then changes nothing
+  pub by-event : (o : Order) (es : List Event) → isOpen (run (acceptOf o .auction) es .head .ending) ≡ false → played o es ≡ run (acceptOf o .auction) es
+
+-- ---- the mirror
+
+-- the same auction for the other side
+abbrev pub flippedTerms : Terms → Terms
+flippedTerms t = record { sell = cond (t .sell) false true; mode = t .mode; size = t .size; initiating = t .initiating; floor = t .floor; stop = t .stop; interval = t .interval }
+
+abbrev pub flippedHead : Head → Head
+flippedHead h = record { terms = flippedTerms (h .terms); quotes = h .quotes; sequence = h .sequence; clock = h .clock; ending = h .ending; market = h .market }
+
+abbrev pub flipped : Auction → Auction
+flipped a = record { head = flippedHead (a .head); board = a .board }
+
+-- an event in form is mirrored; what is out of form has no sides, and stays as it is
+abbrev pub mirroredRecord : Event → Event
+mirroredRecord e = cond (eventFormed e) (mirroredEvent e) e
+
+abbrev pub mirroredRecords : List Event → List Event
+mirroredRecords [] = []
+mirroredRecords (e ∷ es) = mirroredRecord e ∷ mirroredRecords es
+
+abbrev pub mirroredFills : List Fill → List Fill
+mirroredFills [] = []
+mirroredFills (f ∷ fs) = record { party = f .party; price = mirrored (f .price); quantity = f .quantity } ∷ mirroredFills fs
+
+-- a sell auction is the mirror of the buy auction on mirrored input
+pub record Mirrors : Type 0 where
+  -- the mirrored order is answered alike, and opens the same auction for the other side
+  pub accepts : (o : Order) → orderFormed o ≡ true → acceptOf (mirroredOrder o) .answer ≡ acceptOf o .answer
+  pub opens : (o : Order) → acceptOf o .answer ≡ Accepted → acceptOf (mirroredOrder o) .auction ≡ flipped (acceptOf o .auction)
+  -- mirrored records are answered alike, and do the same
+  pub steps : (a : Auction) (e : Event) → (stepOf (flipped a) (mirroredRecord e) .answer ≡ stepOf a e .answer) × (stepOf (flipped a) (mirroredRecord e) .auction ≡ flipped (stepOf a e .auction))
+  pub closes : (a : Auction) → (closeOf (flipped a) .answer ≡ closeOf a .answer) × (closeOf (flipped a) .auction ≡ flipped (closeOf a .auction))
+  -- so a whole auction is the mirror, and a sell's fills are the buy's with mirrored prices
+  pub plays : (o : Order) (es : List Event) → acceptOf o .answer ≡ Accepted → played (mirroredOrder o) (mirroredRecords es) ≡ flipped (played o es)
+  pub hears : (o : Order) (es : List Event) → acceptOf o .answer ≡ Accepted → heard (acceptOf (mirroredOrder o) .auction) (mirroredRecords es) ≡ heard (acceptOf o .auction) es
+  pub trades : (a : Auction) → a .head .terms .sell ≡ false → auctionFills (flipped a) ≡ mirroredFills (auctionFills a)
+  pub ranges : (a : Auction) → a .head .terms .sell ≡ false → (rangeOf (flipped a .head) .low ≡ mirrored (rangeOf (a .head) .high)) × (rangeOf (flipped a .head) .high ≡ mirrored (rangeOf (a .head) .low))

@@ -1,0 +1,127 @@
+-- Cases a to k of document 01, as one table: an order, its events, and what must come of them.
+use mathlib.Core.Bool.{Bool, true, false, cond}
+use mathlib.Core.List.{List, [], _∷_, map}
+use mathlib.Core.Path.{_≡_}
+use Prim.Native.Nat.{ℕ}
+use Rattle.share.specs.rules.Fills.{Fill}
+use Rattle.tape.specs.declared.order.Order.{Order}
+use Rattle.tape.specs.declared.event.Event.{Event}
+use Rattle.auction.specs.rules.Accept.{acceptOf}
+use Rattle.auction.specs.rules.Range.{rangeOf}
+use Rattle.fills.specs.rules.Fills.{auctionFills}
+use Rattle.run.specs.rules.Run.{run, played}
+use Rattle.auction.specs.declared.Auction.{Auction}
+use Rattle.auction.specs.declared.Ending.{Ending}
+use Rattle.auction.specs.declared.Ending.the-variants.{Open, Time, Same, Opposite, Improve}
+use Rattle.auction.specs.declared.Entry.{Entry}
+use Rattle.auction.specs.declared.Entry.the-variants.{Accepted, Refused}
+use Rattle.auction.specs.declared.Opening.{Opening}
+
+-- ---- what comes of an order and its events: a refusal, or the ending (after closing by hand, where asked), the range and the fills
+
+pub data Result : Type 0 where
+  refusal : ℕ → Result
+  standing : ℕ → ℕ → Result
+  ended : Ending → ℕ → ℕ → List Fill → Result
+
+-- one who is open stands with a range; one who has ended has fills
+abbrev pub shownBy : Ending → Auction → Result
+shownBy Open a = standing (rangeOf (a .head) .low) (rangeOf (a .head) .high)
+shownBy Time a = ended Time (rangeOf (a .head) .low) (rangeOf (a .head) .high) (auctionFills a)
+shownBy Same a = ended Same (rangeOf (a .head) .low) (rangeOf (a .head) .high) (auctionFills a)
+shownBy Opposite a = ended Opposite (rangeOf (a .head) .low) (rangeOf (a .head) .high) (auctionFills a)
+shownBy Improve a = ended Improve (rangeOf (a .head) .low) (rangeOf (a .head) .high) (auctionFills a)
+
+abbrev pub shown : Auction → Result
+shown a = shownBy (a .head .ending) a
+
+pub record Case : Type 0 where
+  pub order : Order
+  pub events : List Event
+  -- closed by hand after the last event, or looked at as it stands
+  pub closes : Bool
+  pub want : Result
+
+abbrev pub resultBy : Case → Entry → Result
+resultBy c (Refused n) = refusal n
+resultBy c Accepted = cond (c .closes) (shown (played (c .order) (c .events))) (shown (run (acceptOf (c .order) .auction) (c .events)))
+
+abbrev pub resultOf : Case → Result
+resultOf c = resultBy c (acceptOf (c .order) .answer)
+
+-- ---- the words of the table
+
+-- quotes 100/110 on both markets; the session is open from 0 to 86,400,000
+abbrev pub order : ℕ → ℕ → ℕ → ℕ → ℕ → Order
+order side mode size limit stop =
+    record { side = side; mode = mode; marks = 0; size = size; limit = limit; stop = stop; nbb = 100; nbo = 110; bb = 100; bo = 110; time = 1000; opens = 0; closes = 86400000; interval = 100 }
+
+-- an order on other markets: NBB, NBO, BB, BO
+abbrev pub quoted : ℕ → ℕ → ℕ → ℕ → Order → Order
+quoted nbb nbo bb bo o =
+    record { side = o .side; mode = o .mode; marks = o .marks; size = o .size; limit = o .limit; stop = o .stop; nbb = nbb; nbo = nbo; bb = bb; bo = bo; time = o .time; opens = o .opens; closes = o .closes; interval = o .interval }
+
+-- an order at another time of a session with another close
+abbrev pub timed : ℕ → ℕ → Order → Order
+timed time closes o =
+    record { side = o .side; mode = o .mode; marks = o .marks; size = o .size; limit = o .limit; stop = o .stop; nbb = o .nbb; nbo = o .nbo; bb = o .bb; bo = o .bo; time = time; opens = o .opens; closes = closes; interval = o .interval }
+
+-- an event of a kind: its sequence, side, size and price
+abbrev pub event : ℕ → ℕ → ℕ → ℕ → ℕ → Event
+event kind sequence side size price = record { sequence = sequence; time = 20; kind = kind; marks = 0; side = side; f12 = size; f16 = price; f20 = 0; f24 = 0 }
+
+abbrev pub gtx : ℕ → ℕ → ℕ → Event
+gtx sequence size price = event 1 sequence 2 size price
+
+abbrev pub bid : ℕ → ℕ → ℕ → Event
+bid sequence size price = event 3 sequence 1 size price
+
+abbrev pub market : ℕ → ℕ → ℕ → Event
+market sequence side size = event 4 sequence side size 0
+
+abbrev pub fill : ℕ → ℕ → ℕ → Fill
+fill party price quantity = record { party = party; price = price; quantity = quantity }
+
+abbrev pub contra : ℕ → ℕ → Fill
+contra price quantity = fill 0 price quantity
+
+abbrev pub case : Order → List Event → Bool → Result → Case
+case o es closes want = record { order = o; events = es; closes = closes; want = want }
+
+-- case c's order
+abbrev pub orderC : Order
+orderC = order 1 2 10 110 0
+
+unfoldable pub cases : List Case
+cases =
+    -- a. 30 at 105, then at 108 Contra 40, 18, 12
+    case (order 1 1 100 110 108) (gtx 1 30 105 ∷ gtx 2 60 108 ∷ gtx 3 40 108 ∷ []) true (ended Time 100 110 (fill 1 105 30 ∷ contra 108 40 ∷ fill 2 108 18 ∷ fill 3 108 12 ∷ []))
+    -- b. Contra 40, then 21, 20, 19
+    ∷ case (order 1 1 100 110 108) (gtx 1 31 108 ∷ gtx 2 30 108 ∷ gtx 3 30 108 ∷ []) true (ended Time 100 110 (contra 108 40 ∷ fill 1 108 21 ∷ fill 2 108 20 ∷ fill 3 108 19 ∷ []))
+    -- c. the listing: the record is sent twice
+    ∷ case orderC (gtx 1 3 105 ∷ gtx 1 3 105 ∷ []) true (ended Time 101 109 (contra 105 3 ∷ fill 1 105 3 ∷ contra 109 4 ∷ []))
+    -- d. 4 at 105, Contra 6 at 108
+    ∷ case (order 1 2 10 108 0) (market 1 2 4 ∷ []) true (ended Opposite 101 108 (fill 1 105 4 ∷ contra 108 6 ∷ []))
+    -- e. the sell: 4 at 105, Contra 6 at 102
+    ∷ case (order 2 2 10 102 0) (market 1 1 4 ∷ []) true (ended Opposite 102 109 (fill 1 105 4 ∷ contra 102 6 ∷ []))
+    -- f. Contra 1
+    ∷ case (order 1 1 1 110 105) (gtx 1 1 105 ∷ []) true (ended Time 101 109 (contra 105 1 ∷ []))
+    -- g. bid 108: bound 109, still open; bid 109 instead: improve, bound 101
+    ∷ case orderC (bid 1 1 108 ∷ []) false (standing 109 109)
+    ∷ case orderC (bid 1 1 109 ∷ []) false (ended Improve 101 109 (contra 109 10 ∷ []))
+    -- h. 20; Contra 80 and 80 at 104; 20 at 106
+    ∷ case (order 1 3 200 110 103) (gtx 1 20 101 ∷ gtx 2 80 104 ∷ gtx 3 30 106 ∷ []) true (ended Time 100 110 (fill 1 101 20 ∷ contra 104 80 ∷ fill 2 104 80 ∷ fill 3 106 20 ∷ []))
+    -- i. stop 100 accepted, 101 gives 12
+    ∷ case (quoted 100 101 90 110 (order 1 1 10 101 100)) [] false (standing 100 101)
+    ∷ case (quoted 100 101 90 110 (order 1 1 10 101 101)) [] false (refusal 12)
+    -- j. size 49 gives 9; size 50 passes that test
+    ∷ case (quoted 100 101 100 101 (order 1 2 49 101 0)) [] false (refusal 9)
+    ∷ case (quoted 100 101 100 101 (order 1 2 50 101 0)) [] false (standing 100 101)
+    -- k. close at 5,000: time 3,999 passes, 4,000 gives 5
+    ∷ case (timed 3999 5000 orderC) [] false (standing 101 109)
+    ∷ case (timed 4000 5000 orderC) [] false (refusal 5)
+    ∷ []
+
+-- the table is what the definitions that the contracts cite give
+abbrev pub Figures : Type 0
+Figures = map resultOf cases ≡ map (λ (c : Case). c .want) cases

@@ -1,0 +1,2 @@
+-- A run, as document 01 has it.
+pub mod Run

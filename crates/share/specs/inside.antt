@@ -1,0 +1,2 @@
+-- What private functions of the crates above give.
+pub mod Fills

@@ -1,0 +1,3 @@
+-- Pro rata, and fills.
+pub mod Share
+pub mod Fills

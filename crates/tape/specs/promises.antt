@@ -1,0 +1,2 @@
+-- Statements of theorems about what is read.
+pub mod Holds

@@ -1,0 +1,86 @@
+// The trailer, 16 bytes, and a tape's opening by it.
+ghost use mathlib.Core.Path.{_≡_};
+ghost use Rattle.tape.specs.rules.Records.{trailerOf, readTrailer, trailerAnswer, trailerWrote};
+ghost use Rattle.tape.specs.rules.Tape.{lengthOf, openTape};
+use crate::Written;
+use words::bytes::read_word;
+use words::bytes::write_words;
+
+// Where the order is, and how many events there are.
+pub struct Trailer {
+    pub order: u32,
+    pub events: u32,
+}
+
+// The trailer, or the number of the refusal.
+pub enum ReadTrailer {
+    Trailer(Trailer),
+    Refused(u32),
+}
+
+// The trailer of a tape, or the number of the refusal.
+pub enum Opened {
+    Tape(Trailer),
+    Refused(u32),
+}
+
+// "CUBT" as a word.
+const CUBT: u32 = 1413633347;
+
+// The trailer at the start of lent bytes: 24, then 22.
+pub fn read_trailer(s: &[u8]) -> ReadTrailer
+    ensures { λ r. ⌜ r ≡ readTrailer (now (s .entry)) ⌝ }
+{
+    if s.len() < 16 {
+        return ReadTrailer::Refused(24);
+    }
+    if (read_word(s, 0) == CUBT) & (read_word(s, 12) == 0) {
+        ReadTrailer::Trailer(Trailer {
+            order: read_word(s, 4),
+            events: read_word(s, 8),
+        })
+    } else {
+        ReadTrailer::Refused(22)
+    }
+}
+
+// Any trailer into the start of lent bytes: 24 alone refuses it, and changes no byte.
+pub fn write_trailer(t: Trailer, out: &mut [u8]) -> Written
+    ensures { λ r. ⌜ r ≡ trailerAnswer t (now (out .entry)) ⌝ }
+    ensures { λ _. ⌜ now (out .exit) ≡ trailerWrote t (now (out .entry)) ⌝ }
+{
+    if out.len() < 16 {
+        return Written::Refused(24);
+    }
+    let words = [CUBT, t.order, t.events, 0];
+    write_words(out, 0, &words);
+    Written::Done
+}
+
+// The length that a trailer asks of its tape.
+fn length_of(t: Trailer) -> u64
+    ensures { λ r. ⌜ r ≡ lengthOf t ⌝ }
+{
+    (t.order as u64) + 64 + (t.events as u64) * 32 + 16
+}
+
+// Where a tape's order is and how many events it has, by its last 16 bytes: 21, 22, 23.
+pub fn open_tape(s: &[u8]) -> Opened
+    ensures { λ r. ⌜ r ≡ openTape (now (s .entry)) ⌝ }
+{
+    let n = s.len();
+    if (n < 16) | (65536 < n) {
+        return Opened::Refused(21);
+    }
+    let at = n - 16;
+    match read_trailer(&s[at..]) {
+        ReadTrailer::Trailer(t) => {
+            if length_of(t) == n as u64 {
+                Opened::Tape(t)
+            } else {
+                Opened::Refused(23)
+            }
+        }
+        ReadTrailer::Refused(number) => Opened::Refused(number),
+    }
+}

@@ -1,0 +1,2 @@
+-- The statements of theorems.
+pub mod Bits

@@ -1,0 +1,3 @@
+-- Words in bytes, and the bits of a word.
+pub mod Bytes
+pub mod Bits
