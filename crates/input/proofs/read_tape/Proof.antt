@@ -3,8 +3,8 @@ use Prim.Native.Nat.{_-_, _≤_}
 use mathlib.Core.Path.{_≡_}
 use lib.ListN.{length}
 use Rattle.io.proofs.Counting.{counts}
-use Rattle.evening.proofs.read_tape.Statement.{statement}
-use Rattle.evening.proofs.read_tape.Tie as tie
+use Rattle.input.proofs.read_tape.Statement.{statement}
+use Rattle.input.proofs.read_tape.Tie as tie
 
 abbrev Inv-loop : tie.InvT-loop
 Inv-loop fd tape₀ n₀ tape n = (n ≤ length tape) × (length tape ≡ length tape₀)
@@ -39,11 +39,14 @@ part-count-end c = search needs
 count-requires : tie.Need-count-requires Inv-loop μ-loop
 count-requires c κs = search needs
 
+stopped-requires : tie.Need-stopped-requires Inv-loop μ-loop
+stopped-requires c κs = search needs
+
 same-length : tie.Need-same-length Inv-loop μ-loop
 same-length c = search needs
 
 returns : tie.Need-returns Inv-loop μ-loop
-returns c = counts (c .before .before .before .before .before .before .before .before .before .loop .n) _ (search needs)
+returns c = counts (c .stopped .result .length) _ (search (needs, c .stopped .ensures))
 
 add-n : tie.Need-add-n Inv-loop μ-loop
 add-n c = search needs
@@ -75,6 +78,7 @@ read-tape-spec =
     part-count-start
     part-count-end
     count-requires
+    stopped-requires
     same-length
     returns
     add-n
