@@ -4,7 +4,7 @@
     tests/compare_peer.py [COUNT [SEED..]]     COUNT tapes for each seed (4,000; seeds 1 to 5)
 
 From the project's root, after `rt check evening`. Builds the peer with a C compiler into target/peer. Each tape is one test; so is each tape's way
-to text and back (tools/tape_text.py). A difference is kept under target/peer/differences and named. The last line is 'N passed, M failed'.
+to text and back (tools/cube/form.py). A difference is kept under target/peer/differences and named. The last line is 'N passed, M failed'.
 """
 import os
 import shutil
@@ -12,7 +12,7 @@ import subprocess
 import sys
 
 sys.path.insert(0, os.path.join(os.path.dirname(os.path.dirname(os.path.abspath(__file__))), "tools"))
-import tape_text
+from cube import form as tape_text
 
 HERE = "target/peer"
 SOURCES = ["main.c", "gen.c", "check.c", "build.c", "peer.c"]

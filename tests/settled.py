@@ -13,7 +13,10 @@ import sys
 
 
 # The functions whose proof is by hand: the kit makes no reading of their contracts that a theorem could cite. docs/STATEMENTS.md names them, and why.
-BY_HAND = {"crates/auction": ["lent.apply", "lent.cancel"], "crates/reader": ["hold", "held_order", "current_event", "next"]}
+BY_HAND = {"crates/events": ["lent.apply", "lent.cancel"], "crates/reader": ["hold", "held_order", "current_event", "next"]}
+
+# The functions that read: what a file holds no contract can say. docs/STATEMENTS.md names them, too.
+OUTSIDE = {"crates/input": ["last_error", "read_tape"]}
 
 
 def public(crate):
@@ -38,7 +41,7 @@ def main():
     for crate in sorted(glob.glob("crates/*")):
         if not os.path.exists(crate + "/src/lib.rt"):
             continue
-        wanted = ["Settled contracts.{0}.ended contracts.{0}.Reads.Asked contracts.{0}.Reads.Learnt".format(f) for f in public(crate) if f not in BY_HAND.get(crate, [])]
+        wanted = ["Settled contracts.{0}.ended contracts.{0}.Reads.Asked contracts.{0}.Reads.Learnt".format(f) for f in public(crate) if f not in BY_HAND.get(crate, []) + OUTSIDE.get(crate, [])]
         found = stated(crate)
         for line in wanted:
             if line in found:

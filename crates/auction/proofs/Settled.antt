@@ -3,9 +3,6 @@ use mathlib.Core.Path.{refl, sym, _∙_}
 use Rattle.base.specs.Settled.{Settled}
 use Rattle.auction.proofs as contracts
 
-pub accept : Settled contracts.orders.accept.ended contracts.orders.accept.Reads.Asked contracts.orders.accept.Reads.Learnt
-accept κs a = (tt, λ y z v w p q. (p ∙ sym q, refl))
-
 pub is-open : Settled contracts.bounds.is_open.ended contracts.bounds.is_open.Reads.Asked contracts.bounds.is_open.Reads.Learnt
 is-open κs a = (tt, λ y z v w p q. (p ∙ sym q, refl))
 
@@ -17,3 +14,6 @@ bound-now κs a = (tt, λ y z v w p q. (p ∙ sym q, refl))
 
 pub price-range : Settled contracts.bounds.price_range.ended contracts.bounds.price_range.Reads.Asked contracts.bounds.price_range.Reads.Learnt
 price-range κs a = (tt, λ y z v w p q. (p ∙ sym q, refl))
+
+pub accept : Settled contracts.orders.accept.ended contracts.orders.accept.Reads.Asked contracts.orders.accept.Reads.Learnt
+accept κs a = (tt, λ y z v w p q. (p ∙ sym q, refl))

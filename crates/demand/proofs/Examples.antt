@@ -4,6 +4,7 @@ use mathlib.Core.Bool.{Bool, true, false}
 use mathlib.Core.List.{List, [], _∷_, map, _++_}
 use Prim.Native.Nat.{ℕ, _-_, _^_}
 use lib.ListN.{length, replicate}
+use Rattle.base.specs.Price.{mirrored}
 use Rattle.board.specs.declared.Response.{Response}
 use Rattle.board.specs.declared.Board.{Board}
 use Rattle.base.specs.Lists.{sum, filter}
@@ -70,5 +71,5 @@ figures =
     ∷ []
 
 pub figures-hold : map (λ (c : Case). words (fillsOf (c .deal) (c .board))) figures ≡ map (λ (c : Case). c .want) figures
-unfolding sum filter liveIn inserted inSequence shares levelFills guaranteeOf top entry next offersAt mode1 mode2 mode3 levelAt walk marketPrice levels fills fillsOf
+unfolding sum filter liveIn inserted inSequence shares levelFills guaranteeOf top entry next offersAt mode1 mode2 mode3 levelAt walk marketPrice levels fills fillsOf mirrored
 figures-hold = refl

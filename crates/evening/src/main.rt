@@ -1,5 +1,7 @@
-// Names of tape files on standard input, one to a line: each name and its tape's listing on standard output, and a summary on standard error.
+// Names of tape files on standard input, one to a line (with the argument -0: each ended by a zero byte): each name and its tape's listing on
+// standard output. At the end a summary on standard error, or, where the names could not be read or a listing not written, why.
 use auction::Ending;
+use input::MOST;
 use libc::STDERR_FILENO;
 use libc::STDIN_FILENO;
 use libc::STDOUT_FILENO;
@@ -9,9 +11,7 @@ use std::num::wrapping_add_u64;
 ghost use mathlib.Core.Path.{_≡_};
 ghost use lib.ListN.{length};
 ghost use Rattle.io.specs.Counts.{Counts};
-
-// One byte more than a tape may have, so that a longer file is refused.
-const MOST: usize = 65537;
+ghost use Rattle.evening.specs.Counting.{oneMore, countedEnding, countedListed};
 
 fn tape_buffer() -> [u8; MOST]
     ensures { λ r. ⌜ 65537 ≡ length r ⌝ }
@@ -27,10 +27,26 @@ fn listing_buffer() -> [u8; ROOM]
 
 // ---- the names
 
-// The bytes of standard input that were read and not yet taken: from `at` up to `got`.
+// What ends a name: a line's end, or with the argument -0 a zero byte.
+fn separator() -> u8 {
+    let mut word = io::buffer();
+    let n = os::arg(1, &mut word);
+    if n == 2 {
+        if word[0] == b'-' {
+            if word[1] == b'0' {
+                return 0;
+            }
+        }
+    }
+    b'\n'
+}
+
+// The bytes of standard input that were read and not yet taken: from `at` up to `got`; whether a read failed; what ends a name.
 struct Source {
     at: usize,
     got: usize,
+    failed: bool,
+    separator: u8,
 }
 
 // The next byte of standard input; none at its end.
@@ -40,30 +56,56 @@ struct Next {
     source: Source,
 }
 
+// No byte is left, or a read failed, which is said.
+fn none_left(s: Source, failed: bool) -> Next {
+    if failed {
+        os::fail(b"evening: standard input");
+    }
+    Next {
+        found: false,
+        byte: 0,
+        source: Source {
+            at: 0,
+            got: 0,
+            failed,
+            separator: s.separator,
+        },
+    }
+}
+
 fn next_byte(input: &mut [u8], s: Source) -> Next {
     let at = s.at;
     let got = s.got;
+    let failed = s.failed;
+    let separator = s.separator;
     if at < got {
         if at < input.len() {
             return Next {
                 found: true,
                 byte: input[at],
-                source: Source { at: at + 1, got },
+                source: Source {
+                    at: at + 1,
+                    got,
+                    failed,
+                    separator,
+                },
             };
         }
     }
-    let n = io::count(libc::read(STDIN_FILENO, input), input);
+    let moved = libc::read(STDIN_FILENO, input);
+    let n = io::count(moved, input);
     if n == 0 {
-        return Next {
-            found: false,
-            byte: 0,
-            source: Source { at: 0, got: 0 },
-        };
+        return none_left(s, moved < 0);
     }
     Next {
         found: true,
         byte: input[0],
-        source: Source { at: 1, got: n },
+        source: Source {
+            at: 1,
+            got: n,
+            failed,
+            separator,
+        },
     }
 }
 
@@ -78,14 +120,14 @@ fn keep(name: &mut [u8], k: usize, byte: u8) -> usize
     name.len()
 }
 
-// A line: `length` bytes of it were kept; none at the end of the input.
+// A name: `length` bytes of it were kept; none at the end of the input.
 struct Line {
     found: bool,
     length: usize,
     source: Source,
 }
 
-// The next line into lent bytes, without its newline. What has no room is dropped: so long a name names no file.
+// The next name into lent bytes, without what ends it. What has no room is dropped: so long a name names no file.
 fn read_line(input: &mut [u8], source: Source, name: &mut [u8]) -> Line
     ensures { λ r. ⌜ Counts (r .length) (now (name .exit)) ⌝ }
 {
@@ -102,7 +144,7 @@ fn read_line(input: &mut [u8], source: Source, name: &mut [u8]) -> Line
                 source: s,
             };
         }
-        if b.byte == b'\n' {
+        if b.byte == s.separator {
             return Line {
                 found: true,
                 length: k,
@@ -121,7 +163,7 @@ fn read_line(input: &mut [u8], source: Source, name: &mut [u8]) -> Line
 
 // ---- the tapes
 
-// How many tapes there were, and what came of them.
+// How many tapes there were, and what came of them; whether something could not be written, or the names not read.
 struct Tally {
     tapes: u64,
     refused: u64,
@@ -130,13 +172,18 @@ struct Tally {
     opposite: u64,
     improve: u64,
     unreadable: u64,
+    failed: bool,
 }
 
-fn one_more(n: u64) -> u64 {
+fn one_more(n: u64) -> u64
+    ensures { λ r. ⌜ r ≡ oneMore n ⌝ }
+{
     wrapping_add_u64(n, 1)
 }
 
-fn count_ending(mut t: Tally, g: Ending) -> Tally {
+fn count_ending(mut t: Tally, g: Ending) -> Tally
+    ensures { λ r. ⌜ r ≡ countedEnding t g ⌝ }
+{
     match g {
         Ending::Time => {
             t.time = one_more(t.time);
@@ -158,7 +205,9 @@ fn count_ending(mut t: Tally, g: Ending) -> Tally {
     }
 }
 
-fn count_listed(mut t: Tally, l: Listed) -> Tally {
+fn count_listed(mut t: Tally, l: Listed) -> Tally
+    ensures { λ r. ⌜ r ≡ countedListed t l ⌝ }
+{
     match l {
         Listed::Refused {
             number: _,
@@ -172,78 +221,86 @@ fn count_listed(mut t: Tally, l: Listed) -> Tally {
     }
 }
 
-fn print(s: &[u8]) {
-    io::write_all(STDOUT_FILENO, s);
+fn stopped(mut t: Tally) -> Tally {
+    t.failed = true;
+    t
+}
+
+// Whether all was written; where not, it is said.
+fn print(s: &[u8]) -> bool {
+    if io::write_all(STDOUT_FILENO, s) {
+        return true;
+    }
+    os::fail(b"evening: standard output");
+    false
+}
+
+fn print_number(n: u64) -> bool {
+    let mut text = [0u8; 20];
+    let k = io::decimal(n, &mut text);
+    print(&text[..k])
 }
 
 // A word and the name, on a line.
-fn print_name(word: &[u8], name: &[u8]) {
-    print(word);
-    print(name);
-    print(b"\n");
+fn print_name(word: &[u8], name: &[u8]) -> bool {
+    if !print(word) {
+        return false;
+    }
+    if !print(name) {
+        return false;
+    }
+    print(b"\n")
 }
 
-fn unreadable(mut t: Tally, name: &[u8]) -> Tally {
-    print_name(b"UNREADABLE ", name);
+// That a file can't be read: the system's number for why, and the name.
+fn print_unreadable(error: u64, name: &[u8]) -> bool {
+    if !print(b"UNREADABLE ") {
+        return false;
+    }
+    if !print_number(error) {
+        return false;
+    }
+    print_name(b" ", name)
+}
+
+fn unreadable(mut t: Tally, error: u64, name: &[u8]) -> Tally {
+    if !print_unreadable(error, name) {
+        return stopped(t);
+    }
     t.unreadable = one_more(t.unreadable);
     t
 }
 
-// What was read of a file, and whether no read failed.
-struct Contents {
-    whole: bool,
-    length: usize,
-}
-
-// The file's bytes into lent bytes, as far as they go.
-fn read_tape(fd: i32, tape: &mut [u8]) -> Contents
-    ensures { λ r. ⌜ Counts (r .length) (now (tape .exit)) ⌝ }
-{
-    let mut n = 0;
-    while n < tape.len() {
-        let got = libc::read(fd, &mut tape[n..]);
-        let more = io::count(got, &tape[n..]);
-        if more == 0 {
-            return Contents {
-                whole: got == 0,
-                length: n,
-            };
-        }
-        n += more;
-    }
-    Contents {
-        whole: true,
-        length: n,
-    }
-}
-
 // The listing of a tape, in lent bytes, onto standard output.
-fn show(tape: &[u8], out: &mut [u8]) -> Listed {
+fn show(t: Tally, tape: &[u8], out: &mut [u8]) -> Tally {
     let l = listing::listing(tape, out);
     let n = listing::length_of(l);
-    print(&out[..n]);
-    l
+    if !print(&out[..n]) {
+        return stopped(t);
+    }
+    count_listed(t, l)
 }
 
 // One tape by its name: its listing, or that it can't be read.
 fn serve(t: Tally, name: &[u8], tape: &mut [u8], out: &mut [u8]) -> Tally {
-    print_name(b"TAPE ", name);
+    if !print_name(b"TAPE ", name) {
+        return stopped(t);
+    }
     let fd = os::open_read(name);
     if fd < 0 {
-        return unreadable(t, name);
+        return unreadable(t, input::last_error(), name);
     }
-    let c = read_tape(fd, tape);
+    let c = input::read_tape(fd, tape);
     libc::close(fd);
     if !c.whole {
-        return unreadable(t, name);
+        return unreadable(t, c.error, name);
     }
     let n = c.length;
-    count_listed(t, show(&tape[..n], out))
+    show(t, &tape[..n], out)
 }
 
-// Each line of standard input in turn.
-fn serve_all(input: &mut [u8], name: &mut [u8], tape: &mut [u8], out: &mut [u8]) -> Tally {
-    let mut t = Tally {
+fn no_tapes() -> Tally {
+    Tally {
         tapes: 0,
         refused: 0,
         time: 0,
@@ -251,17 +308,34 @@ fn serve_all(input: &mut [u8], name: &mut [u8], tape: &mut [u8], out: &mut [u8])
         opposite: 0,
         improve: 0,
         unreadable: 0,
+        failed: false,
+    }
+}
+
+// Each name of standard input in turn, until something fails.
+fn serve_all(input: &mut [u8], name: &mut [u8], tape: &mut [u8], out: &mut [u8]) -> Tally {
+    let mut t = no_tapes();
+    let mut s = Source {
+        at: 0,
+        got: 0,
+        failed: false,
+        separator: separator(),
     };
-    let mut s = Source { at: 0, got: 0 };
     let mut turns = u64::MAX;
     while turns > 0 {
         let line = read_line(input, s, name);
         s = line.source;
+        if s.failed {
+            return stopped(t);
+        }
         if !line.found {
             return t;
         }
         let n = line.length;
         t = serve(t, &name[..n], tape, out);
+        if t.failed {
+            return t;
+        }
         t.tapes = one_more(t.tapes);
         turns -= 1;
     }
@@ -291,5 +365,8 @@ fn main() {
     let mut name = io::buffer();
     let mut tape = tape_buffer();
     let mut out = listing_buffer();
-    summary(serve_all(&mut input, &mut name, &mut tape, &mut out));
+    let t = serve_all(&mut input, &mut name, &mut tape, &mut out);
+    if !t.failed {
+        summary(t);
+    }
 }

@@ -1,7 +1,9 @@
-// Names of tape files on standard input, one to a line: each name and its tape's listing on standard output, as `evening` prints it, but played by the lent forms. A line `WRONG ..` stops the program.
+// Names of tape files on standard input, one to a line: each name and its tape's listing on standard output, as `evening` prints it, but
+// played by the forms that document 01 names. A line `WRONG ..` stops the program.
 ghost use mathlib.Core.Path.{_≡_};
 ghost use Prim.Native.Nat.{_≤_};
 ghost use lib.ListN.{length};
+use input::MOST;
 use libc::STDIN_FILENO;
 use lines::print_name;
 use play::play_tape;
@@ -11,9 +13,6 @@ mod lines;
 mod play;
 mod results;
 mod seen;
-
-// One byte more than a tape may have, so that a longer file is refused.
-const MOST: usize = 65537;
 
 fn tape_buffer() -> [u8; MOST]
     ensures { λ r. ⌜ 65537 ≡ length r ⌝ }
@@ -36,16 +35,25 @@ fn line_end(names: &[u8], at: usize) -> usize
     i
 }
 
+// A file that can't be read is nothing wrong with the forms.
+fn unreadable(name: &[u8]) -> bool {
+    print_name(b"UNREADABLE ", name);
+    true
+}
+
 // One tape by its name; whether nothing was wrong.
 fn serve(name: &[u8], tape: &mut [u8]) -> bool {
     print_name(b"TAPE ", name);
     let fd = os::open_read(name);
     if fd < 0 {
-        print_name(b"UNREADABLE ", name);
-        return true;
+        return unreadable(name);
     }
-    let n = io::read_full(fd, tape);
+    let c = input::read_tape(fd, tape);
     libc::close(fd);
+    if !c.whole {
+        return unreadable(name);
+    }
+    let n = c.length;
     play_tape(&tape[..n])
 }
 

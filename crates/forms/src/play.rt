@@ -1,4 +1,5 @@
-// A tape played by the forms that document 01 names: the tape is held, a cancel and every second event go to a lent auction, the others to the step, and the auction is closed by hand.
+// A tape played by the forms that document 01 names: the tape is held; a cancel, and every second other event, goes to a lent auction, the
+// others to the step by value; the auction is closed by hand.
 ghost use mathlib.Core.Path.{_≡_};
 ghost use mathlib.Core.Bool.{true};
 ghost use Rattle.events.specs.rules.Step.{stepOf};

@@ -98,6 +98,10 @@ alike-by false true x y u v h p q = no (sym h)
 stays-same : (r : Answer) (h : Head) → Alike (stays r (flippedHead h)) (stays r h)
 stays-same r h = record { answer = refl; head = refl; change = refl }
 
+late-same : (h : Head) → Alike (stays Late (endedByTime (flippedHead h))) (stays Late (endedByTime h))
+unfolding endedByTime
+late-same h = record { answer = refl; head = refl; change = refl }
+
 -- what is seen of the mirrored event is what is seen of the event
 sight-same : (b : Board) (e : Event) → sightOf b (mirroredEvent e) ≡ sightOf b e
 unfolding sightOf
@@ -119,10 +123,6 @@ sight-same b e = ap (λ (i : ℕ). record { at = firstFree b; found = i; old = r
 module _ (h : Head) (v : Sight) (e : Event) where
   abbrev s : Bool
   s = h .terms .sell
-
-  late-same : Alike (stays Late (endedByTime (flippedHead h))) (stays Late (endedByTime h))
-  unfolding endedByTime
-  late-same = record { answer = refl; head = refl; change = refl }
 
   module _ (f : eventFormed e ≡ true) where
     -- what the other side's auction hears of the mirrored event is what this one hears of the event
@@ -154,7 +154,7 @@ module _ (h : Head) (v : Sight) (e : Event) where
     unfolding turnOf decided
     turn-formed =
         alike-by _ _ _ _ _ _ (ap (λ (n : ℕ). eqb n 0) number-same)
-        (alike-by _ _ _ _ _ _ (ap (leb (h .terms .interval)) (mirror-time e)) late-same
+        (alike-by _ _ _ _ _ _ (ap (leb (h .terms .interval)) (mirror-time e)) (late-same h)
         (subst (λ (u : Outcome). Alike (carried (flippedHead h) (mirroredEvent e) u) (carried h e decided)) (sym outcome-same) (carried-same decided)))
         (subst (λ (n : ℕ). Alike (stays (No n) (flippedHead h)) (stays (No (eventRefusal h e)) h)) (sym number-same) (stays-same (No (eventRefusal h e)) h))
 

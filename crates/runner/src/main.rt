@@ -1,12 +1,12 @@
-// Reads one tape on standard input and writes its listing on standard output.
+// Reads one tape on standard input and writes its listing on standard output. A read or a write that fails is said on standard error.
+use input::MOST;
 use libc::STDIN_FILENO;
 use libc::STDOUT_FILENO;
 use listing::ROOM;
 ghost use mathlib.Core.Path.{_≡_};
 ghost use lib.ListN.{length};
-
-// One byte more than a tape may have, so that a longer input is refused.
-const MOST: usize = 65537;
+ghost use Rattle.io.specs.Counts.{Counts};
+ghost use Rattle.listing.specs.rules.Listing.{lengthIn, listedOf, bytesOf};
 
 fn tape_buffer() -> [u8; MOST]
     ensures { λ r. ⌜ 65537 ≡ length r ⌝ }
@@ -20,15 +20,30 @@ fn listing_buffer() -> [u8; ROOM]
     [0; ROOM]
 }
 
-// The listing of a tape, in lent bytes, onto standard output.
+// What stands between reading and writing: the tape's listing at the start of the lent bytes, and its length.
+fn answer(tape: &[u8], out: &mut [u8]) -> usize
+    ensures { λ r. ⌜ r ≡ lengthIn (listedOf (now (tape .entry)) (now (out .entry))) ⌝ }
+    ensures { λ _. ⌜ now (out .exit) ≡ bytesOf (now (tape .entry)) (now (out .entry)) ⌝ }
+    ensures { λ r. ⌜ Counts r (now (out .exit)) ⌝ }
+{
+    listing::length_of(listing::listing(tape, out))
+}
+
 fn show(tape: &[u8], out: &mut [u8]) {
-    let n = listing::length_of(listing::listing(tape, out));
-    io::write_all(STDOUT_FILENO, &out[..n]);
+    let n = answer(tape, out);
+    if !io::write_all(STDOUT_FILENO, &out[..n]) {
+        os::fail(b"runner: standard output");
+    }
 }
 
 fn main() {
     let mut tape = tape_buffer();
     let mut out = listing_buffer();
-    let n = io::read_full(STDIN_FILENO, &mut tape);
+    let c = input::read_tape(STDIN_FILENO, &mut tape);
+    if !c.whole {
+        os::fail(b"runner: standard input");
+        return;
+    }
+    let n = c.length;
     show(&tape[..n], &mut out);
 }

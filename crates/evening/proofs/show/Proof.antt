@@ -32,11 +32,23 @@ slice-aggregate-print c = sym (length-take-le (c .before .length-of .result) (c 
 print-requires : tie.Need-print-requires
 print-requires c κs = search needs
 
+stopped-requires : tie.Need-stopped-requires
+stopped-requires c κs = search needs
+
 same-length : tie.Need-same-length
 same-length c = search needs
 
 returns : tie.Need-returns
 returns c = search needs
+
+count-listed-requires : tie.Need-count-listed-requires
+count-listed-requires c κs = search needs
+
+same-length-2 : tie.Need-same-length-2
+same-length-2 c = search needs
+
+returns-2 : tie.Need-returns-2
+returns-2 c = search needs
 
 pub show-spec : {M : Type 1} → statement M
 show-spec =
@@ -47,5 +59,9 @@ show-spec =
     slice-reshare-prefix-print
     slice-aggregate-print
     print-requires
+    stopped-requires
     same-length
-    returns)
+    returns
+    count-listed-requires
+    same-length-2
+    returns-2)

@@ -1,0 +1,2 @@
+-- What the counters of `evening` give.
+pub mod Counting

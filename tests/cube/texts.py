@@ -1,0 +1,106 @@
+"""make, show and check: round trips, and all that can be wrong with a text."""
+import os
+
+from support import LISTING, TEXT, Case, cube, random_tapes, tape_of
+
+ALL = """\
+# every kind and mark
+own bytes=00ff
+order side=sell mode=auto-match-limit size=10 limit=101 stop=104 nbb=100 nbo=110 bb=100 bo=110 time=34200000 open=34200000 close=57600000 interval=100 halted=yes \
+another=yes customer-at-bb=yes customer-at-bo=yes
+gtx sequence=1 time=20 side=buy size=3 price=105 customer=yes
+
+cancel sequence=2 time=30 of=1
+limit sequence=3 time=40 side=buy size=5 price=103 customer=yes nonroutable=yes
+market sequence=4 time=50 side=sell size=4 customer=yes
+quotes sequence=5 time=60 nbb=100 nbo=110 bb=100 bo=110 customer-at-bb=yes customer-at-bo=yes
+record hex=0600000032000000090000000000000000000000000000000000000000000000
+"""
+
+
+class Texts(Case):
+    def test_make_and_show(self):
+        self.write("c.txt", TEXT.encode())
+        tape = tape_of(TEXT)
+        self.ends(cube("make", given=TEXT.encode()), 0, tape)
+        self.ends(cube("make", "-", given=TEXT.encode()), 0, tape)
+        self.ends(cube("make", "c.txt", cwd=self.folder), 0, tape)
+        self.ends(cube("make", "c.txt", "-o", "d.tape", cwd=self.folder), 0, b"")
+        self.ends(cube("make", "-o", "-", "c.txt", cwd=self.folder), 0, tape)
+        self.ends(cube("show", "d.tape", cwd=self.folder), 0, TEXT)
+        self.ends(cube("show", given=tape), 0, TEXT)
+        self.ends(cube("show", "-", given=tape), 0, TEXT)
+
+    def test_every_kind_and_mark(self):
+        made = cube("make", given=ALL.encode())
+        self.ends(made, 0)
+        kept = "".join(line + "\n" for line in ALL.splitlines() if line and not line.startswith("#"))
+        self.ends(cube("show", given=made.stdout), 0, kept)
+
+    def test_round_trips(self):
+        """Each random tape that opens comes back whole from its text, by the modules that cube runs; some of them by cube itself."""
+        from cube import form
+        tapes, shown = random_tapes(3000, 11), 0
+        for k, tape in enumerate(tapes):
+            try:
+                text = form.show(tape)
+            except form.Wrong:
+                continue
+            self.assertEqual(form.make(text), tape)
+            if k % 200 == 0:
+                self.ends(cube("show", given=tape), 0, text)
+                self.ends(cube("make", given=text.encode()), 0, tape)
+            shown += 1
+        self.assertGreater(shown, 2500)
+
+    def wrong(self, text, *sentences):
+        """make names the first, check all of them; nothing is made."""
+        made = cube("make", given=text.encode("utf-8", "surrogateescape"))
+        self.ends(made, 1, b"", "cube: " + sentences[0] + "\n")
+        checked = cube("check", given=text.encode("utf-8", "surrogateescape"))
+        self.ends(checked, 1)
+        self.assertEqual(checked.stdout.decode().splitlines()[:-1], list(sentences))
+
+    def test_wrong_texts(self):
+        order, gtx = TEXT.splitlines()[:2]
+        self.wrong("", "there is no order: a line that begins with order")
+        self.wrong(gtx + "\n" + order, "line 1: the order stands before the events: a line that begins with order")
+        self.wrong(order + "\n" + order, "line 2: there is one order, and it stands before the events")
+        self.wrong(TEXT.replace("size=3", "size=three", 1), "line 2: size=three is not a number from 0 to 4294967295")
+        self.wrong(TEXT.replace("size=3", "size=4294967296", 1), "line 2: size=4294967296 is not a number from 0 to 4294967295")
+        self.wrong(TEXT.replace("size=3", "size=-3", 1), "line 2: size=-3 is not a number from 0 to 4294967295")
+        self.wrong(TEXT.replace("size=3", "size=\u0663", 1), "line 2: size=\u0663 is not a number from 0 to 4294967295")
+        self.wrong(TEXT.replace("size=3", "size=" + "9" * 9000, 1), "line 2: size=%s.. is not a number from 0 to 4294967295" % ("9" * 40))
+        self.wrong(TEXT.replace("side=buy", "side=both"), "line 1: side=both is none of buy, sell")
+        self.wrong(TEXT.replace(" size=10", ""), "line 1: size is missing")
+        self.wrong(order + "\n" + gtx + " price=1 colour=red fish", "line 2: price stands twice", "line 2: 'fish' is not key=value", "line 2: colour does not belong here")
+        self.wrong(order + "\ngtx\noops a=1\nrecord hex=00\nown bytes=00", "line 2: sequence is missing", "line 2: time is missing", "line 2: side is missing", "line 2: size is missing",
+                   "line 2: price is missing", "line 3: 'oops' is none of gtx, cancel, limit, market, quotes, record", "line 4: a record here has 32 bytes, and this has 1",
+                   "line 5: the recorder's own bytes stand first, and once")
+        self.wrong(order + " halted=no", "line 1: halted=no: a mark is yes or left out")
+        self.wrong(order.replace("auto-match", "stop"), "line 1: stop is missing")
+        self.wrong("own bytes=xx\n" + order, "line 1: bytes=xx is not hex")
+        self.wrong(order + "\n" + (gtx + "\n") * 2046, "the tape would have 65552 bytes, and may have 65,536")
+        self.wrong("\udcff\udcfe", "line 1: the order stands before the events: a line that begins with order", "there is no order: a line that begins with order")
+
+    def test_check_says_what_the_engine_refuses(self):
+        made = cube("check", given=("# c\n" + TEXT).encode())
+        self.ends(made, 0, "line 4: the engine refuses event 1 by 33: sequence not above the highest taken (0 before any)\n"
+                           "a tape of 144 bytes can be made: an order and 2 events\n")
+        made = cube("check", given=TEXT.replace("halted", "").replace("interval=100", "interval=100 halted=yes").encode())
+        self.ends(made, 0, "line 1: the engine refuses the order by 6: halted, (b)(10)\na tape of 144 bytes can be made: an order and 2 events\n")
+        self.write("c.txt", TEXT.splitlines()[0].encode())
+        self.ends(cube("check", "c.txt", cwd=self.folder), 0, "a tape of 80 bytes can be made: an order and 0 events\n")
+        self.assertEqual(sorted(os.listdir(self.folder)), ["c.tape", "c.txt"])
+
+    def test_show_of_no_tape(self):
+        tape = tape_of(TEXT)
+        self.ends(cube("show", given=b""), 1, b"", "cube: 21: a tape has 16 to 65,536 bytes, and this has 0")
+        self.ends(cube("show", given=tape[:-1] + b"x"), 1, b"", "cube: 22: ")
+        self.ends(cube("show", given=b"x" + tape), 1, b"", "cube: 23: ")
+        self.ends(cube("show", "nowhere", cwd=self.folder), 1, b"", "cube: nowhere: No such file or directory")
+        self.ends(cube("make", "nowhere", cwd=self.folder), 1, b"", "cube: nowhere: No such file or directory")
+
+    def test_a_listing_at_once(self):
+        made = cube("make", given=TEXT.encode())
+        self.ends(cube("list", given=made.stdout), 0, LISTING)

@@ -1,0 +1,114 @@
+"""A listing taken apart for presentation: its lines as a row of fields. Nothing here decides what an auction answers."""
+import json
+import os
+
+from . import reasons
+
+KEYS = ["name", "refused", "ending", "low", "high", "events_taken", "events_refused", "contra", "others", "average", "total"]
+
+
+class Unreadable:
+    """What is listed of a file that can't be read, and why."""
+
+    def __init__(self, name, why):
+        self.name, self.why = name, why
+
+    @classmethod
+    def by_number(cls, name, number):
+        return cls(name, os.strerror(number) if number else "a read failed")
+
+    def lines(self):
+        return ["UNREADABLE %s: %s" % (self.name, self.why)]
+
+
+class Listing:
+    """What the engine said of a tape."""
+
+    def __init__(self, name, text):
+        self.name, self.text = name, text
+
+    def lines(self):
+        return self.text.decode("ascii").splitlines()
+
+
+def scaled(price_times_quantity, quantity):
+    """An average in ten thousandths of a cent, to the nearest."""
+    return (2 * 10000 * price_times_quantity + quantity) // (2 * quantity)
+
+
+def decimals(n):
+    """Ten thousandths as a number with four decimals."""
+    return "%s%d.%04d" % ("-" if n < 0 else "", abs(n) // 10000, abs(n) % 10000)
+
+
+def row(listed):
+    """The fields of a listing; None where one does not apply. The average is in ten thousandths of a cent."""
+    found = dict.fromkeys(KEYS)
+    found["name"] = listed.name
+    if isinstance(listed, Unreadable):
+        found["refused"] = "unreadable"
+        return found
+    text = listed.text
+    if text.startswith(b"REFUSED "):
+        found["refused"] = int(text[8:])
+        return found
+    # the lines before END are the auction's and its events'; after it come fills and their total
+    at = text.index(b"\nEND ") + 1
+    end, *fills, total = [line.split(b" ") for line in text[at:].splitlines()]
+    found["ending"], found["low"], found["high"] = end[1].decode(), int(end[3]), int(end[5])
+    found["events_taken"], found["events_refused"] = text.count(b" taken\n", 0, at), text.count(b" refused ", 0, at)
+    fills = [(party, int(price), int(quantity)) for _, party, price, quantity in fills]
+    found["contra"] = sum(q for party, _, q in fills if party == b"contra")
+    found["others"] = sum(q for party, _, q in fills if party != b"contra")
+    found["total"] = int(total[1])
+    if found["total"]:
+        found["average"] = scaled(sum(p * q for _, p, q in fills), found["total"])
+    return found
+
+
+# the fields that are held in ten thousandths
+FRACTIONS = ("average", "improvement")
+
+
+def quoted(text):
+    """A field of csv: quoted where it has to be."""
+    return '"%s"' % text.replace('"', '""') if any(c in text for c in ',"\r\n') else text
+
+
+def csv_line(values):
+    return ",".join(values) + "\n"
+
+
+def cell(found, key):
+    """A field as it is printed: nothing where it does not apply."""
+    value = found[key]
+    return "" if value is None else decimals(value) if key in FRACTIONS else str(value)
+
+
+def csv_row(found, keys):
+    return csv_line([quoted(cell(found, k)) if k == "name" else cell(found, k) for k in keys])
+
+
+def json_row(found, keys, **more):
+    """One JSON object: what does not apply is null."""
+    values = {k: found[k] / 10000 if k in FRACTIONS and found[k] is not None else found[k] for k in keys}
+    values.update(more)
+    return json.dumps(values) + "\n"
+
+
+def refusal(line):
+    """The number that a line of a listing refuses by, or None."""
+    words = line.split(" ")
+    if words[0] == "REFUSED":
+        return int(words[1])
+    if words[0] == "EVENT" and words[2] == "refused":
+        return int(words[3])
+    return None
+
+
+def with_reasons(lines):
+    """The lines, each refusal with its condition beside it."""
+    width = max(len(line) for line in lines)
+    for line in lines:
+        number = None if line.startswith("UNREADABLE") else refusal(line)
+        yield line if number is None else "%-*s  %s" % (min(width, 40), line, reasons.condition(number))

@@ -1,0 +1,43 @@
+"""The numbers for "no": of what each is said, document 01's condition, and what it means to a desk.
+
+One row for each number, in document 01's order of tests; a new number is a new row.
+"""
+REASONS = {
+    21: ("tape", "tape under 16 or over 65,536 bytes", "The file is no tape: it is too short or too long to be one."),
+    22: ("tape", "trailer's first word or last word wrong", "The last 16 bytes are not a trailer: it does not begin with CUBT, or does not end with zero."),
+    23: ("tape", "lengths don't add up", "The trailer's offset and event count do not give the tape's length: bytes are missing, or there are too many."),
+    1: ("order", "an order field outside its stated form (size 0 is 3)", "Some field of the order has a value that no order may have: a side, a mode, a mark, a price, a size or a time."),
+    2: ("order", "BB > NBB or BO < NBO", "The exchange's own quote is better than the national best, which can't be."),
+    3: ("order", "size 0, (b)(8)", "The order is for no contract."),
+    4: ("order", "time < open, (b)(4)", "The order came before the market opened."),
+    5: ("order", "time + 1,000 >= close, (b)(5)", "The order came in the last second before the close, or after it."),
+    6: ("order", "halted, (b)(10)", "Trading in the series was halted."),
+    7: ("order", "another auction open, (c)", "Another auction in the series was under way."),
+    8: ("order", "NBB >= NBO, (b)(9)", "The national market was locked or crossed."),
+    9: ("order", "size < 50 and BO - BB = 1, (b)(6)(A)", "The order is under 50 contracts and the exchange's market is one cent wide: there is no price to improve to."),
+    10: ("order", "limit < lower bound, (b)(2)", "The order's limit is outside the range of prices that the auction may trade at."),
+    11: ("order", "stop or auto-match limit > initiating price, (c)(1)", "The Contra Order's stop, or its auto-match limit, is worse than the price at which the auction would begin."),
+    12: ("order", "size < 50, NBO - NBB = 1, and the guaranteed price isn't NBO - 1, (b)(6)(B)", "Under 50 contracts, where the national market is one cent wide, the guaranteed price must improve on it by that cent."),
+    31: ("event", "the auction has ended", "The record came after the auction's end."),
+    32: ("event", "event outside its stated form", "Some field of the record has a value that no event of its kind may have, or there is no such kind."),
+    33: ("event", "sequence not above the highest taken (0 before any)", "The record was sent again, or out of its order: only rising sequences are taken."),
+    34: ("event", "time below that of the last event taken", "The record's time runs backwards."),
+    35: ("event", "GTX on the CUBE order's side", "A response has to be on the other side of the order."),
+    36: ("event", "GTX above the initiating price", "The response's price is worse than the price at which the auction began."),
+    37: ("event", "cancel names no live GTX", "There is no such response to cancel: it never stood, or was cancelled before."),
+    38: ("event", "a response has to be placed and all 64 places are live", "Sixty-four responses stand already."),
+    24: ("record", "lent bytes too short for the record (writers: after 1 or 32; readers: first)", "A program lent too few bytes for a record. No listing of a tape shows this."),
+    39: ("fills", "fewer than 390 words from the start place, or a start past the end", "A program lent too few words for the fills. No listing of a tape shows this."),
+    40: ("fills", "fills asked for before the ending (before 39)", "A program asked for the fills of an auction that is still open. No listing of a tape shows this."),
+}
+
+
+def condition(number):
+    """Document 01's condition, or that the number is none of its."""
+    return REASONS[number][1] if number in REASONS else "no number of document 01"
+
+
+def line(number):
+    """A number in words: of what it is said, the condition, and its meaning."""
+    of, when, meaning = REASONS[number]
+    return "%d  (%s) %s\n    %s\n" % (number, of, when, meaning)

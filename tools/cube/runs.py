@@ -1,0 +1,119 @@
+"""Runs of the proved programs: one tape through `runner`, many through `evening`, a trace through `desk`."""
+import errno
+import os
+import re
+import subprocess
+
+from .files import in_memory
+from .listing import Listing, Unreadable
+from .trouble import Trouble
+
+COUNTS = ["tapes", "refused", "time", "same", "opposite", "improve", "unreadable"]
+SUMMARY = "tapes %d, refused %d, ended by time %d, by same %d, by opposite %d, by improve %d, unreadable %d"
+SUMMARY_LINE = re.compile(SUMMARY.replace("%d", r"(\d+)").encode() + rb"\n\Z")
+PATH_MAX = 4096
+
+
+def ended(program, process, said):
+    """Why a program did not do its work."""
+    said = said.decode("utf-8", "replace").strip()
+    if process.returncode < 0:
+        return "%s was ended by signal %d%s" % (program, -process.returncode, ": " + said if said else "")
+    return said or "%s ended with status %d and said nothing" % (program, process.returncode)
+
+
+def finish(process, given=None):
+    """What a program wrote and said; it does not outlive a failure here."""
+    try:
+        return process.communicate(given)
+    except BaseException:
+        process.kill()
+        process.wait()
+        raise
+
+
+def one(engine, name, stdin=subprocess.PIPE, tape=None):
+    """The listing of one tape, given as bytes or as an open file."""
+    process = engine.start("runner", stdin=stdin)
+    text, said = finish(process, tape)
+    if said.startswith(b"runner: standard input: "):
+        return Unreadable(name, said.split(b": ", 2)[2].decode("utf-8", "replace").strip())
+    if said or process.returncode != 0 or not text:
+        raise Trouble(ended("runner", process, said))
+    return Listing(name, text)
+
+
+def trace(engine, tape):
+    """The lines of `desk trace`."""
+    process = engine.start("desk", ["trace"])
+    text, said = finish(process, tape)
+    if said or process.returncode != 0 or not text:
+        raise Trouble(ended("desk", process, said))
+    return text.decode("ascii").splitlines()
+
+
+def fault(name):
+    """Why no file can have such a name, or 0: `evening` is not asked about it then."""
+    if b"\0" in name:
+        return errno.EINVAL
+    return errno.ENAMETOOLONG if len(name) >= PATH_MAX else 0
+
+
+class Evening:
+    """One run of `evening` over a block of names: what it wrote, and its counts."""
+
+    def __init__(self, engine, names):
+        self.names = self.sent = names
+        given = b"\0".join(names) + b"\0"
+        if given.count(b"\0") != len(names) or max(map(len, names)) >= PATH_MAX:
+            self.sent = [b"" if fault(n) else n for n in names]
+            given = b"\0".join(self.sent) + b"\0"
+        with in_memory(given) as stdin, in_memory() as stdout:
+            process = engine.start("evening", ["-0"], stdin=stdin, stdout=stdout)
+            _, said = finish(process)
+            stdout.seek(0)
+            self.text = stdout.read()
+        summary = SUMMARY_LINE.search(said)
+        if process.returncode != 0 or not summary:
+            raise Trouble(ended("evening", process, said))
+        self.counts = [int(n) for n in summary.groups()]
+
+    def is_plain(self):
+        """Every name was listed: what was written can go out as it is."""
+        return self.counts[-1] == 0
+
+    def __iter__(self):
+        """What is listed of each name, in order. A name may hold anything, so each is stepped over by its own length."""
+        at = 0
+        for name, sent in zip(self.names, self.sent):
+            at += len(b"TAPE " + sent + b"\n")
+            printed = os.fsdecode(name)
+            if self.text.startswith(b"UNREADABLE ", at):
+                number = self.text[at + 11:self.text.index(b" ", at + 11)]
+                end = at + len(b"UNREADABLE " + number + b" " + sent + b"\n")
+                yield Unreadable.by_number(printed, fault(name) or int(number))
+            else:
+                last = at if self.text.startswith(b"REFUSED ", at) else self.text.index(b"\nTOTAL ", at) + 1
+                end = self.text.index(b"\n", last) + 1
+                yield Listing(printed, self.text[at:end])
+            at = end
+
+
+class One:
+    """A block of one tape, that on standard input."""
+
+    def __init__(self, engine):
+        self.listed = one(engine, "-", stdin=0)
+        words = [] if isinstance(self.listed, Unreadable) else self.listed.lines()
+        end = next((w.split()[1] for w in words if w.startswith("END ")), "refused" if words else "unreadable")
+        self.counts = [1] + [int(key == end) for key in COUNTS[1:]]
+
+    def is_plain(self):
+        return False
+
+    def __iter__(self):
+        yield self.listed
+
+
+def run_block(engine, block):
+    return One(engine) if block == "-" else Evening(engine, block)
