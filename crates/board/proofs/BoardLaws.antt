@@ -1,4 +1,4 @@
--- Laws of placing, clearing and finding on a board. Assumes nothing.
+-- Laws of seating, clearing and finding on a board. Assumes nothing.
 use mathlib.Core.Path.{_≡_, refl, sym, ap, _∙_}
 use mathlib.Core.Bool.{true, false, true≢false}
 use mathlib.Core.List.{[]}
@@ -13,8 +13,8 @@ use Rattle.words.specs.rules.Bits.{bitAt, withBit, withoutBit, onesIn}
 use Rattle.base.proofs.Numbers.{le-or-lt}
 use Rattle.words.proofs.BitLaws.{past-bit, with-same, with-other, with-ones, with-fits, with-clear, without-same, without-ones, without-le, without-clear, clear-is, clear-least}
 use Rattle.base.specs.Lists.{Inserts}
-use Rattle.board.specs.rules.Board.{noResponse, responseAt, emptyBoard, isLive, liveCount, firstFree, liveIn, liveOf, seatedAt, placed, cleared, isGtx, findGtx}
-use Rattle.board.specs.promises.Board.{Good, Seating, Placing, Clearing, GtxAt}
+use Rattle.board.specs.rules.Board.{noResponse, responseAt, emptyBoard, isLive, liveCount, firstFree, liveIn, liveOf, seatedAt, cleared, isGtx, findGtx}
+use Rattle.board.specs.promises.Board.{Good, Seating, LowestFree, Clearing, GtxAt}
 use Rattle.board.specs.declared.Response.{Response}
 use Rattle.board.specs.declared.Board.{Board}
 use Rattle.base.proofs.ListLaws.{inserts-sum}
@@ -91,26 +91,10 @@ seated-good b i r g =
     }))
     (le-or-lt 64 i)
 
--- ---- placing: at the lowest free place
-placed-is : (b : Board) (r : Response) → placed b r ≡ seatedAt b (firstFree b) r
-unfolding placed
-placed-is b r = refl
+-- ---- the lowest free place
 
-pub placing : (b : Board) (r : Response) → Good b → firstFree b < 64 → Placing b r
-placing b r g h =
-    let free : isLive b (firstFree b) ≡ false = clear-is 64 (b .live) h in
-    record {
-      free = free;
-      lowest = λ j l. clear-least 64 (b .live) j l;
-      seats = placed-is b r;
-      adds = rw (placed-is b r) (seating b (firstFree b) r g h free .adds);
-    }
-
-pub placed-full : (b : Board) (r : Response) → 64 ≤ firstFree b → placed b r ≡ b
-placed-full b r h = placed-is b r ∙ seated-past b (firstFree b) r h
-
-pub placed-good : (b : Board) (r : Response) → Good b → Good (placed b r)
-placed-good b r g = rw (placed-is b r) (seated-good b (firstFree b) r g)
+pub lowest-free : (b : Board) → firstFree b < 64 → LowestFree b
+lowest-free b h = record { free = clear-is 64 (b .live) h; lowest = λ j l. clear-least 64 (b .live) j l }
 
 -- ---- clearing
 pub clearing : (b : Board) (i : ℕ) → Good b → isLive b i ≡ true → Clearing b i

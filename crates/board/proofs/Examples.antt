@@ -6,7 +6,7 @@ use Prim.Native.Nat.{ℕ, zero, suc}
 use lib.ListN.{replicate}
 use Rattle.words.specs.rules.Bits.{withBit, withoutBit, onesIn, clearIn}
 use Rattle.base.specs.Lists.{sum}
-use Rattle.board.specs.rules.Board.{noResponse, emptyBoard, liveCount, firstFree, liveIn, liveOf, wordOf, seatedAt, placed, cleared, findIn, findGtx, inserted, inSequence, lowestFrom, firstInSequence}
+use Rattle.board.specs.rules.Board.{noResponse, emptyBoard, liveCount, firstFree, liveIn, liveOf, wordOf, seatedAt, cleared, findIn, findGtx, inserted, inSequence, lowestFrom, firstInSequence}
 use Rattle.board.specs.declared.Response.{Response}
 use Rattle.board.specs.declared.Board.{Board}
 
@@ -40,13 +40,17 @@ live : sequences (liveOf some) ≡ 9 ∷ 7 ∷ 12 ∷ 7 ∷ []
 unfolding liveIn
 live = refl
 
+-- at the lowest free place
+placed : Board → Response → Board
+placed b r = seatedAt b (firstFree b) r
+
 -- the lowest free place is taken, and what stood there is gone
 place-one : sequences (liveOf (placed some (gtx 20 5))) ≡ 9 ∷ 20 ∷ 7 ∷ 12 ∷ 7 ∷ []
-unfolding placed liveIn clearIn withBit
+unfolding placed seatedAt liveIn clearIn withBit
 place-one = refl
 
 place-two : firstFree (placed some (gtx 20 5)) ≡ 4
-unfolding placed clearIn withBit
+unfolding placed seatedAt clearIn withBit
 place-two = refl
 
 -- any place may be named; at one past the end nothing happens
@@ -112,22 +116,22 @@ placings zero b = b
 placings (suc n) b = placings n (placed b (gtx n 2))
 
 full : liveCount (placings 64 emptyBoard) ≡ 64
-unfolding placings emptyBoard placed clearIn withBit onesIn
+unfolding placings emptyBoard placed seatedAt clearIn withBit onesIn
 full = refl
 
 no-room : placed (placings 64 emptyBoard) (gtx 99 2) ≡ placings 64 emptyBoard
-unfolding placings emptyBoard placed clearIn withBit
+unfolding placings emptyBoard placed seatedAt clearIn withBit
 no-room = refl
 
 all-sizes : sum (map (λ (r : Response). r .size) (inSequence (liveOf (placings 64 emptyBoard)))) ≡ 128
-unfolding placings emptyBoard placed clearIn withBit liveIn inserted inSequence sum
+unfolding placings emptyBoard placed seatedAt clearIn withBit liveIn inserted inSequence sum
 all-sizes = refl
 
 last-is-first : firstInSequence (placings 64 emptyBoard .places) (placings 64 emptyBoard .live) ≡ 63
-unfolding placings emptyBoard placed clearIn withBit findIn liveIn lowestFrom
+unfolding placings emptyBoard placed seatedAt clearIn withBit findIn liveIn lowestFrom
 last-is-first = refl
 
 -- a cleared place is the next one taken
 reused : firstFree (cleared (placings 64 emptyBoard) 17) ≡ 17
-unfolding placings emptyBoard placed clearIn withBit withoutBit
+unfolding placings emptyBoard placed seatedAt clearIn withBit withoutBit
 reused = refl

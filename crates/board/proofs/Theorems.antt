@@ -1,7 +1,7 @@
 -- The statements of specs/promises/Board.antt, proved. Assumes nothing.
 use Rattle.words.proofs.BitLaws.{without-other, ones-clear, clear-ones}
 use Rattle.board.specs.promises.Board.{Changes, Seen, Finding, Ordering}
-use Rattle.board.proofs.BoardLaws.{seating, seated-past, seated-good, placing, placed-full, placed-good, clearing, cleared-dead, cleared-good, empty-good, empty-live, live-count, unseen-live, unseen-find, find-gtx, gtx-found, no-gtx}
+use Rattle.board.proofs.BoardLaws.{seating, seated-past, seated-good, lowest-free, clearing, cleared-dead, cleared-good, empty-good, empty-live, live-count, unseen-live, unseen-find, find-gtx, gtx-found, no-gtx}
 use Rattle.base.proofs.ListLaws.{shuffles-length, shuffles-sum}
 use Rattle.board.proofs.LiveLaws.{word-filters}
 use Rattle.board.proofs.SequenceLaws.{sequence-shuffles, sequence-rises, sequence-stable, sequence-filter}
@@ -10,15 +10,13 @@ use Rattle.board.proofs.FirstLaws.{first-earliest, earliest-first, some
 pub changes : Changes
 changes = record {
   seats = seating;
-  places = placing;
+  lowest = lowest-free;
   clears = clearing;
   past = seated-past;
-  full = placed-full;
   dead = cleared-dead;
   others = λ b i j n. without-other (b .live) i j n;
   good-empty = empty-good;
   good-seated = seated-good;
-  good-placed = placed-good;
   good-cleared = cleared-good;
 }
 

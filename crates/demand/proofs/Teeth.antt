@@ -1,4 +1,4 @@
--- That `Sound` can be met, and that `Demand3` refuses wrong listings.
+-- That `Tradable` can be met, and that `Demand3` refuses wrong listings.
 use mathlib.Core.Path.{refl, ap}
 use mathlib.Core.Bool.{true, false}
 use mathlib.Core.List.{[], _∷_}
@@ -26,9 +26,9 @@ terms = deal false 100 1 110 100 108
 abbrev three : Board
 three = board (gtx 1 31 108 ∷ gtx 2 30 108 ∷ gtx 3 30 108 ∷ [])
 
-sound : Tradable terms three
+tradable : Tradable terms three
 unfolding liveIn
-sound =
+tradable =
     record {
       bound-below = lit≤ tt;
       stop-below = lit≤ tt;
@@ -40,7 +40,7 @@ sound =
     }
 
 pub holds : Demand3 terms three (fills terms (offers three))
-holds = demand3 terms three sound
+holds = demand3 terms three tradable
 
 abbrev fill : ℕ → ℕ → ℕ → Fill
 fill k p q = record { party = k; price = p; quantity = q }

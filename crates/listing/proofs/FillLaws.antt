@@ -49,14 +49,14 @@ pub record Reported (a : Auction) (n : ℕ) (ws : List ℕ) : Type 0 where
   pub long : length ws ≡ 390
   pub fills : fillsIn n ws ≡ auctionFills a
 
-pub reported : (a : Auction) (xs : List ℕ) (n : ℕ) (ws : List ℕ) → hasEnded a ≡ true → length (a .board .places) ≡ 64 → length xs ≡ 390
+pub reported : (a : Auction) (xs : List ℕ) (n : ℕ) (ws : List ℕ) → hasEnded (a .head) ≡ true → length (a .board .places) ≡ 64 → length xs ≡ 390
     → n ≡ countIn (fillsAnswer a xs 0) → ws ≡ fillsAfter a xs 0 → Reported a n ws
 reported a xs n ws e l r en ew =
     let fs : List Fill = auctionFills a in
     let rest : List ℕ = drop (0 + 3 * length fs) xs in
-    let few : length fs ≤ 130 = fills-few (dealOf a) (a .board) l in
-    let count : n ≡ length fs = en ∙ ap countIn (sym (counted (hasEnded a) (dealOf a) (a .board) xs 0 e (omega arith) (omega arith) (length fs) refl)) in
-    let are : ws ≡ words fs ++ rest = ew ∙ sym (words-after (hasEnded a) (dealOf a) (a .board) xs 0 e (omega arith) (omega arith)) in
+    let few : length fs ≤ 130 = fills-few (dealOf (a .head)) (a .board) l in
+    let count : n ≡ length fs = en ∙ ap countIn (sym (counted (hasEnded (a .head)) (dealOf (a .head)) (a .board) xs 0 e (omega arith) (omega arith) (length fs) refl)) in
+    let are : ws ≡ words fs ++ rest = ew ∙ sym (words-after (hasEnded (a .head)) (dealOf (a .head)) (a .board) xs 0 e (omega arith) (omega arith)) in
     record {
       few = omega arith;
       long = ap length are ∙ length-append (words fs) rest ∙ omega (arith, length-words fs, length-drop (0 + 3 * length fs) xs);

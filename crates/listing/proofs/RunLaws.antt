@@ -1,11 +1,16 @@
 -- Laws of the loop over a tape's events.
 use mathlib.Core.Path.{_≡_, refl, sym, ap, ap₂, _∙_}
-use mathlib.Core.Bool.{Bool, false, not}
+use mathlib.Core.Bool.{Bool, true, false, cond, not}
 use mathlib.Core.List.{List, [], _∷_, _++_}
 use Prim.Native.Nat.{ℕ, zero, suc, _+_, _-_, _≤_, _<_}
 use native.Mathlib.Nat.{sub-zero}
 use native.Mathlib.Omega.{arith}
+use borrow.Author.Tests.{lt-ltb, le-ltb}
+use lib.ListN.{set}
+use Rattle.words.specs.rules.Bits.{withBit, withoutBit}
+use Rattle.board.specs.rules.Board.{seatedAt}
 use Rattle.board.specs.declared.Board.{Board}
+use Rattle.board.specs.declared.Response.{Response}
 use Rattle.tape.specs.declared.event.Event.{Event}
 use Rattle.tape.specs.declared.trailer.Trailer.{Trailer}
 use Rattle.tape.specs.declared.trailer.Opened.the-variants.{Tape}
@@ -16,7 +21,11 @@ use Rattle.auction.specs.declared.Auction.{Auction}
 use Rattle.auction.specs.declared.Head.{Head}
 use Rattle.events.specs.declared.Stepped.{Stepped}
 use Rattle.events.specs.declared.Turn.{Turn}
-use Rattle.events.specs.rules.Step.{sightOf, boardAfter, turnOf, gives, stepOf}
+use Rattle.events.specs.declared.Change.{Change}
+use Rattle.events.specs.declared.Change.the-variants.{Seat, Free}
+use Rattle.events.specs.declared.Answer.the-variants.{Late, Refused}
+use Rattle.events.specs.rules.Step.{sightOf, boardAfter, stays, endedByTime, turnOf, closeTurn, gives, seatedOn, stepOf}
+use Rattle.auction.specs.rules.Range.{isOpen}
 use Rattle.fills.specs.rules.Fills.{hasEnded}
 use Rattle.run.specs.rules.Run.{run, said, heard, closed}
 use Rattle.run.proofs.SoundLaws as Runs
@@ -42,6 +51,32 @@ closed-ended a = ap not (Runs.closed-ended a)
 -- a head and a board, as an auction
 abbrev pub whole : Head → Board → Auction
 whole h b = record { head = h; board = b }
+
+-- closing leaves the board
+pub closed-whole : (h : Head) (b : Board) (u : Turn) → u ≡ closeTurn h → whole (u .head) b ≡ closed (whole h b)
+unfolding closeTurn
+closed-whole h b u e = ap (λ (v : Turn). whole (v .head) b) e ∙ go (isOpen (h .ending))
+  where
+    go : (t : Bool) → whole (cond t (stays Late (endedByTime h)) (stays (Refused 31) h) .head) b ≡ seatedOn b (cond t (stays Late (endedByTime h)) (stays (Refused 31) h)) .auction
+    go true = refl
+    go false = refl
+
+-- ---- a change, seated on the loop's own board
+
+module _ (b after : Board) (c : Change) where
+  pub seat-set : (i : ℕ) (r : Response) (w : ℕ) → c ≡ Seat i r → i < 64 → w ≡ withBit (b .live) i → after ≡ record { places = set (b .places) i r; live = w } → after ≡ boardAfter b c
+  unfolding seatedAt
+  seat-set i r w e l z f = f ∙ simp (z, e, lt-ltb _ _ l)
+
+  pub seat-past : (i : ℕ) (r : Response) → c ≡ Seat i r → 64 ≤ i → after ≡ b → after ≡ boardAfter b c
+  unfolding seatedAt
+  seat-past i r e l f = f ∙ simp (e, le-ltb _ _ l)
+
+  pub seat-free : (i w : ℕ) → c ≡ Free i → w ≡ withoutBit (b .live) i → after ≡ record { places = b .places; live = w } → after ≡ boardAfter b c
+  seat-free i w e z f = f ∙ simp (z, e)
+
+  pub seat-none : (d : Change) → c ≡ d → boardAfter b d ≡ b → after ≡ b → after ≡ boardAfter b c
+  seat-none d e k f = f ∙ sym k ∙ ap (boardAfter b) (sym e)
 
 module _ (s : List ℕ) (t : Trailer) where
   abbrev pub rest : ℕ → List Event

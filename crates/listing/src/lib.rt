@@ -70,7 +70,8 @@ fn put_events(tape: &[u8], t: Trailer, a: Auction, out: &mut [u8], start: usize)
     let mut k = 0;
     while k < n {
         let e = tape::record_in(tape, t, k);
-        let u = turns::turn(h, turns::sight(b, e), e);
+        let v = turns::sight(b, e);
+        let u = turns::turn(h, v, e);
         let answer = u.answer;
         w = put_event(out, w, e.sequence, answer);
         let c = u.change;
@@ -91,13 +92,11 @@ fn put_events(tape: &[u8], t: Trailer, a: Auction, out: &mut [u8], start: usize)
         h = u.head;
         k += 1;
     }
-    let c = turns::close_turn(h);
+    let last = turns::close_turn(h);
+    let head = last.head;
     Heard {
         next: w,
-        auction: Auction {
-            head: c.head,
-            board: b,
-        },
+        auction: Auction { head, board: b },
     }
 }
 
@@ -116,7 +115,8 @@ fn list_auction(tape: &[u8], t: Trailer, a: Auction, out: &mut [u8]) -> Listed
     requires { ⌜ (t .events ≤ 2045) × (roomOf ≤ length (now out)) ⌝ }
     ensures { λ r. ⌜ Lists (runEntry (recordsOf (now (tape .entry)) t) a Entry.Accepted) (now (out .entry)) r (now (out .exit)) ⌝ }
 {
-    let w = put_auction(out, 0, a.head);
+    let opened = a.head;
+    let w = put_auction(out, 0, opened);
     let h = put_events(tape, t, a, out, w);
     let last = h.auction;
     let n = put_results(out, h.next, last);

@@ -63,7 +63,8 @@ pub(crate) fn put_results(out: &mut [u8], at: usize, a: Auction) -> usize
 {
     let mut words = [0u32; 390];
     let n = count_of(write_fills(a, &mut words, 0));
-    let end = put_end(out, at, a.head);
+    let h = a.head;
+    let end = put_end(out, at, h);
     let w = put_fills(out, end, &words, n);
     put_total(out, w, sum_of(&words, n))
 }

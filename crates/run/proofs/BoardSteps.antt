@@ -17,7 +17,8 @@ use Rattle.board.proofs.BoardLaws.{seating, clearing, cleared-dead, find-gtx}
 use Rattle.words.proofs.BitLaws.{clear-is}
 use Rattle.tape.specs.declared.event.Event.{Event}
 use Rattle.demand.specs.promises.Demands.{Absent, Distinct}
-use Rattle.events.specs.rules.Step.{nameOf, isCancel, sightOf}
+use Rattle.tape.specs.rules.Fields.{nameOf}
+use Rattle.events.specs.rules.Step.{isCancel, sightOf}
 use Rattle.run.specs.promises.Demands.{Fits}
 
 -- what an event sees of a board fits it

@@ -19,7 +19,8 @@ use Rattle.demand.specs.promises.Demands.{Distinct}
 use Rattle.mirror.specs.rules.Mirror.{buyOrder, buyEvent}
 use Rattle.auction.specs.rules.Accept.{openedBy, acceptOf}
 use Rattle.auction.specs.rules.Range.{isOpen}
-use Rattle.events.specs.rules.Step.{sizeOf, sightOf, responseOf, boardAfter, headAfter, endedByTime, carried, seatedOn, stepOf}
+use Rattle.tape.specs.rules.Fields.{sizeOf}
+use Rattle.events.specs.rules.Step.{sightOf, responseOf, boardAfter, headAfter, endedByTime, carried, seatedOn, stepOf}
 use Rattle.run.specs.rules.Run.{run, isTaken, takenOf}
 use Rattle.run.specs.promises.Demands.{madeBy, ComesFrom, Sound, Resend}
 use Rattle.auction.specs.declared.Auction.{Auction}

@@ -31,7 +31,8 @@ use Rattle.base.specs.Price.{mirrored}
 use Rattle.mirror.specs.rules.Mirror.{mirroredOrder, buyOrder, buyEvent}
 use Rattle.auction.specs.rules.Accept.{initiatingOf, boundOf, firstBound, termsOf, quotesOf, openedBy, acceptOf}
 use Rattle.auction.specs.rules.Range.{isOpen, boundBy}
-use Rattle.events.specs.rules.Step.{sizeOf, sightOf, responseOf, boardAfter, quotesAfter, marketAfter, headAfter, endedByTime, carried, closeTurn, seatedOn, stepBy, stepOf, closeOf}
+use Rattle.tape.specs.rules.Fields.{sizeOf}
+use Rattle.events.specs.rules.Step.{sightOf, responseOf, boardAfter, quotesAfter, marketAfter, headAfter, endedByTime, carried, closeTurn, seatedOn, stepBy, stepOf, closeOf}
 use Rattle.auction.specs.rules.Range.{word, boundNow, rangeOf}
 use Rattle.fills.specs.rules.Fills.{dealOf, auctionFills}
 use Rattle.run.specs.rules.Run.{run, played}

@@ -16,7 +16,8 @@ use Rattle.auction.specs.declared.Terms.{Terms}
 use Rattle.auction.specs.declared.Quotes.{Quotes}
 use Rattle.auction.specs.declared.Ending.{Ending}
 use Rattle.auction.specs.declared.Ending.the-variants.{Open, Time, Same, Opposite, Improve}
-use Rattle.events.specs.rules.Step.{eventRefusal, isCancel, sizeOf, priceOf, isCustomer, isNonRoutable, responseOf, seats, gtxOutcome, cancelOutcome, sellLimitOutcome, bidQuotes, moves, buyLimitOutcome, limitOutcome, marketOutcome, newQuotes, quotesOutcome, outcomeOf, stays, endedByTime, carried, turnOf}
+use Rattle.events.specs.rules.Step.{eventRefusal, isCancel, isCustomer, isNonRoutable, responseOf, seats, gtxOutcome, cancelOutcome, sellLimitOutcome, bidQuotes, moves, buyLimitOutcome, limitOutcome, marketOutcome, newQuotes, quotesOutcome, outcomeOf, stays, endedByTime, carried, turnOf}
+use Rattle.tape.specs.rules.Fields.{sizeOf, priceOf}
 use Rattle.events.specs.declared.Answer.the-variants.{Late, Refused}
 use Rattle.events.specs.declared.Sight.{Sight}
 use Rattle.events.specs.declared.Turn.{Turn}

@@ -103,7 +103,7 @@ module _ (d : Deal) (rs : List Response) where
   unfolding levelAt
   price-is p left held = refl
 
-  -- any walk, of a sound auction or not: each level below the last price has a response of its own
+  -- any walk: each level below the last price has a response of its own
   pub walk-short : (n from left held : ℕ) → length (flat (walk d rs n from left held)) ≤ 2 * fromOn d rs from + 1
   walk-short zero from left held = rw (walk-zero d rs from left held) (omega arith)
   walk-short (suc n) from left held = go (eqb left 0) (leb from (top d)) refl refl (walk-short n)

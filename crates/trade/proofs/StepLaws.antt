@@ -1,4 +1,4 @@
--- How the code follows the walk: a turn of its loop is a level of the definition. For any deal, sound or not.
+-- How the code follows the walk: a turn of its loop is a level of the definition. for any deal.
 use mathlib.Core.Path.{_≡_, refl, sym, ap, _∙_}
 use mathlib.Core.Bool.{Bool, true, false, cond, not, _&&_, and-false, false≢true, true≢false}
 use mathlib.Core.List.{List, [], _∷_}

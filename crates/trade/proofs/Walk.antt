@@ -1,4 +1,4 @@
--- The walk from price to price, a step at a time: for any deal, sound or not.
+-- The walk from price to price, a step at a time: for any deal.
 use mathlib.Core.Path.{_≡_, refl, sym, _∙_, subst}
 use mathlib.Core.Bool.{Bool, true, false, cond, or-true}
 use mathlib.Core.List.{List, [], _∷_}

@@ -10,7 +10,7 @@ use lib.Dec.{leb, ltb}
 use lib.ListN.{length, getD}
 use lib.Pow.{pow-pos}
 use Rattle.words.specs.rules.Bits.{bitAt, withoutBit, trailingZeros, withoutLowest}
-use Rattle.words.proofs.BitLaws.{no-bit, without-le, without-lowest, lowest-set, without-lt}
+use Rattle.words.proofs.BitLaws.{bit-le, set-is, no-bit, without-le, without-lowest, lowest-set, without-lt}
 use Rattle.board.specs.declared.Response.{Response}
 use Rattle.base.specs.Lists.{Inserts, Shuffles, sum}
 use Rattle.base.specs.Lists.Inserts.{here, there}
@@ -200,6 +200,12 @@ pub unseen-le : (sorted : Bool) (rest : ℕ) → cond sorted 0 (withoutLowest re
 unfolding withoutLowest
 unseen-le true rest = omega arith
 unseen-le false rest = without-le rest (trailingZeros 64 rest)
+
+-- a word with a lowest set bit is not 0
+pub some-set : (w i : ℕ) → i ≡ trailingZeros 64 w → i < 64 → 0 < w
+some-set w i e h =
+    let l : trailingZeros 64 w < 64 = omega arith in
+    omega (arith, bit-le w (trailingZeros 64 w) (set-is 64 w l), pow-pos (trailingZeros 64 w))
 
 -- ---- the search for the lowest sequence: best is the earliest of those looked at, and scan is still to be looked at
 

@@ -109,10 +109,10 @@ pub(crate) fn write_each(
     let mut w = at;
     let mut left = k;
     let mut rest = word;
-    let mut best = bits::first_set(word) as usize;
     let sorted = rising(b, word);
+    let mut best = bits::first_set(word) as usize;
     let mut unseen = unseen_of(sorted, word);
-    while rest != 0 {
+    while best < 64 {
         if unseen != 0 {
             let i = bits::first_set(unseen) as usize;
             best = board::sooner(b.places[best].sequence, best, b.places[i].sequence, i);

@@ -11,7 +11,7 @@ use lib.Seq.{sets, take-suc, drop-cons, length-take-le, getD-append-add}
 use native.Mathlib.Numerals.{add-one}
 use Rattle.base.proofs.Numbers.{le-or-lt}
 use Rattle.base.proofs.SetsLaws.{sets-append, sets-front}
-use Rattle.words.specs.rules.Bytes.{AllBytes, joined, u32Bytes, wordBytes, wordAt, wordsFrom, withWord, withWords}
+use Rattle.words.specs.rules.Bytes.{AllBytes, joined, u32Bytes, wordBytes, wordAt, wordsFrom, withWords}
 
 -- four stores in a row, as code writes their places
 pub sets4 : (s : List ℕ) (i a b c d : ℕ) → set (set (set (set s i a) (i + 1) b) (i + 2) c) (i + 3) d ≡ sets s i (a ∷ b ∷ c ∷ d ∷ [])
@@ -84,14 +84,6 @@ word-in s at h = simp (le-leb (at + 4) (length s) h)
 pub word-out : (s : List ℕ) (at : ℕ) → length s < at + 4 → wordAt s at ≡ 0
 unfolding wordAt
 word-out s at h = simp (lt-leb (at + 4) (length s) h)
-
-pub with-in : (s : List ℕ) (at v : ℕ) → at + 4 ≤ length s → withWord s at v ≡ sets s at (u32Bytes v)
-unfolding withWord
-with-in s at v h = simp (le-leb (at + 4) (length s) h)
-
-pub with-out : (s : List ℕ) (at v : ℕ) → length s < at + 4 → withWord s at v ≡ s
-unfolding withWord
-with-out s at v h = simp (lt-leb (at + 4) (length s) h)
 
 pub row-in : (s : List ℕ) (at : ℕ) (ws : List ℕ) → at + length ws * 4 ≤ length s → withWords s at ws ≡ sets s at (wordBytes ws)
 unfolding withWords

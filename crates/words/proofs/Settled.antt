@@ -33,8 +33,5 @@ join κs a = (tt, λ y z v w p q. (p ∙ sym q, refl))
 pub read-word : Settled contracts.bytes.read_word.ended contracts.bytes.read_word.Reads.Asked contracts.bytes.read_word.Reads.Learnt
 read-word κs a = (tt, λ y z v w p q. (p ∙ sym q, refl))
 
-pub write-word : Settled contracts.bytes.write_word.ended contracts.bytes.write_word.Reads.Asked contracts.bytes.write_word.Reads.Learnt
-write-word κs a = (tt, λ y z v w p q. (refl, ap (λ x. (x, (tt, (tt, tt)))) (p ∙ sym q)))
-
 pub write-words : Settled contracts.bytes.write_words.ended contracts.bytes.write_words.Reads.Asked contracts.bytes.write_words.Reads.Learnt
 write-words κs a = (tt, λ y z v w p q. (refl, ap (λ x. (x, (tt, (tt, tt)))) (p ∙ sym q)))

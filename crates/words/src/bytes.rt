@@ -3,7 +3,7 @@ ghost use mathlib.Core.Path.{_≡_};
 ghost use Prim.Native.Nat.{_+_, _*_, _≤_};
 ghost use lib.ListN.{length};
 ghost use lib.Seq.{sets};
-ghost use Rattle.words.specs.rules.Bytes.{joined, u32Bytes, wordBytes, wordAt, withWord, withWords};
+ghost use Rattle.words.specs.rules.Bytes.{joined, u32Bytes, wordBytes, wordAt, withWords};
 
 // The number that four bytes say.
 pub fn join(a: u8, b: u8, c: u8, d: u8) -> u32
@@ -35,20 +35,6 @@ fn put_word(out: &mut [u8], at: usize, v: u32)
     out[at + 1] = (v / 256 % 256) as u8;
     out[at + 2] = (v / 65536 % 256) as u8;
     out[at + 3] = (v / 16777216 % 256) as u8;
-}
-
-// The word at `at` becomes `v`; nothing changes where the bytes end before it does.
-pub fn write_word(out: &mut [u8], at: usize, v: u32)
-    ensures { λ _. ⌜ now (out .exit) ≡ withWord (now (out .entry)) at v ⌝ }
-{
-    let n = out.len();
-    if n < 4 {
-        return;
-    }
-    if n - 4 < at {
-        return;
-    }
-    put_word(out, at, v);
 }
 
 // A row of words from `at` on, where there is room.

@@ -6,7 +6,7 @@ use Prim.Native.Nat.{ℕ, suc, _+_, _^_, _≤_, _<_}
 use lib.ListN.{length}
 use Rattle.words.specs.rules.Bits.{bitAt, withoutBit}
 use Rattle.base.specs.Lists.{filter, sum, Inserts, Shuffles}
-use Rattle.board.specs.rules.Board.{responseAt, emptyBoard, isLive, liveCount, firstFree, liveIn, liveOf, wordOf, seatedAt, placed, cleared, findGtx, inSequence, bears, firstInSequence}
+use Rattle.board.specs.rules.Board.{responseAt, emptyBoard, isLive, liveCount, firstFree, liveIn, liveOf, wordOf, seatedAt, cleared, findGtx, inSequence, bears, firstInSequence}
 use Rattle.board.specs.declared.Response.{Response}
 use Rattle.board.specs.declared.Board.{Board}
 
@@ -15,7 +15,7 @@ pub record Good (b : Board) : Type 0 where
   pub places-are : length (b .places) ≡ 64
   pub live-fits : b .live < 2 ^ 64
 
--- ---- placing and clearing
+-- ---- seating and clearing
 
 -- a response is seated at a free place
 pub record Seating (b : Board) (i : ℕ) (r : Response) : Type 0 where
@@ -29,14 +29,10 @@ pub record Seating (b : Board) (i : ℕ) (r : Response) : Type 0 where
   -- every other place stays
   pub others : (j : ℕ) → (j ≡ i → ⊥) → (responseAt (seatedAt b i r .places) j ≡ responseAt (b .places) j) × (isLive (seatedAt b i r) j ≡ isLive b j)
 
--- a response is placed where a place is free
-pub record Placing (b : Board) (r : Response) : Type 0 where
-  -- the place was free, and it is the lowest
+-- the lowest free place: it is free, and every lower one is live
+pub record LowestFree (b : Board) : Type 0 where
   pub free : isLive b (firstFree b) ≡ false
   pub lowest : (j : ℕ) → j < firstFree b → isLive b j ≡ true
-  -- r is seated there
-  pub seats : placed b r ≡ seatedAt b (firstFree b) r
-  pub adds : Inserts r (liveOf b) (liveOf (placed b r))
 
 -- a live place is cleared
 pub record Clearing (b : Board) (i : ℕ) : Type 0 where
@@ -48,21 +44,19 @@ pub record Clearing (b : Board) (i : ℕ) : Type 0 where
   pub dead : isLive (cleared b i) i ≡ false
   pub free : firstFree (cleared b i) ≤ i
 
--- what seating, placing and clearing do, and when they do nothing
+-- what seating and clearing do, and when they do nothing
 pub record Changes : Type 0 where
   pub seats : (b : Board) (i : ℕ) (r : Response) → Good b → i < 64 → isLive b i ≡ false → Seating b i r
-  pub places : (b : Board) (r : Response) → Good b → firstFree b < 64 → Placing b r
+  pub lowest : (b : Board) → firstFree b < 64 → LowestFree b
   pub clears : (b : Board) (i : ℕ) → Good b → isLive b i ≡ true → Clearing b i
-  -- where there is no such place, where none is free, and where the place is not live, the board stays
+  -- where there is no such place, and where the place is not live, the board stays
   pub past : (b : Board) (i : ℕ) (r : Response) → 64 ≤ i → seatedAt b i r ≡ b
-  pub full : (b : Board) (r : Response) → 64 ≤ firstFree b → placed b r ≡ b
   pub dead : (b : Board) (i : ℕ) → isLive b i ≡ false → cleared b i ≡ b
   -- clearing moves nothing else
   pub others : (b : Board) (i j : ℕ) → (j ≡ i → ⊥) → isLive (cleared b i) j ≡ isLive b j
-  -- what is seated on a board, placed and cleared on it is a board
+  -- what is seated on a board and cleared on it is a board
   pub good-empty : Good emptyBoard
   pub good-seated : (b : Board) (i : ℕ) (r : Response) → Good b → Good (seatedAt b i r)
-  pub good-placed : (b : Board) (r : Response) → Good b → Good (placed b r)
   pub good-cleared : (b : Board) (i : ℕ) → Good b → Good (cleared b i)
 
 -- ---- what can be seen

@@ -49,16 +49,11 @@ unfoldable pub wordOf : {A : Type 0} → (A → Bool) → ℕ → List A → ℕ
 wordOf t w [] = 0
 wordOf t w (r ∷ rs) = cond (eqb (w % 2) 1 && t r) 1 0 + 2 * wordOf t (w / 2) rs
 
--- ---- placing and clearing
+-- ---- seating and clearing
 
 -- r at place i, live, and the board as it is where there is no such place
 unfoldable pub seatedAt : Board → ℕ → Response → Board
 seatedAt b i r = cond (ltb i 64) (record { places = set (b .places) i r; live = withBit (b .live) i }) b
-
--- r at the lowest free place, and the board as it is where none is free
-unfoldable pub placed : Board → Response → Board
-unfolding seatedAt
-placed b r = seatedAt b (firstFree b) r
 
 -- place i is free, and what stands there stays
 abbrev pub cleared : Board → ℕ → Board

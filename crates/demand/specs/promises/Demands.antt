@@ -1,4 +1,4 @@
--- Demand 3: what the fills of an ended auction are, clause by clause. `Sound` is what the auction proves of itself.
+-- Demand 3: what the fills of an ended auction are, clause by clause. `Tradable` is what the auction proves of itself.
 use mathlib.Core.Path.{_≡_}
 use mathlib.Core.Bool.{Bool, true, false, cond, not, _&&_}
 use mathlib.Core.List.{List, [], _∷_, _++_}
@@ -189,11 +189,11 @@ pub record Demand3 (d : Deal) (b : Board) (fs : List Fill) : Type 0 where
   -- price by price
   pub by-level : (l : Level) → In l (levels d (offers b)) → ByLevel d b fs l
 
--- the theorem: every sound auction's fills are these
+-- the theorem: every ended auction has these fills
 abbrev pub Demands : Type 0
 Demands = (d : Deal) (b : Board) → Tradable d b → Demand3 d b (fills d (offers b))
 
--- and for every deal and board at all, sound or not, there are at most 130, so that 390 words always do
+-- and of every deal and board at all, tradable or not, there are at most 130, so that 390 words always do
 abbrev pub Few : Type 0
 Few = (d : Deal) (b : Board) → Good b → length (fills d (offers b)) ≤ 130
 

@@ -8,6 +8,7 @@ use Rattle.board.specs.declared.Board.{Board}
 use Rattle.board.specs.rules.Board.{responseAt, firstFree, seatedAt, cleared, findGtx}
 use Rattle.tape.specs.declared.event.Event.{Event}
 use Rattle.tape.specs.rules.Form.{eventFormed}
+use Rattle.tape.specs.rules.Fields.{sizeOf, priceOf, nameOf, nbbOf, nboOf, bbOf, boOf}
 use Rattle.mirror.specs.rules.Mirror.{buyEvent}
 use Rattle.auction.specs.rules.Accept.{bidMark, offerMark}
 use Rattle.auction.specs.rules.Range.{isOpen, boundBy}
@@ -39,17 +40,6 @@ eventRefusal h e =
     0)))
 
 -- ---- what the board tells of an event
-
--- what an event says, by the name of its field
-abbrev pub sizeOf : Event → ℕ
-sizeOf e = e .f12
-
-abbrev pub priceOf : Event → ℕ
-priceOf e = e .f16
-
--- a cancel names a GTX response by its sequence
-abbrev pub nameOf : Event → ℕ
-nameOf e = e .f12
 
 abbrev pub isCancel : Event → Bool
 isCancel e = eqb (e .kind) 2
@@ -125,7 +115,7 @@ marketOutcome e = cond (eqb (e .side) 1) (Does Nothing Same) (Does (Sell (record
 
 -- the quotes that an event brings
 unfoldable pub newQuotes : Event → Quotes
-newQuotes e = record { nbb = e .f12; nbo = e .f16; bb = e .f20; bo = e .f24; bidmark = bidMark (e .marks); offermark = offerMark (e .marks) }
+newQuotes e = record { nbb = nbbOf e; nbo = nboOf e; bb = bbOf e; bo = boOf e; bidmark = bidMark (e .marks); offermark = offerMark (e .marks) }
 
 unfoldable pub quotesOutcome : Terms → Event → Outcome
 quotesOutcome t e = cond (ltb (t .initiating) (boundBy t (newQuotes e))) (Does Nothing Improve) (Does (Quote (newQuotes e)) Open)

@@ -5,102 +5,123 @@ use native.Mathlib.Omega.{arith}
 use denote.Ref.{now}
 use lib.ListN.{length}
 use borrow.Author.Needs.{needs}
-use Rattle.auction.specs.declared.Auction.{Auction}
-use Rattle.auction.specs.declared.Head.{Head}
-use Rattle.events.specs.rules.Step.{wholeOf, placesAfter}
+use Rattle.run.specs.rules.Run.{run, heard, closed}
+use Rattle.events.specs.rules.Step.{boardAfter, turnOf}
+use Rattle.events.specs.declared.Sight.{Sight}
+use Rattle.tape.specs.declared.event.Event.{Event}
+use mathlib.Core.List.{List, []}
 use Rattle.listing.specs.rules.Listing.{eventLines}
-use Rattle.listing.proofs.WroteLaws.{wrote-same, left-start, left-wrote, left-same, left-done}
 use Rattle.listing.specs.inside.Code.{Left}
-use Rattle.run.specs.rules.Run.{closed}
-use Rattle.listing.proofs.RunLaws.{whole-closed, answersFrom, heardFrom, answers-all, heard-all, place-set, place-kept, events-turn, heard-turn, answers-none, heard-none}
+use Rattle.listing.proofs.WroteLaws.{wrote-same, left-start, left-wrote, left-same, left-done}
+use Rattle.listing.proofs.RunLaws.{whole, closed-whole, seat-set, seat-past, seat-free, seat-none, rest, rest-none, rest-all, events-turn, run-turn}
 use Rattle.listing.proofs.put_events.Statement.{statement}
 use Rattle.listing.proofs.put_events.Tie as tie
 
 abbrev Inv-loop : tie.InvT-loop
-Inv-loop tape at events out₀ start places₀ h₀ w₀ k₀ out places h w k =
-    (k ≤ events) × (length out ≡ length out₀) × (w ≤ start + 56 * k)
-    × Left out₀ start (eventLines (answersFrom tape at events 0 (wholeOf h₀ places₀))) out w (eventLines (answersFrom tape at events k (wholeOf h places)))
-    × (heardFrom tape at events k (wholeOf h places) ≡ heardFrom tape at events 0 (wholeOf h₀ places₀))
+Inv-loop tape t out₀ start n b₀ h₀ w₀ k₀ out b h w k =
+    (k ≤ n) × (length out ≡ length out₀) × (w ≤ start + 56 * k) × (n ≡ t .events)
+    × Left out₀ start (eventLines (heard (whole h₀ b₀) (rest tape t 0))) out w (eventLines (heard (whole h b) (rest tape t k)))
+    × (run (whole h b) (rest tape t k) ≡ run (whole h₀ b₀) (rest tape t 0))
 
 abbrev μ-loop : tie.MeasureT-loop
-μ-loop tape at events out₀ start places₀ h₀ w₀ k₀ out places h w k = events - k
+μ-loop tape t out₀ start n b₀ h₀ w₀ k₀ out b h w k = n - k
 
-head-of-requires : tie.Need-head-of-requires Inv-loop μ-loop
-head-of-requires c κs = search needs
+cast-n : tie.Need-cast-n Inv-loop μ-loop
+cast-n c = search needs
 
 loop-holds : tie.Need-loop-holds Inv-loop μ-loop
-loop-holds c =
-    let a = c .before .before .before .before .args in
-    (omega arith, refl, omega arith, left-start (now (a .out)) (a .start) (eventLines (answersFrom (now (a .tape)) (a .at) (a .events) 0 (wholeOf (c .head-of .result) (a .a .board .places)))), refl)
+loop-holds c = (omega arith, refl, omega arith, refl, left-start _ _ _, refl)
 
-add-read-word : tie.Need-add-read-word Inv-loop μ-loop
-add-read-word c = search needs
+record-in-requires : tie.Need-record-in-requires Inv-loop μ-loop
+record-in-requires c κs = search needs
 
-mul-read-word : tie.Need-mul-read-word Inv-loop μ-loop
-mul-read-word c = search needs
+sight-requires : tie.Need-sight-requires Inv-loop μ-loop
+sight-requires c κs = search needs
 
-add-read-word-2 : tie.Need-add-read-word-2 Inv-loop μ-loop
-add-read-word-2 c = search needs
-
-read-word-requires : tie.Need-read-word-requires Inv-loop μ-loop
-read-word-requires c κs = search needs
-
-event-at-requires : tie.Need-event-at-requires Inv-loop μ-loop
-event-at-requires c κs = search needs
-
-hear-requires : tie.Need-hear-requires Inv-loop μ-loop
-hear-requires c κs = search needs
+turn-requires : tie.Need-turn-requires Inv-loop μ-loop
+turn-requires c κs = search needs
 
 put-event-requires : tie.Need-put-event-requires Inv-loop μ-loop
 put-event-requires c κs = search needs
 
-mul-places : tie.Need-mul-places Inv-loop μ-loop
-mul-places c = search needs
+enum-known-c : tie.Need-enum-known-c Inv-loop μ-loop
+enum-known-c c = search needs
 
-array-set-from-places : tie.Need-array-set-from-places Inv-loop μ-loop
-array-set-from-places c = search needs
+mul-r : tie.Need-mul-r Inv-loop μ-loop
+mul-r c = search needs
+
+element-set-from-r : tie.Need-element-set-from-r Inv-loop μ-loop
+element-set-from-r c = search needs
+
+with-bit-requires : tie.Need-with-bit-requires Inv-loop μ-loop
+with-bit-requires c κs = search needs
+
+enum-known-c-2 : tie.Need-enum-known-c-2 Inv-loop μ-loop
+enum-known-c-2 c = search needs
+
+without-bit-requires : tie.Need-without-bit-requires Inv-loop μ-loop
+without-bit-requires c κs = search needs
+
+enum-told : tie.Need-enum-told Inv-loop μ-loop
+enum-told c = search needs
+
+enum-told-2 : tie.Need-enum-told-2 Inv-loop μ-loop
+enum-told-2 c = search needs
+
+enum-told-3 : tie.Need-enum-told-3 Inv-loop μ-loop
+enum-told-3 c = search needs
 
 add-k : tie.Need-add-k Inv-loop μ-loop
-add-k c = search needs
+add-k c = omega (arith, c .before .before .before .before .before .before .before .before .before .loop-test .taken, c .before .before .before .before .before .before .before .before .before .before .before .before .before .before .before .before .pre .0)
 
 loop-less : tie.Need-loop-less Inv-loop μ-loop
 loop-less c = search needs
 
 loop-again : tie.Need-loop-again Inv-loop μ-loop
 loop-again c =
-    let a = c .before .before .before .before .before .before .before .before .before .before .before .before .before .before .before .args in
+    let a = c .before .before .before .before .before .before .before .before .before .before .before .before .before .before .before .before .args in
     let l = c .before .before .before .before .before .before .before .before .before .before .loop in
-    let s = now (a .tape) in
-    let t = c .before .before .before .before .before .before .hear in
-    let w = c .before .before .before .before .before .before .before .before .read-word in
-    let r = c .before .before .before .before .before .before .before .event-at in
     let k = c .before .before .before .before .before .before .before .before .before .loop-test .taken in
-    let p : c .before .if1 .places ≡ placesAfter (t .result) (l .places) = ⊎-elim (λ u. place-set (t .result) (l .places) _ (omega (arith, u .0 .taken)) (u .2)) (λ u. place-kept (t .result) (l .places) _ (omega (arith, u .0 .left)) (u .1)) (c .before .if1 .came) in (
+    let e = c .before .before .before .before .before .before .before .before .record-in in
+    let v = c .before .before .before .before .before .before .before .sight in
+    let u = c .before .before .before .before .before .before .turn in
+    let eu = u .ensures ∙ ap (λ (x : Sight). turnOf (l .h) x (e .result)) (v .ensures) in
+    let seated : c .before .match .b ≡ boardAfter (l .b) (u .result .change) =
+    ⊎-elim (λ x. seat-set (l .b) _ _ _ _ _ (x .1 .given .1) (x .3 .taken) (x .4 .ensures) (x .5))
+    (⊎-elim (λ x. seat-past (l .b) _ _ _ _ (x .1 .given .1) (x .3 .left) (x .4))
+    (⊎-elim (λ x. seat-free (l .b) _ _ _ _ (x .1 .given .1) (x .3 .ensures) (x .4))
+    (⊎-elim (λ x. seat-none (l .b) _ _ _ (x .1 .given .1) refl (x .2))
+    (⊎-elim (λ x. seat-none (l .b) _ _ _ (x .1 .given .1) refl (x .2))
+    (λ x. seat-none (l .b) _ _ _ (x .1 .given .1) refl (x .2)))))) (c .before .match .came) in (
       omega (arith, k),
       search needs,
       omega arith,
-      left-wrote (left-same (l .inv .3) (events-turn s (a .at) (a .events) (l .k) (w .result) (l .h) (l .places) (c .before .if1 .places) (r .result) (t .result) (w .ensures) (r .ensures) (t .ensures) p k (omega (arith, k, c .before .before .before .before .before .before .before .before .before .before .before .before .before .before .before .pre .0)))) (c .before .before .before .before .put-event .ensures .0),
-      heard-turn s (a .at) (a .events) (l .k) (w .result) (l .h) (l .places) (c .before .if1 .places) (r .result) (t .result) (w .ensures) (r .ensures) (t .ensures) p k ∙ l .inv .4,
+      refl,
+      left-wrote (left-same (l .inv .4) (events-turn (now (a .tape)) (a .t) (l .k) (l .h) (l .b) _ (e .result) (u .result) (e .ensures) eu seated k)) (c .before .before .before .before .put-event .ensures .0),
+      run-turn (now (a .tape)) (a .t) (l .k) (l .h) (l .b) _ (e .result) (u .result) (e .ensures) eu seated k ∙ l .inv .5,
     )
 
-close-head-requires : tie.Need-close-head-requires Inv-loop μ-loop
-close-head-requires c κs = search needs
-
-whole-requires : tie.Need-whole-requires Inv-loop μ-loop
-whole-requires c κs = search needs
+close-turn-requires : tie.Need-close-turn-requires Inv-loop μ-loop
+close-turn-requires c κs = search needs
 
 same-length : tie.Need-same-length Inv-loop μ-loop
 same-length c = search needs
 
 returns : tie.Need-returns Inv-loop μ-loop
 returns c =
-    let a = c .before .before .before .before .before .before .before .before .args in
+    let a = c .before .before .before .before .before .before .before .before .before .args in
     let l = c .before .before .before .loop in
     let s = now (a .tape) in
-    let e : wholeOf (c .before .before .before .before .head-of .result) (a .a .board .places) ≡ a .a = ap (λ (h : Head). wholeOf h (a .a .board .places)) (c .before .before .before .before .head-of .ensures) in (
-      wrote-same (left-done (left-same (l .inv .3) (ap eventLines (answers-none s (a .at) (a .events) (l .k) (wholeOf (l .h) (l .places)) (omega arith)))))
-          (ap (λ (x : Auction). eventLines (answersFrom s (a .at) (a .events) 0 x)) e ∙ ap eventLines (sym (answers-all s (a .at) (a .events) (a .a)))),
-      (c .whole .ensures ∙ whole-closed (l .h) (l .places) (c .before .close-head .result) (c .before .close-head .ensures) ∙ ap closed (sym (heard-none s (a .at) (a .events) (l .k) (wholeOf (l .h) (l .places)) (omega arith)) ∙ l .inv .4 ∙ ap (heardFrom s (a .at) (a .events) 0) e ∙ sym (heard-all s (a .at) (a .events) (a .a))), omega arith),
+    let none : rest s (a .t) (l .k) ≡ [] = rest-none s (a .t) (l .k) (omega arith) in (
+      wrote-same (left-done (left-same (l .inv .4) (ap (λ (es : List Event). eventLines (heard (whole (l .h) (l .b)) es)) none)))
+          (ap (λ (es : List Event). eventLines (heard (a .a) es)) (sym (rest-all s (a .t)))),
+      (
+        closed-whole (l .h) (l .b) (c .before .close-turn .result) (c .before .close-turn .ensures)
+            ∙ ap (λ (es : List Event). closed (run (whole (l .h) (l .b)) es)) (sym none)
+            ∙ ap closed (l .inv .5)
+            ∙ ap (λ (es : List Event). closed (run (a .a) es)) (sym (rest-all s (a .t))),
+        omega arith,
+      ),
     )
 
 pub put-events-spec : {M : Type 1} → statement M
@@ -109,21 +130,24 @@ put-events-spec =
     (tie.spec
     Inv-loop
     μ-loop
-    head-of-requires
+    cast-n
     loop-holds
-    add-read-word
-    mul-read-word
-    add-read-word-2
-    read-word-requires
-    event-at-requires
-    hear-requires
+    record-in-requires
+    sight-requires
+    turn-requires
     put-event-requires
-    mul-places
-    array-set-from-places
+    enum-known-c
+    mul-r
+    element-set-from-r
+    with-bit-requires
+    enum-known-c-2
+    without-bit-requires
+    enum-told
+    enum-told-2
+    enum-told-3
     add-k
     loop-less
     loop-again
-    close-head-requires
-    whole-requires
+    close-turn-requires
     same-length
     returns)

@@ -6,7 +6,7 @@ use Prim.Native.String.{String}
 use lib.Dec.{eqb, ltb}
 use lib.ListN.{length, drop}
 use Rattle.share.specs.rules.Fills.{Fill}
-use Rattle.trade.specs.rules.Trade.{total}
+use Rattle.trade.specs.rules.Trade.{traded}
 use Rattle.auction.specs.declared.Auction.{Auction}
 use Rattle.auction.specs.declared.Head.{Head}
 use Rattle.auction.specs.declared.Range.{Range}
@@ -87,7 +87,7 @@ fillLines (f ∷ fs) = fillLine f ++ fillLines fs
 
 -- the ending, the fills, and the sum of their quantities
 unfoldable pub endLines : Auction → List ℕ
-endLines a = endLine (a .head) ++ (fillLines (auctionFills a) ++ totalLine (total (auctionFills a)))
+endLines a = endLine (a .head) ++ (fillLines (auctionFills a) ++ totalLine (traded (auctionFills a)))
 
 abbrev pub linesOf : Run → List ℕ
 linesOf (refused number) = refusedLine number

@@ -21,7 +21,8 @@ use Rattle.base.specs.Price.{mirrored}
 use Rattle.mirror.specs.rules.Mirror.{mirroredOrder, mirroredEvent, buyEvent}
 use Rattle.auction.specs.rules.Accept.{acceptOf}
 use Rattle.auction.specs.rules.Range.{isOpen, boundBy}
-use Rattle.events.specs.rules.Step.{sizeOf, sightOf, responseOf, gives, stepBy, stepOf, closeOf}
+use Rattle.tape.specs.rules.Fields.{sizeOf}
+use Rattle.events.specs.rules.Step.{sightOf, responseOf, gives, stepBy, stepOf, closeOf}
 use Rattle.fills.specs.rules.Fills.{dealOf, auctionFills}
 use Rattle.auction.specs.rules.Range.{rangeOf}
 use Rattle.run.specs.rules.Run.{run, heard, played, isTaken, takenOf}

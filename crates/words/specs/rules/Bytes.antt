@@ -32,10 +32,6 @@ abbrev pub wordsFrom : List ℕ → ℕ → ℕ → List ℕ
 wordsFrom s at zero = []
 wordsFrom s at (suc n) = wordAt s at ∷ wordsFrom s (at + 4) n
 
--- the bytes with the word v at `at`; as they are where they end before it does
-unfoldable pub withWord : List ℕ → ℕ → ℕ → List ℕ
-withWord s at v = cond (leb (at + 4) (length s)) (sets s at (u32Bytes v)) s
-
 -- the bytes with a row of words from `at` on; as they are where they end before the last does
 unfoldable pub withWords : List ℕ → ℕ → List ℕ → List ℕ
 withWords s at ws = cond (leb (at + length ws * 4) (length s)) (sets s at (wordBytes ws)) s

@@ -2,7 +2,7 @@ use mathlib.Core.Path.{_≡_, refl, ap, _∙_}
 use native.Mathlib.Omega.{arith}
 use lib.ListN.{length, replicate}
 use Rattle.base.proofs.ListLaws.{length-mapped}
-use Rattle.trade.specs.rules.Trade.{total}
+use Rattle.trade.specs.rules.Trade.{traded}
 use Rattle.listing.specs.rules.Listing.{fillLines, totalLine, endLines}
 use Rattle.listing.proofs.WroteLaws.{wrote-append, wrote-same}
 use Rattle.listing.proofs.FillLaws.{Reported, reported}
@@ -36,16 +36,16 @@ slice-aggregate-put-fills : tie.Need-slice-aggregate-put-fills
 slice-aggregate-put-fills c = search needs
 
 put-fills-requires : tie.Need-put-fills-requires
-put-fills-requires c κs = let f = found (c .before .before .before .before .before .before) in (f .few, omega (arith, f .few, f .long), omega (arith, f .few))
+put-fills-requires c κs = let f = found (c .before .before .before .before .before .before .before) in (f .few, omega (arith, f .few, f .long), omega (arith, f .few))
 
 slice-aggregate-sum-of : tie.Need-slice-aggregate-sum-of
 slice-aggregate-sum-of c = search needs
 
 sum-of-requires : tie.Need-sum-of-requires
-sum-of-requires c κs = let f = found (c .before .before .before .before .before .before .before .before .before .before .before) in (f .few, omega (arith, f .few, f .long))
+sum-of-requires c κs = let f = found (c .before .before .before .before .before .before .before .before .before .before .before .before) in (f .few, omega (arith, f .few, f .long))
 
 put-total-requires : tie.Need-put-total-requires
-put-total-requires c κs = let f = found (c .before .before .before .before .before .before .before .before .before .before .before .before) in omega (arith, f .few)
+put-total-requires c κs = let f = found (c .before .before .before .before .before .before .before .before .before .before .before .before .before) in omega (arith, f .few)
 
 same-length : tie.Need-same-length
 same-length c = search needs
@@ -53,8 +53,8 @@ same-length c = search needs
 returns : tie.Need-returns
 unfolding endLines
 returns c =
-    let f = found (c .before .before .before .before .before .before .before .before .before .before .before .before .before .before .before) in
-    wrote-append (c .before .before .before .before .before .before .before .before .before .before .before .before .before .put-end .ensures .0) (wrote-append (wrote-same (c .before .before .before .before .before .before .before .before .put-fills .ensures .0) (ap fillLines (f .fills))) (wrote-same (c .before .before .put-total .ensures) (ap totalLine (c .before .before .before .sum-of .ensures ∙ ap total (f .fills)))))
+    let f = found (c .before .before .before .before .before .before .before .before .before .before .before .before .before .before .before .before) in
+    wrote-append (c .before .before .before .before .before .before .before .before .before .before .before .before .before .put-end .ensures .0) (wrote-append (wrote-same (c .before .before .before .before .before .before .before .before .put-fills .ensures .0) (ap fillLines (f .fills))) (wrote-same (c .before .before .put-total .ensures) (ap totalLine (c .before .before .before .sum-of .ensures ∙ ap traded (f .fills)))))
 
 pub put-results-spec : {M : Type 1} → statement M
 put-results-spec =

@@ -41,7 +41,7 @@ loop-again c =
       search needs,
       search needs,
       ap (λ (x : List ℕ). set x (a .at + l .i) (getD (now (a .s)) (l .i) 0)) (l .inv .2)
-          ∙ sets-more (now (a .out)) (now (a .s)) (a .at) (l .i) (omega arith),
+          ∙ sets-more (now (a .out)) (now (a .s)) (a .at) (l .i) 0 (omega arith),
     )
 
 add-result : tie.Need-add-result Inv-loop μ-loop

@@ -1,10 +1,12 @@
 use mathlib.Core.Path.{_≡_, sym, refl, ap, _∙_}
 use mathlib.Core.Bool.{true}
 use mathlib.Core.List.{_++_}
+use mathlib.Core.Logic.{⊎-elim}
 use Prim.Native.Nat.{_+_, _*_, _^_, _≤_, _<_}
 use native.Mathlib.Omega.{arith}
 use lib.ListN.{length, getD, length-append}
 use borrow.Author.Needs.{needs}
+use Rattle.base.proofs.Numbers.{le-or-lt}
 use Rattle.base.proofs.ListLaws.{length-mapped}
 use Rattle.words.specs.rules.Bits.{withoutBit}
 use Rattle.words.proofs.BitLaws.{without-le, without-lowest, trailing-le}
@@ -16,12 +18,12 @@ use Rattle.share.specs.inside.Fills.{LeftFills}
 use Rattle.share.proofs.FillsLaws.{left-start, left-turn, left-done}
 use Rattle.trade.specs.inside.Code.{eachFills}
 use Rattle.trade.proofs.CodeLaws.{Turn, turn-of}
-use Rattle.trade.proofs.WriteLaws.{Pick, each-pick, each-none, rising-is, rising-without, unseen-le, hunt-start, hunt-step, hunt-end, gives-left}
+use Rattle.trade.proofs.WriteLaws.{Pick, each-pick, each-none, rising-is, rising-without, unseen-le, hunt-start, hunt-step, hunt-end, some-set, gives-left}
 use Rattle.trade.proofs.write.write_each.Statement.{statement}
 use Rattle.trade.proofs.write.write_each.Tie as tie
 
 abbrev Inv-loop : tie.InvT-loop
-Inv-loop word price turns amount total k out₀ at b w₀ left₀ rest₀ best₀ sorted unseen₀ out w left rest best unseen =
+Inv-loop word price turns amount total k out₀ at b w₀ left₀ rest₀ sorted best₀ unseen₀ out w left rest best unseen =
     (rest < 2 ^ 64)
     × (unseen < 2 ^ 64)
     × (left ≤ 4294967295)
@@ -29,16 +31,17 @@ Inv-loop word price turns amount total k out₀ at b w₀ left₀ rest₀ best�
     × (0 < rest → Best (b .places) rest best unseen)
     × (sorted ≡ true → RisingFrom 0 (liveIn rest (b .places)))
     × LeftFills out₀ at (eachFills price turns amount total k (inSequence (liveIn word (b .places)))) out w (eachFills price turns amount total left (inSequence (liveIn rest (b .places))))
+    × (best < 64 → 0 < rest)
 
 abbrev μ-loop : tie.MeasureT-loop
-μ-loop word price turns amount total k out₀ at b w₀ left₀ rest₀ best₀ sorted unseen₀ out w left rest best unseen =
+μ-loop word price turns amount total k out₀ at b w₀ left₀ rest₀ sorted best₀ unseen₀ out w left rest best unseen =
     rest * 18446744073709551616 + unseen
 
 first-set-requires : tie.Need-first-set-requires Inv-loop μ-loop
 first-set-requires c κs = search needs
 
 cast-best : tie.Need-cast-best Inv-loop μ-loop
-cast-best c = omega (arith, c .first-set .ensures, trailing-le 64 (c .before .before .args .word))
+cast-best c = omega (arith, c .first-set .ensures, trailing-le 64 (c .before .before .before .args .word))
 
 rising-requires : tie.Need-rising-requires Inv-loop μ-loop
 rising-requires c κs = search needs
@@ -57,7 +60,7 @@ look c = turn-of (c .before .before .before .before .before .before .before .bef
 pick : (c : tie.Else1 Inv-loop μ-loop) → Pick (c .before .before .before .before .before .before .before .args .t1 .places) (c .before .before .loop .rest) (c .before .before .loop .best)
 pick c =
     let l = c .before .before in
-    let p : 0 < l .loop .rest = omega arith in
+    let p : 0 < l .loop .rest = l .loop .inv .7 (omega arith) in
     hunt-end (c .before .before .before .before .before .before .before .args .t1 .places) (len (c .before .before .before .before .before .before .before)) (l .loop .rest) (l .loop .best) (l .loop .unseen) p (l .loop .inv .0) (c .if1 .left) (l .loop .inv .4 p)
 
 -- what is still to be written: this response's fill, and the others'
@@ -77,8 +80,8 @@ loop-holds c =
     let s = c .before .before .before .before in
     let a = s .args in
     let f : a .word < 2 ^ 64 = search needs in
-    let i = c .before .before .first-set in
-    let o = c .before .rising in
+    let i = c .before .first-set in
+    let o = c .before .before .rising in
     let rises : o .result ≡ true → RisingFrom 0 (liveIn (a .word) (a .t1 .places)) = λ t. rising-is 0 (liveIn (a .word) (a .t1 .places)) (sym (o .ensures) ∙ t) in
     let e = c .unseen-of .ensures in (
       f,
@@ -88,6 +91,7 @@ loop-holds c =
       λ p. rw e (hunt-start (a .t1 .places) (len s) (o .result) (a .word) _ p f (i .ensures) rises),
       rises,
       left-start _ _ _,
+      some-set (a .word) _ (i .ensures),
     )
 
 first-set-requires-2 : tie.Need-first-set-requires-2 Inv-loop μ-loop
@@ -97,10 +101,10 @@ cast-i : tie.Need-cast-i Inv-loop μ-loop
 cast-i c = omega (arith, look c .low)
 
 mul-sooner : tie.Need-mul-sooner Inv-loop μ-loop
-mul-sooner c = let l = c .before .before .before in omega (arith, l .loop .inv .4 (omega arith) .place, len (c .before .before .before .before .before .before .before .before))
+mul-sooner c = let l = c .before .before .before in omega (arith, l .loop .inv .4 (l .loop .inv .7 (omega arith)) .place, len (c .before .before .before .before .before .before .before .before))
 
 element-copy-out-sooner : tie.Need-element-copy-out-sooner Inv-loop μ-loop
-element-copy-out-sooner c = let l = c .before .before .before in omega (arith, l .loop .inv .4 (omega arith) .place, len (c .before .before .before .before .before .before .before .before))
+element-copy-out-sooner c = let l = c .before .before .before in omega (arith, l .loop .inv .4 (l .loop .inv .7 (omega arith)) .place, len (c .before .before .before .before .before .before .before .before))
 
 mul-sooner-2 : tie.Need-mul-sooner-2 Inv-loop μ-loop
 mul-sooner-2 c = omega (arith, look c .low)
@@ -133,6 +137,7 @@ loop-again c =
       λ p. rw e (hunt-step (a .t1 .places) (len s) (l .loop .rest) (l .loop .best) (l .loop .unseen) _ _ (omega arith) (l .loop .inv .1) (d .first-set2 .ensures) (c .before .sooner .ensures) (l .loop .inv .4 p)),
       l .loop .inv .5,
       l .loop .inv .6,
+      λ _. l .loop .inv .7 (omega arith),
     )
 
 mul-r : tie.Need-mul-r Inv-loop μ-loop
@@ -170,7 +175,7 @@ loop-less-2 : tie.Need-loop-less-2 Inv-loop μ-loop
 loop-less-2 c =
     let d = c .before .before .before .before .before .before .before .before .before in
     let r = c .before .before .without-bit in
-    omega (arith, rw (← r .ensures) at (pick d .less), c .unseen-of2 .ensures, unseen-le (d .before .before .before .before .rising .result) (r .result), d .before .before .loop .inv .0)
+    omega (arith, rw (← r .ensures) at (pick d .less), c .unseen-of2 .ensures, unseen-le (d .before .before .before .before .before .rising .result) (r .result), d .before .before .loop .inv .0)
 
 loop-again-2 : tie.Need-loop-again-2 Inv-loop μ-loop
 loop-again-2 c =
@@ -179,11 +184,11 @@ loop-again-2 c =
     let l = d .before .before in
     let s = l .before .before .before .before .before in
     let a = s .args in
-    let o = l .before .before .rising .result in
+    let o = l .before .before .before .rising .result in
     let r = c .before .before .without-bit in
     let f = c .before .before .before .before .before .put-fill in
     let e = c .unseen-of2 .ensures in
-    let best = l .loop .inv .4 (omega arith) in
+    let best = l .loop .inv .4 (l .loop .inv .7 (omega arith)) in
     let small : r .result < 2 ^ 64 = rw (r .ensures) (omega (arith, without-le (l .loop .rest) (l .loop .best), l .loop .inv .0)) in
     let rises : o ≡ true → RisingFrom 0 (liveIn (r .result) (a .t1 .places)) = rw (r .ensures) (λ t. rising-without (a .t1 .places) (l .loop .rest) (l .loop .best) (best .place) (best .set) (l .loop .inv .5 t)) in (
       small,
@@ -193,6 +198,7 @@ loop-again-2 c =
       λ p. rw e (hunt-start (a .t1 .places) (len s) o (r .result) _ p small (c .before .first-set3 .ensures) rises),
       rises,
       rw (r .ensures) (left-turn (rw (step g) at (l .loop .inv .6)) (f .ensures)),
+      some-set (r .result) _ (c .before .first-set3 .ensures),
     )
 
 same-length : tie.Need-same-length Inv-loop μ-loop
@@ -201,7 +207,8 @@ same-length c = search needs
 returns : tie.Need-returns Inv-loop μ-loop
 returns c =
     let l = c .before in
-    let z : l .loop .rest ≡ 0 = omega arith in
+    let z : l .loop .rest ≡ 0 =
+    ⊎-elim (λ p. absurd (omega (arith, l .loop .inv .4 p .place, len (l .before .before .before .before .before)))) (λ h. omega arith) (le-or-lt 1 (l .loop .rest)) in
     left-done (rw (z, each-none) at (l .loop .inv .6))
 
 pub write-each-spec : {M : Type 1} → statement M
@@ -210,9 +217,9 @@ write-each-spec =
     (tie.spec
     Inv-loop
     μ-loop
+    rising-requires
     first-set-requires
     cast-best
-    rising-requires
     unseen-of-requires
     loop-holds
     first-set-requires-2
