@@ -17,7 +17,7 @@ use Rattle.share.specs.rules.Fills.{Fill, sizes}
 use Rattle.trade.specs.declared.Deal.{Deal}
 use Rattle.trade.specs.rules.Plan.{planOf}
 use Rattle.trade.specs.rules.Trade.{sizeHere, offers, Level, others, shared, levelFills, traded, flat, working, workingStop, top, entry, guarantee, marketPrice, marketTakes, marketFill, levels, fills}
-use Rattle.demand.specs.promises.Demands.{planOn, Plans, Absent, Distinct, tally, got, gotAt, gotBelow, gots, soldAt, soldAbove, times, isMarket, walked, othersAt, InRange, Tradable, Party, theContra, theMarket, aResponse, Lowest, MarketAt, ByLevel, Demand3, Demands, Few}
+use Rattle.demand.specs.promises.Demands.{planOn, Absent, Distinct, tally, got, gotAt, gotBelow, gots, soldAt, soldAbove, times, isMarket, walked, othersAt, InRange, Tradable, Party, theContra, theMarket, aResponse, Lowest, MarketAt, ByLevel, Demand3, Demands, Few}
 use Rattle.base.proofs.ListLaws.{filter-fail, shuffles-length, filter-all, every-any, every-append, every-map, every-in}
 use Rattle.board.proofs.SequenceLaws.{sequence-shuffles, sequence-rises}
 use Rattle.trade.proofs.CodeLaws.{live-short}
@@ -365,9 +365,6 @@ module _ (d : Deal) (b : Board) (s : Tradable d b) where
 
 pub demand3 : Demands
 demand3 d b s = clauses d b s
-
-pub plans : Plans
-plans d b s l n = demand3 d b s .by-level l n .planned
 
 pub few : Few
 few d b g = fills-short d (offers b) (omega (arith, shuffles-length (sequence-shuffles (liveOf b)), live-short (b .live) (b .places), g .places-are))

@@ -26,7 +26,6 @@ use Rattle.trade.specs.rules.Trade.{offers, fills, traded}
 use Rattle.trade.specs.rules.Write.{reportedPrice, reported, fillsOf}
 use Rattle.demand.specs.promises.Demands.{Absent, Distinct, InRange, Demand3, Tradable as SoundDeal}
 use Rattle.demand.proofs.Theorems.{demand3}
-use Rattle.demand.proofs.Theorems.{plans}
 use Rattle.base.specs.Price.{mirrored}
 use Rattle.mirror.specs.rules.Mirror.{mirroredOrder, buyOrder, buyEvent}
 use Rattle.auction.specs.rules.Accept.{initiatingOf, boundOf, firstBound, termsOf, quotesOf, openedBy, acceptOf}
@@ -249,7 +248,6 @@ trades a s z =
     record {
       ended = z;
       clauses = d;
-      plans = plans (dealOf (a .head)) (a .board) (sound-deal a s);
       adds-up = reported-total (a .head .terms .sell) (fills (dealOf (a .head)) (offers (a .board))) ∙ d .adds-up;
       in-range = reported-in a (fills (dealOf (a .head)) (offers (a .board))) (d .in-range);
     }

@@ -196,10 +196,3 @@ Demands = (d : Deal) (b : Board) → Tradable d b → Demand3 d b (fills d (offe
 -- and of every deal and board at all, tradable or not, there are at most 130, so that 390 words always do
 abbrev pub Few : Type 0
 Few = (d : Deal) (b : Board) → Good b → length (fills d (offers b)) ≤ 130
-
--- each price of the walk has the plan of its mode
-abbrev pub Planned : Deal → Board → Type 0
-Planned d b = (l : Level) → In l (levels d (offers b)) → planOn l ≡ planAt d b l
-
-abbrev pub Plans : Type 0
-Plans = (d : Deal) (b : Board) → Tradable d b → Planned d b

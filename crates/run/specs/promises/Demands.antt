@@ -16,7 +16,6 @@ use Rattle.tape.specs.declared.event.Event.{Event}
 use Rattle.tape.specs.rules.Form.{orderFormed, eventFormed}
 use Rattle.trade.specs.rules.Trade.{offers, fills, traded}
 use Rattle.demand.specs.promises.Demands.{Absent, Distinct, Demand3}
-use Rattle.demand.specs.promises.Demands.{Planned}
 use Rattle.base.specs.Price.{mirrored}
 use Rattle.mirror.specs.rules.Mirror.{mirroredOrder, mirroredEvent, buyEvent}
 use Rattle.auction.specs.rules.Accept.{acceptOf}
@@ -120,8 +119,6 @@ pub record Within (r : Range) (f : Fill) : Type 0 where
 pub record Trades (a : Auction) : Type 0 where
   pub ended : isOpen (a .head .ending) ≡ false
   pub clauses : Demand3 (dealOf (a .head)) (a .board) (fills (dealOf (a .head)) (offers (a .board)))
-  -- each price of the walk has document 01's plan
-  pub plans : Planned (dealOf (a .head)) (a .board)
   pub adds-up : traded (auctionFills a) ≡ a .head .terms .size
   pub in-range : Every (Within (rangeOf (a .head))) (auctionFills a)
 
