@@ -52,17 +52,22 @@ def row(listed):
     if text.startswith(b"REFUSED "):
         found["refused"] = int(text[8:])
         return found
-    # the lines before END are the auction's and its events'; after it come fills and their total
+    # the lines before END are the auction's and its events'; after it come the fills and their total
     at = text.index(b"\nEND ") + 1
-    end, *fills, total = [line.split(b" ") for line in text[at:].splitlines()]
-    found["ending"], found["low"], found["high"] = end[1].decode(), int(end[3]), int(end[5])
-    found["events_taken"], found["events_refused"] = text.count(b" taken\n", 0, at), text.count(b" refused ", 0, at)
-    fills = [(party, int(price), int(quantity)) for _, party, price, quantity in fills]
-    found["contra"] = sum(q for party, _, q in fills if party == b"contra")
-    found["others"] = sum(q for party, _, q in fills if party != b"contra")
-    found["total"] = int(total[1])
-    if found["total"]:
-        found["average"] = scaled(sum(p * q for _, p, q in fills), found["total"])
+    end, *fills, total = text[at:].splitlines()
+    _, ending, _, low, _, high = end.split()
+    contra = others = worth = 0
+    for line in fills:
+        _, party, price, quantity = line.split()
+        n = int(quantity)
+        worth += int(price) * n
+        if party == b"contra":
+            contra += n
+        else:
+            others += n
+    n = int(total[6:])
+    found.update(ending=ending.decode(), low=int(low), high=int(high), events_taken=text.count(b" taken\n", 0, at), events_refused=text.count(b" refused ", 0, at),
+                 contra=contra, others=others, average=scaled(worth, n) if n else None, total=n)
     return found
 
 
@@ -86,7 +91,8 @@ def cell(found, key):
 
 
 def csv_row(found, keys):
-    return csv_line([quoted(cell(found, k)) if k == "name" else cell(found, k) for k in keys])
+    first, *rest = keys
+    return csv_line([quoted(cell(found, first))] + [cell(found, k) for k in rest])
 
 
 def json_row(found, keys, **more):
