@@ -1,3 +1,2 @@
--- What an event does, as document 01 has it, and the forms in which it is lent.
+-- What an event does, as document 01 has it.
 pub mod Step
-pub mod Lent

@@ -1,18 +1,11 @@
-// What an event does to an auction: a decision on small values, one turn, and the step that seats it on the board.
+// What an event does to an auction: one turn by what is decided of it, and the step that seats it on the board.
 use auction::Auction;
-use auction::Ending;
 use auction::Head;
-use auction::Market;
-use auction::Quotes;
-use board::Response;
+use decide::Change;
 
-mod decide;
-mod lent;
 mod steps;
 pub mod turns;
 
-pub use lent::apply;
-pub use lent::cancel;
 pub use steps::close;
 pub use steps::step;
 
@@ -27,28 +20,6 @@ pub enum Answer {
 pub struct Stepped {
     pub answer: Answer,
     pub auction: Auction,
-}
-
-// What the board tells of an event: the place that a response would take (64: none), the place of the GTX that is named (64: none), and what stands there.
-pub struct Sight {
-    pub at: usize,
-    pub found: usize,
-    pub old: Response,
-}
-
-// What an event changes besides the sequence, the clock and the ending: a response takes a place, a place is freed, the quotes or the market order are new.
-pub enum Change {
-    Nothing,
-    Seat(usize, Response),
-    Free(usize),
-    Quote(Quotes),
-    Sell(Market),
-}
-
-// What is decided of an event: its refusal, or its change and the ending after it.
-pub enum Outcome {
-    Refuses(u32),
-    Does(Change, Ending),
 }
 
 // The answer to an event, the head after it, and what becomes of the board.

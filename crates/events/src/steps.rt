@@ -1,7 +1,6 @@
 // The event step, by value, and closing by hand: a turn seated on the board.
 ghost use mathlib.Core.Path.{_≡_};
 ghost use Rattle.events.specs.rules.Step.{boardAfter, seatedOn, stepOf, closeOf};
-use crate::Change;
 use crate::Stepped;
 use crate::Turn;
 use crate::turns::close_turn;
@@ -9,6 +8,7 @@ use crate::turns::sight;
 use crate::turns::turn;
 use auction::Auction;
 use board::Board;
+use decide::Change;
 use tape::Event;
 
 // The board after a change.

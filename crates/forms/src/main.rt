@@ -8,8 +8,8 @@ use libc::STDIN_FILENO;
 use lines::print_name;
 use play::play_tape;
 
-mod lent;
 mod lines;
+mod loans;
 mod play;
 mod results;
 mod seen;

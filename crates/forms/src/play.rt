@@ -3,14 +3,14 @@
 ghost use mathlib.Core.Path.{_≡_};
 ghost use mathlib.Core.Bool.{true};
 ghost use Rattle.events.specs.rules.Step.{stepOf};
-ghost use Rattle.events.specs.rules.Lent.{cancelEvent};
-use crate::lent::applied;
-use crate::lent::cancelled;
+ghost use Rattle.lent.specs.rules.Lent.{cancelEvent};
 use crate::lines::print_auction;
 use crate::lines::print_end;
 use crate::lines::print_event;
 use crate::lines::print_last;
 use crate::lines::print_refused;
+use crate::loans::applied;
+use crate::loans::cancelled;
 use crate::results::print_results;
 use crate::seen::is_right;
 use auction::Auction;

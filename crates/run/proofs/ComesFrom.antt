@@ -20,13 +20,14 @@ use Rattle.mirror.specs.rules.Mirror.{buyOrder, buyEvent}
 use Rattle.auction.specs.rules.Accept.{openedBy, acceptOf}
 use Rattle.auction.specs.rules.Range.{isOpen}
 use Rattle.tape.specs.rules.Fields.{sizeOf}
-use Rattle.events.specs.rules.Step.{sightOf, responseOf, boardAfter, headAfter, endedByTime, carried, seatedOn, stepOf}
+use Rattle.events.specs.rules.Step.{sightOf, boardAfter, headAfter, endedByTime, carried, seatedOn, stepOf}
+use Rattle.decide.specs.rules.Decide.{responseOf}
 use Rattle.run.specs.rules.Run.{run, isTaken, takenOf}
 use Rattle.run.specs.promises.Demands.{madeBy, ComesFrom, Sound, Resend}
 use Rattle.auction.specs.declared.Auction.{Auction}
 use Rattle.auction.specs.declared.Terms.{Terms}
 use Rattle.auction.specs.declared.Ending.{Ending}
-use Rattle.events.specs.declared.Sight.{Sight}
+use Rattle.decide.specs.declared.Sight.{Sight}
 use Rattle.events.specs.declared.Turn.{Turn}
 use Rattle.auction.specs.declared.Entry.the-variants.{Accepted}
 use Rattle.run.proofs.StepLaws.{Outcomes, Ordinary, Cases, cases}

@@ -11,7 +11,8 @@ use Rattle.trade.specs.rules.Write.{fillsOf}
 use Rattle.base.specs.Price.{mirrored}
 use Rattle.mirror.specs.rules.Mirror.{mirroredMarks, mirroredSide, mirroredOrder, mirroredPriced, mirroredMarket, mirroredQuotes, mirroredEvent, buyOrder, buyEvent}
 use Rattle.auction.specs.rules.Accept.{initiatingOf, tickOf, boundOf, guaranteedOf, rangeRefusal, buyRefusal, orderRefusal, termsOf, quotesOf, openedBy, noAuction, acceptOf}
-use Rattle.events.specs.rules.Step.{eventRefusal, gtxOutcome, cancelOutcome, sellLimitOutcome, bidQuotes, buyLimitOutcome, limitOutcome, marketOutcome, newQuotes, quotesOutcome, outcomeOf, sightOf, endedByTime, headAfter, turnOf, closeTurn}
+use Rattle.events.specs.rules.Step.{eventRefusal, sightOf, endedByTime, headAfter, turnOf, closeTurn}
+use Rattle.decide.specs.rules.Decide.{gtxOutcome, cancelOutcome, sellLimitOutcome, bidQuotes, buyLimitOutcome, limitOutcome, marketOutcome, newQuotes, quotesOutcome, outcomeOf}
 use Rattle.auction.specs.rules.Range.{boundNow, rangeOf}
 use Rattle.fills.specs.rules.Fills.{dealOf}
 use Rattle.run.specs.promises.Figures.{cases, Figures}

@@ -21,7 +21,8 @@ use Rattle.mirror.specs.rules.Mirror.{mirroredOrder, mirroredEvent, buyEvent}
 use Rattle.auction.specs.rules.Accept.{acceptOf}
 use Rattle.auction.specs.rules.Range.{isOpen, boundBy}
 use Rattle.tape.specs.rules.Fields.{sizeOf}
-use Rattle.events.specs.rules.Step.{sightOf, responseOf, gives, stepBy, stepOf, closeOf}
+use Rattle.events.specs.rules.Step.{sightOf, gives, stepBy, stepOf, closeOf}
+use Rattle.decide.specs.rules.Decide.{responseOf}
 use Rattle.fills.specs.rules.Fills.{dealOf, auctionFills}
 use Rattle.auction.specs.rules.Range.{rangeOf}
 use Rattle.run.specs.rules.Run.{run, heard, played, isTaken, takenOf}
@@ -31,7 +32,7 @@ use Rattle.auction.specs.declared.Terms.{Terms}
 use Rattle.auction.specs.declared.Range.{Range}
 use Rattle.auction.specs.declared.Entry.the-variants.{Accepted, Refused as NotAccepted}
 use Rattle.events.specs.declared.Answer.the-variants.{Refused}
-use Rattle.events.specs.declared.Sight.{Sight}
+use Rattle.decide.specs.declared.Sight.{Sight}
 
 -- ---- what an event sees of the board
 

@@ -1,0 +1,2 @@
+-- The theorem of `decide`.
+pub mod Settled

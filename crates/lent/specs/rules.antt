@@ -1,0 +1,2 @@
+-- The auction lent and updated in place.
+pub mod Lent
