@@ -107,7 +107,7 @@ fn print_refused(number: u32) -> bool {
 
 // The auction after an event record.
 fn after(a: Auction, tape: &[u8], t: Trailer, k: u32) -> Auction {
-    let s = events::step(a, tape::record_in(tape, t, k as usize));
+    let s = steps::step(a, tape::record_in(tape, t, k as usize));
     s.auction
 }
 
@@ -121,7 +121,7 @@ fn trace_events(tape: &[u8], t: Trailer, opened: Auction) -> bool {
         }
         k += 1;
     }
-    let c = events::close(a);
+    let c = steps::close(a);
     print_auction(b"CLOSE", c.auction)
 }
 

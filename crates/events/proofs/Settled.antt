@@ -3,12 +3,6 @@ use mathlib.Core.Path.{refl, sym, _∙_}
 use Rattle.base.specs.Settled.{Settled}
 use Rattle.events.proofs as contracts
 
-pub step : Settled contracts.steps.step.ended contracts.steps.step.Reads.Asked contracts.steps.step.Reads.Learnt
-step κs a = (tt, λ y z v w p q. (p ∙ sym q, refl))
-
-pub close : Settled contracts.steps.close.ended contracts.steps.close.Reads.Asked contracts.steps.close.Reads.Learnt
-close κs a = (tt, λ y z v w p q. (p ∙ sym q, refl))
-
 pub sight : Settled contracts.turns.sight.ended contracts.turns.sight.Reads.Asked contracts.turns.sight.Reads.Learnt
 sight κs a = (tt, λ y z v w p q. (p ∙ sym q, refl))
 

@@ -1,2 +1,3 @@
 -- What an event does, as document 01 has it.
+pub mod Decide
 pub mod Step

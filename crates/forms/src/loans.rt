@@ -1,7 +1,7 @@
 // An event and a cancel by the forms that take a lent auction. Only these two make the reference: each lends a local.
 ghost use mathlib.Core.Path.{_≡_};
 ghost use Rattle.events.specs.rules.Step.{stepOf};
-ghost use Rattle.lent.specs.rules.Lent.{cancelEvent};
+ghost use Rattle.steps.specs.rules.Lent.{cancelEvent};
 use auction::Auction;
 use events::Stepped;
 use tape::Event;
@@ -10,7 +10,7 @@ pub(crate) fn applied(a: Auction, e: Event) -> Stepped
     ensures { λ r. ⌜ r ≡ stepOf a e ⌝ }
 {
     let mut n = a;
-    let answer = lent::apply(&mut n, e);
+    let answer = steps::apply(&mut n, e);
     Stepped { answer, auction: n }
 }
 
@@ -18,6 +18,6 @@ pub(crate) fn cancelled(a: Auction, sequence: u32, time: u32, named: u32) -> Ste
     ensures { λ r. ⌜ r ≡ stepOf a (cancelEvent sequence time named) ⌝ }
 {
     let mut n = a;
-    let answer = lent::cancel(&mut n, sequence, time, named);
+    let answer = steps::cancel(&mut n, sequence, time, named);
     Stepped { answer, auction: n }
 }

@@ -3,7 +3,7 @@
 ghost use mathlib.Core.Path.{_≡_};
 ghost use mathlib.Core.Bool.{true};
 ghost use Rattle.events.specs.rules.Step.{stepOf};
-ghost use Rattle.lent.specs.rules.Lent.{cancelEvent};
+ghost use Rattle.steps.specs.rules.Lent.{cancelEvent};
 use crate::lines::print_auction;
 use crate::lines::print_end;
 use crate::lines::print_event;
@@ -39,7 +39,7 @@ fn played(a: Auction, e: Event, place: usize) -> Stepped
         return cancelled(a, e.sequence, e.time, e.f12);
     }
     if place % 2 == 0 {
-        return events::step(a, e);
+        return steps::step(a, e);
     }
     applied(a, e)
 }
@@ -91,7 +91,7 @@ fn play_auction(bytes: &[u8], t: Trailer, a: Auction) -> bool {
     if !p.right {
         return false;
     }
-    let s = events::close(p.auction);
+    let s = steps::close(p.auction);
     let last = s.auction;
     print_end(last.head);
     print_results(last)

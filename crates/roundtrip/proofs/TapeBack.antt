@@ -1,5 +1,5 @@
 -- A tape that the writers put together opens and gives back what was put in. Assumes nothing.
-use mathlib.Core.Path.{_≡_, refl, ap, sym, _∙_}
+use mathlib.Core.Path.{_≡_, refl, ap, sym, subst, _∙_}
 use mathlib.Core.Bool.{true}
 use mathlib.Core.List.{List, [], _∷_, _++_, append-assoc, append-nil}
 use Prim.Native.Nat.{ℕ, _+_, _*_, _-_, _≤_}
@@ -17,7 +17,7 @@ use Rattle.tape.specs.declared.order.ReadOrder.the-variants.{Order as GotOrder}
 use Rattle.tape.specs.declared.event.ReadEvent.the-variants.{Event as GotEvent}
 use Rattle.tape.specs.declared.trailer.Opened.the-variants.{Tape}
 use Rattle.tape.specs.rules.Form.{eventFormed}
-use Rattle.tape.specs.rules.Records.{withRecord, orderWords, eventWords, trailerWords, orderWrote, eventWrote, trailerWrote, readOrder, recordAt, readTrailer}
+use Rattle.tape.specs.rules.Records.{withRecord, orderWords, eventWords, trailerWords, orderWrote, eventWrote, trailerWrote, readOrder, readEvent, recordAt, readTrailer}
 use Rattle.tape.specs.rules.Tape.{lengthOf, openTape, eventPlace, orderIn, recordIn, recordsFrom, recordsOf, trailerFor, eventsBytes, tapeOf, wroteEvents, wroteTape}
 use Rattle.roundtrip.specs.promises.Demands.{Word, AllFormed, none, more, Tapeable, TapeBack, Demands}
 use Rattle.tape.proofs.HoldsLaws.{event-stands, records-none, records-more, recorded, holds}
@@ -41,6 +41,10 @@ events-bytes (e ∷ es) = omega (arith, length-append (wordBytes (eventWords e))
 events-append : (es fs : List Event) → eventsBytes (es ++ fs) ≡ eventsBytes es ++ eventsBytes fs
 events-append [] fs = refl
 events-append (e ∷ es) fs = ap (λ (l : List ℕ). wordBytes (eventWords e) ++ l) (events-append es fs) ∙ sym (append-assoc (wordBytes (eventWords e)) (eventsBytes es) (eventsBytes fs))
+
+formed-at : (before : List Event) (e : Event) (after : List Event) → AllFormed (before ++ (e ∷ after)) → Word (e .sequence) × (eventFormed e ≡ true)
+formed-at [] e after (more q ok f) = (q, ok)
+formed-at (b ∷ before) e after (more q ok f) = formed-at before e after f
 
 -- an event that was written stands in its record
 record-written : (e : Event) (l : List ℕ) → Word (e .sequence) → eventFormed e ≡ true → recordAt (wordBytes (eventWords e) ++ l) ≡ e
@@ -123,14 +127,24 @@ module _ (own : List ℕ) (o : Order) (es : List Event) (fine : Tapeable own o e
       let body : List ℕ = eventsBytes es ++ wordBytes (trailerWords (trailerFor own es)) in
       ap readOrder (drop-at own (wordBytes (orderWords o) ++ body) (length own) refl) ∙ order-written o body (fine .order)
 
+  -- what stands after the events before one
+  from-event : (before : List Event) (e : Event) (after : List Event) → es ≡ before ++ (e ∷ after)
+      → drop (eventPlace (length own) (length before)) (tapeOf own o es) ≡ wordBytes (eventWords e) ++ (eventsBytes after ++ wordBytes (trailerWords (trailerFor own es)))
+  from-event before e after h =
+      let end : List ℕ = wordBytes (trailerWords (trailerFor own es)) in
+      let parts : eventsBytes es ≡ eventsBytes before ++ (wordBytes (eventWords e) ++ eventsBytes after) = ap eventsBytes h ∙ events-append before (e ∷ after) in
+      from (eventsBytes before) (wordBytes (eventWords e) ++ eventsBytes after) (length before) (events-bytes before) parts ∙ append-assoc (wordBytes (eventWords e)) (eventsBytes after) end
+
   -- record k: the event that stands there, after those before it
   record-back : (before : List Event) (e : Event) (after : List Event) → es ≡ before ++ (e ∷ after) → Word (e .sequence) → eventFormed e ≡ true → recordIn (tapeOf own o es) (trailerFor own es) (length before) ≡ e
   unfolding recordIn
   record-back before e after h q ok =
-      let end : List ℕ = wordBytes (trailerWords (trailerFor own es)) in
-      let parts : eventsBytes es ≡ eventsBytes before ++ (wordBytes (eventWords e) ++ eventsBytes after) = ap eventsBytes h ∙ events-append before (e ∷ after) in
-      ap recordAt (from (eventsBytes before) (wordBytes (eventWords e) ++ eventsBytes after) (length before) (events-bytes before) parts ∙ append-assoc (wordBytes (eventWords e)) (eventsBytes after) end)
-      ∙ record-written e (eventsBytes after ++ end) q ok
+      ap recordAt (from-event before e after h) ∙ record-written e (eventsBytes after ++ wordBytes (trailerWords (trailerFor own es))) q ok
+
+  event-back : (before : List Event) (e : Event) (after : List Event) → es ≡ before ++ (e ∷ after) → readEvent (drop (eventPlace (length own) (length before)) (tapeOf own o es)) ≡ GotEvent e
+  event-back before e after h =
+      let f = formed-at before e after (subst AllFormed h (fine .events)) in
+      ap readEvent (from-event before e after h) ∙ event-written e (eventsBytes after ++ wordBytes (trailerWords (trailerFor own es))) (f .0) (f .1)
 
   -- the records from k on, after the k events before them
   records-from : (before : List Event) {after : List Event} → AllFormed after → es ≡ before ++ after → (k : ℕ) → k ≡ length before → recordsFrom (tapeOf own o es) (trailerFor own es) k (length after) ≡ after
@@ -147,7 +161,7 @@ module _ (own : List ℕ) (o : Order) (es : List Event) (fine : Tapeable own o e
   records-back = records-from [] (fine .events) refl 0 refl
 
   pub tape-back : TapeBack own o es
-  tape-back = record { written = made; opens = opens; order = order-back; records = records-back }
+  tape-back = record { written = made; opens = opens; order = order-back; records = records-back; event = event-back }
 
 -- ---- all that is promised
 

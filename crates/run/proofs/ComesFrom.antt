@@ -21,20 +21,20 @@ use Rattle.auction.specs.rules.Accept.{openedBy, acceptOf}
 use Rattle.auction.specs.rules.Range.{isOpen}
 use Rattle.tape.specs.rules.Fields.{sizeOf}
 use Rattle.events.specs.rules.Step.{sightOf, boardAfter, headAfter, endedByTime, carried, seatedOn, stepOf}
-use Rattle.decide.specs.rules.Decide.{responseOf}
+use Rattle.events.specs.rules.Decide.{responseOf}
 use Rattle.run.specs.rules.Run.{run, isTaken, takenOf}
 use Rattle.run.specs.promises.Demands.{madeBy, ComesFrom, Sound, Resend}
 use Rattle.auction.specs.declared.Auction.{Auction}
 use Rattle.auction.specs.declared.Terms.{Terms}
 use Rattle.auction.specs.declared.Ending.{Ending}
-use Rattle.decide.specs.declared.Sight.{Sight}
+use Rattle.events.specs.declared.Sight.{Sight}
 use Rattle.events.specs.declared.Turn.{Turn}
 use Rattle.auction.specs.declared.Entry.the-variants.{Accepted}
 use Rattle.run.proofs.StepLaws.{Outcomes, Ordinary, Cases, cases}
 use Rattle.mirror.proofs.EventLaws.{buy-sequence, buy-kind}
 use Rattle.run.proofs.BoardSteps.{sees, seat-every, clear-every}
 use Rattle.run.proofs.Accepted.{Opened, opened}
-use Rattle.run.proofs.Resend.{any-change, taken-any, older, again, one}
+use Rattle.run.proofs.Resend.{any-change, taken-any, older, again, rising, one}
 use Rattle.run.proofs.SoundLaws.{sound-opened, sound-step, sound-run}
 
 -- r comes from an event of which Q holds
@@ -120,4 +120,4 @@ comes-from o es h =
     nobody z Q = subst (λ (a : Auction). Every (From Q (a .head .terms)) (liveOf (a .board))) (sym z) (empty-from Q (eqb (o .side) 2) (buyOrder o))
 
 pub resend : Resend
-resend = record { older = older; again = again; apart = λ o es h. sound-run es (acceptOf o .auction) (sound-opened o h) .distinct; comes-from = comes-from; one = one }
+resend = record { older = older; again = again; apart = λ o es h. sound-run es (acceptOf o .auction) (sound-opened o h) .distinct; rising = λ a es. rising es a; comes-from = comes-from; one = one }

@@ -10,7 +10,7 @@ use Rattle.tape.specs.rules.Form.{eventFormed, shapeTests, shapeOf, allFrom, in
 use Rattle.tape.specs.declared.event.Event.{Event}
 use Rattle.auction.specs.declared.Auction.{Auction}
 use Rattle.events.specs.rules.Step.{stepOf}
-use Rattle.lent.specs.rules.Lent.{cancelEvent}
+use Rattle.steps.specs.rules.Lent.{cancelEvent}
 use Rattle.events.specs.declared.Answer.{Answer}
 use Rattle.run.specs.rules.Run.{run, Said, said, heard}
 use Rattle.run.specs.promises.InPlace.{Applies, none, more, InPlace}

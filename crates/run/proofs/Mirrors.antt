@@ -23,7 +23,7 @@ use Rattle.mirror.specs.rules.Mirror.{mirroredOrder, mirroredEvent, buyOrder, b
 use Rattle.auction.specs.rules.Accept.{orderRefusal, buyRefusal, termsOf, openedBy, noAuction, acceptOf}
 use Rattle.auction.specs.rules.Range.{isOpen}
 use Rattle.events.specs.rules.Step.{foundFor, sightOf, eventRefusal, stays, endedByTime, headAfter, boardAfter, carried, turnOf, closeTurn, seatedOn, stepBy, stepOf, closeOf}
-use Rattle.decide.specs.rules.Decide.{gtxOutcome, cancelOutcome, sellLimitOutcome, buyLimitOutcome, limitOutcome, marketOutcome, quotesOutcome, outcomeOf}
+use Rattle.events.specs.rules.Decide.{gtxOutcome, cancelOutcome, sellLimitOutcome, buyLimitOutcome, limitOutcome, marketOutcome, quotesOutcome, outcomeOf}
 use Rattle.auction.specs.rules.Range.{boundNow, rangeOf}
 use Rattle.fills.specs.rules.Fills.{dealOf, auctionFills}
 use Rattle.run.specs.rules.Run.{run, Said, said, heard, closed, played}
@@ -37,11 +37,11 @@ use Rattle.events.specs.declared.Answer.the-variants.{Late, Refused as No}
 use Rattle.auction.specs.declared.Entry.the-variants.{Accepted, Refused}
 use Rattle.auction.specs.declared.Opening.{Opening}
 use Rattle.events.specs.declared.Answer.{Answer}
-use Rattle.decide.specs.declared.Sight.{Sight}
+use Rattle.events.specs.declared.Sight.{Sight}
 use Rattle.events.specs.declared.Turn.{Turn}
-use Rattle.decide.specs.declared.Change.{Change}
-use Rattle.decide.specs.declared.Outcome.{Outcome}
-use Rattle.decide.specs.declared.Outcome.the-variants.{Refuses, Does}
+use Rattle.events.specs.declared.Change.{Change}
+use Rattle.events.specs.declared.Outcome.{Outcome}
+use Rattle.events.specs.declared.Outcome.the-variants.{Refuses, Does}
 use Rattle.mirror.proofs.EventLaws.{mirror-sequence, mirror-time, mirror-kind, mirror-rest}
 use Rattle.run.proofs.Accepted.{Opened, opened}
 use Rattle.mirror.proofs.MirrorForm.{order-form, buy-mirrored, other-side, event-twice, event-form}

@@ -20,7 +20,7 @@ use Rattle.auction.specs.rules.Accept.{initiatingOf, firstBound, guaranteedOf, 
 use Rattle.auction.specs.rules.Range.{isOpen}
 use Rattle.events.specs.rules.Step.{sightOf, eventRefusal, headAfter, endedByTime, turnOf, closeTurn, gives, seatedOn, stepBy, stepOf, closeOf}
 use Rattle.run.specs.rules.Run.{run, isTaken, takenOf}
-use Rattle.run.specs.promises.Demands.{RefusedAgain, Keeps}
+use Rattle.run.specs.promises.Demands.{Rising, RefusedAgain, Keeps}
 use Rattle.auction.specs.declared.Auction.{Auction}
 use Rattle.auction.specs.declared.Terms.{Terms}
 use Rattle.auction.specs.declared.Quotes.{Quotes}
@@ -28,14 +28,14 @@ use Rattle.auction.specs.declared.Ending.{Ending}
 use Rattle.events.specs.declared.Answer.{Answer}
 use Rattle.events.specs.declared.Answer.the-variants.{Taken, Ended, Late, Refused}
 use Rattle.events.specs.declared.Stepped.{Stepped}
-use Rattle.decide.specs.declared.Sight.{Sight}
+use Rattle.events.specs.declared.Sight.{Sight}
 use Rattle.events.specs.declared.Turn.{Turn}
 use Rattle.auction.specs.declared.Opening.{Opening}
 use Rattle.auction.specs.declared.Entry.the-variants.{Refused as NotAccepted}
-use Rattle.decide.specs.declared.Change.{Change}
-use Rattle.decide.specs.declared.Change.the-variants.{Nothing, Seat, Free, Quote, Sell}
-use Rattle.decide.specs.declared.Outcome.{Outcome}
-use Rattle.decide.specs.declared.Outcome.the-variants.{Refuses, Does}
+use Rattle.events.specs.declared.Change.{Change}
+use Rattle.events.specs.declared.Change.the-variants.{Nothing, Seat, Free, Quote, Sell}
+use Rattle.events.specs.declared.Outcome.{Outcome}
+use Rattle.events.specs.declared.Outcome.the-variants.{Refuses, Does}
 use Rattle.run.proofs.StepLaws.{EventNumber, Outcomes, Ordinary, Cases, cases}
 
 -- where only refusing or not matters: any change, any ending
@@ -195,6 +195,19 @@ above (e ∷ es) a =
     go : (b : Bool) → isTaken (stepOf a e .answer) ≡ b → Every (λ f. a .head .sequence < f .sequence) (takenOf (stepOf a e .auction) es) → Every (λ f. a .head .sequence < f .sequence) (keep b e (takenOf (stepOf a e .auction) es))
     go true z rest = (taken-is (seen a e) a e z .1, rest)
     go false z rest = rest
+
+-- what rises above m rises above all below it
+rising-from : (m k : ℕ) (es : List Event) → k ≤ m → Rising m es → Rising k es
+rising-from m k [] h r = tt
+rising-from m k (e ∷ es) h r = (omega (arith, r .0), r .1)
+
+pub rising : (es : List Event) (a : Auction) → Rising (a .head .sequence) (takenOf a es)
+rising [] a = tt
+rising (e ∷ es) a = go (isTaken (stepOf a e .answer)) refl (rising es (stepOf a e .auction))
+  where
+    go : (b : Bool) → isTaken (stepOf a e .answer) ≡ b → Rising (stepOf a e .auction .head .sequence) (takenOf (stepOf a e .auction) es) → Rising (a .head .sequence) (keep b e (takenOf (stepOf a e .auction) es))
+    go true z r = (taken-is (seen a e) a e z .1, subst (λ (m : ℕ). Rising m (takenOf (stepOf a e .auction) es)) (taken-is (seen a e) a e z .2) r)
+    go false z r = rising-from (stepOf a e .auction .head .sequence) (a .head .sequence) (takenOf (stepOf a e .auction) es) (rises (seen a e) a e) r
 
 pub one : (a : Auction) (es : List Event) (e f : Event) → In e (takenOf a es) → In f (takenOf a es) → e .sequence ≡ f .sequence → e ≡ f
 one a [] e f i j h = absurd i

@@ -32,7 +32,7 @@ use Rattle.auction.specs.rules.Accept.{initiatingOf, boundOf, firstBound, terms
 use Rattle.auction.specs.rules.Range.{isOpen, boundBy}
 use Rattle.tape.specs.rules.Fields.{sizeOf}
 use Rattle.events.specs.rules.Step.{sightOf, boardAfter, quotesAfter, marketAfter, headAfter, endedByTime, carried, closeTurn, seatedOn, stepBy, stepOf, closeOf}
-use Rattle.decide.specs.rules.Decide.{responseOf}
+use Rattle.events.specs.rules.Decide.{responseOf}
 use Rattle.auction.specs.rules.Range.{word, boundNow, rangeOf}
 use Rattle.fills.specs.rules.Fills.{dealOf, auctionFills}
 use Rattle.run.specs.rules.Run.{run, played}
@@ -41,10 +41,10 @@ use Rattle.auction.specs.declared.Auction.{Auction}
 use Rattle.auction.specs.declared.Range.{Range}
 use Rattle.auction.specs.declared.Ending.{Ending}
 use Rattle.auction.specs.declared.Ending.the-variants.{Open, Opposite}
-use Rattle.decide.specs.declared.Change.{Change}
-use Rattle.decide.specs.declared.Change.the-variants.{Nothing, Seat, Free, Quote, Sell}
+use Rattle.events.specs.declared.Change.{Change}
+use Rattle.events.specs.declared.Change.the-variants.{Nothing, Seat, Free, Quote, Sell}
 use Rattle.events.specs.declared.Stepped.{Stepped}
-use Rattle.decide.specs.declared.Sight.{Sight}
+use Rattle.events.specs.declared.Sight.{Sight}
 use Rattle.events.specs.declared.Turn.{Turn}
 use Rattle.auction.specs.declared.Entry.the-variants.{Accepted}
 use Rattle.run.proofs.StepLaws.{Outcomes, Ordinary, Cases, cases}

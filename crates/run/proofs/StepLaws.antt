@@ -17,14 +17,14 @@ use Rattle.auction.specs.declared.Quotes.{Quotes}
 use Rattle.auction.specs.declared.Ending.{Ending}
 use Rattle.auction.specs.declared.Ending.the-variants.{Open, Time, Same, Opposite, Improve}
 use Rattle.events.specs.rules.Step.{eventRefusal, stays, endedByTime, carried, turnOf}
-use Rattle.decide.specs.rules.Decide.{isCancel, isCustomer, isNonRoutable, responseOf, seats, gtxOutcome, cancelOutcome, sellLimitOutcome, bidQuotes, moves, buyLimitOutcome, limitOutcome, marketOutcome, newQuotes, quotesOutcome, outcomeOf}
+use Rattle.events.specs.rules.Decide.{isCancel, isCustomer, isNonRoutable, responseOf, seats, gtxOutcome, cancelOutcome, sellLimitOutcome, bidQuotes, moves, buyLimitOutcome, limitOutcome, marketOutcome, newQuotes, quotesOutcome, outcomeOf}
 use Rattle.tape.specs.rules.Fields.{sizeOf, priceOf}
 use Rattle.events.specs.declared.Answer.the-variants.{Late, Refused}
-use Rattle.decide.specs.declared.Sight.{Sight}
+use Rattle.events.specs.declared.Sight.{Sight}
 use Rattle.events.specs.declared.Turn.{Turn}
-use Rattle.decide.specs.declared.Change.the-variants.{Nothing, Seat, Free, Quote, Sell}
-use Rattle.decide.specs.declared.Outcome.{Outcome}
-use Rattle.decide.specs.declared.Outcome.the-variants.{Refuses, Does}
+use Rattle.events.specs.declared.Change.the-variants.{Nothing, Seat, Free, Quote, Sell}
+use Rattle.events.specs.declared.Outcome.{Outcome}
+use Rattle.events.specs.declared.Outcome.the-variants.{Refuses, Does}
 
 -- ---- the decision
 

@@ -7,7 +7,7 @@ use lib.ListN.{length, take, drop}
 use Rattle.words.specs.rules.Bytes.{AllBytes}
 use Rattle.tape.specs.rules.Form.{orderFormed, eventFormed}
 use Rattle.tape.specs.rules.Records.{readOrder, orderAnswer, orderWrote, readEvent, eventAnswer, eventWrote, readTrailer, trailerAnswer, trailerWrote}
-use Rattle.tape.specs.rules.Tape.{lengthOf, openTape, orderIn, recordsOf, tapeOf, wroteTape, trailerFor}
+use Rattle.tape.specs.rules.Tape.{lengthOf, openTape, eventPlace, orderIn, recordsOf, tapeOf, wroteTape, trailerFor}
 use Rattle.tape.specs.promises.Holds.{Holds, Recorded}
 use Rattle.tape.specs.declared.order.Order.{Order}
 use Rattle.tape.specs.declared.event.Event.{Event}
@@ -57,6 +57,8 @@ pub record TapeBack (own : List ℕ) (o : Order) (es : List Event) : Type 0 wher
   pub opens : openTape (tapeOf own o es) ≡ Tape (trailerFor own es)
   pub order : orderIn (tapeOf own o es) (trailerFor own es) ≡ GotOrder o
   pub records : recordsOf (tapeOf own o es) (trailerFor own es) ≡ es
+  -- and each of them reads back where it stands
+  pub event : (before : List Event) (e : Event) (after : List Event) → es ≡ before ++ (e ∷ after) → readEvent (drop (eventPlace (length own) (length before)) (tapeOf own o es)) ≡ GotEvent e
 
 pub record Demands : Type 0 where
   pub values-back : ValuesBack

@@ -22,7 +22,7 @@ use Rattle.auction.specs.rules.Accept.{acceptOf}
 use Rattle.auction.specs.rules.Range.{isOpen, boundBy}
 use Rattle.tape.specs.rules.Fields.{sizeOf}
 use Rattle.events.specs.rules.Step.{sightOf, gives, stepBy, stepOf, closeOf}
-use Rattle.decide.specs.rules.Decide.{responseOf}
+use Rattle.events.specs.rules.Decide.{responseOf}
 use Rattle.fills.specs.rules.Fills.{dealOf, auctionFills}
 use Rattle.auction.specs.rules.Range.{rangeOf}
 use Rattle.run.specs.rules.Run.{run, heard, played, isTaken, takenOf}
@@ -32,7 +32,7 @@ use Rattle.auction.specs.declared.Terms.{Terms}
 use Rattle.auction.specs.declared.Range.{Range}
 use Rattle.auction.specs.declared.Entry.the-variants.{Accepted, Refused as NotAccepted}
 use Rattle.events.specs.declared.Answer.the-variants.{Refused}
-use Rattle.decide.specs.declared.Sight.{Sight}
+use Rattle.events.specs.declared.Sight.{Sight}
 
 -- ---- what an event sees of the board
 
@@ -75,6 +75,11 @@ pub record ComesFrom (t : Terms) (es : List Event) (r : Response) : Type 0 where
   pub made : r ≡ madeBy t event
   pub named : r .sequence ≡ event .sequence
 
+-- the sequences of a list rise, above m
+abbrev pub Rising : ℕ → List Event → Type 0
+Rising m [] = Unit {0}
+Rising m (e ∷ es) = (m < e .sequence) × Rising (e .sequence) es
+
 abbrev pub RefusedAgain : Auction → Event → Type 0
 RefusedAgain a e = stepOf a e ≡ gives (Refused (cond (isOpen (a .head .ending)) 33 31)) a
 
@@ -85,7 +90,9 @@ pub record Resend : Type 0 where
   pub again : (a : Auction) (e : Event) (es : List Event) → isTaken (stepOf a e .answer) ≡ true → RefusedAgain (run (stepOf a e .auction) es) e
   -- no two live responses bear one sequence
   pub apart : (o : Order) (es : List Event) → acceptOf o .answer ≡ Accepted → Distinct (liveOf (run (acceptOf o .auction) es .board))
-  -- each live response comes from an event taken, and no two events taken bear one sequence
+  -- the sequences of the events taken rise: none is taken twice, and none bears another's
+  pub rising : (a : Auction) (es : List Event) → Rising (a .head .sequence) (takenOf a es)
+  -- each live response comes from an event taken, and a sequence tells which
   pub comes-from : (o : Order) (es : List Event) → acceptOf o .answer ≡ Accepted → Every (ComesFrom (acceptOf o .auction .head .terms) (takenOf (acceptOf o .auction) es)) (liveOf (run (acceptOf o .auction) es .board))
   pub one : (a : Auction) (es : List Event) (e f : Event) → In e (takenOf a es) → In f (takenOf a es) → e .sequence ≡ f .sequence → e ≡ f
 
@@ -107,7 +114,7 @@ pub record Sound (a : Auction) : Type 0 where
   -- each live response stands rightly, with a sequence of its own
   pub live : Every (Stands (a .head .sequence) (a .head .terms .initiating)) (liveOf (a .board))
   pub distinct : Distinct (liveOf (a .board))
-  -- no market order while it is open, and one with a sequence of its own after
+  -- no market order while it is open; after it, where there is one, it has a sequence of its own
   pub no-market : isOpen (a .head .ending) ≡ true → a .head .market .size ≡ 0
   pub market-apart : 0 < a .head .market .size → (0 < a .head .market .sequence) × Absent (a .head .market .sequence) (liveOf (a .board))
 

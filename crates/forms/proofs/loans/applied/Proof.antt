@@ -50,10 +50,10 @@ use Rattle.events.proofs.Answer as N
 use Rattle.events.proofs.Answer.Laws as N′
 use Rattle.events.proofs.Stepped as S
 use Rattle.events.proofs.Stepped.Laws as S′
-use Rattle.lent.proofs.apply as apply
-use Rattle.lent.proofs.apply.Symbol as apply-def
-use Rattle.lent.proofs.apply.Symbol.{name as #callee}
-use Rattle.lent.proofs.apply.Met as apply-thm
+use Rattle.steps.proofs.apply as apply
+use Rattle.steps.proofs.apply.Symbol as apply-def
+use Rattle.steps.proofs.apply.Symbol.{name as #callee}
+use Rattle.steps.proofs.apply.Met as apply-thm
 use Rattle.forms.proofs.Lies.{state, reply, stepped, made, is-reply, is-made, same-made, lies-in, lies-out}
 use Rattle.forms.proofs.loans.applied.Key.{name as #this}
 use Rattle.forms.proofs.loans.applied as this
@@ -147,4 +147,4 @@ applied-spec 𝓤 H 𝓜 𝓖 𝓡 =
     entered 𝓤 H (tripleOf 𝓤 H (𝓖 .A) this.signature (this.spec 𝓤 H (𝓖 .A) (𝓜 .mem) (𝓡 .run)))
     (tables 𝓤 H 𝓜 𝓡 code.env .C) (tables 𝓤 H 𝓜 𝓡 code.env .Λ) #this code.function (code.unfolded 𝓤 H 𝓜 𝓡)
     (this-meets 𝓤 H (𝓖 .A) (givenOf 𝓤 H 𝓜 𝓖) (𝓜 .mem) (𝓡 .run) (tablesOf 𝓤 H 𝓜 (tables 𝓤 H 𝓜 𝓡 code.env))
-    (cited 𝓤 H (Apply 𝓤 H (𝓖 .A) (𝓜 .mem) (𝓡 .run)) 𝓜 𝓡 code.env #callee apply-def.routine code.calls-lent·apply (apply-thm.met 𝓤 H 𝓜 𝓖 𝓡)))
+    (cited 𝓤 H (Apply 𝓤 H (𝓖 .A) (𝓜 .mem) (𝓡 .run)) 𝓜 𝓡 code.env #callee apply-def.routine code.calls-steps·apply (apply-thm.met 𝓤 H 𝓜 𝓖 𝓡)))

@@ -40,7 +40,7 @@ use denote.Triple.Walked.{says, Stays, stay-none, walkOf, goes-none, Walks, ends
 use denote.Triple.Clauses.{ensured, lasts}
 use denote.Exit.{yes}
 use Rattle.events.specs.rules.Step.{stepOf}
-use Rattle.lent.specs.rules.Lent.{cancelEvent}
+use Rattle.steps.specs.rules.Lent.{cancelEvent}
 use Rattle.auction.specs.declared.Auction.{Auction}
 use Rattle.events.specs.declared.Answer.{Answer}
 use Rattle.events.specs.declared.Stepped.{Stepped}
@@ -50,10 +50,10 @@ use Rattle.events.proofs.Answer as N
 use Rattle.events.proofs.Answer.Laws as N′
 use Rattle.events.proofs.Stepped as S
 use Rattle.events.proofs.Stepped.Laws as S′
-use Rattle.lent.proofs.cancel as cancel
-use Rattle.lent.proofs.cancel.Symbol as cancel-def
-use Rattle.lent.proofs.cancel.Symbol.{name as #callee}
-use Rattle.lent.proofs.cancel.Met as cancel-thm
+use Rattle.steps.proofs.cancel as cancel
+use Rattle.steps.proofs.cancel.Symbol as cancel-def
+use Rattle.steps.proofs.cancel.Symbol.{name as #callee}
+use Rattle.steps.proofs.cancel.Met as cancel-thm
 use Rattle.forms.proofs.Lies.{state, reply, stepped, made, is-reply, is-made, same-made, lies-in, lies-out}
 use Rattle.forms.proofs.loans.cancelled.Key.{name as #this}
 use Rattle.forms.proofs.loans.cancelled as this
@@ -147,4 +147,4 @@ cancelled-spec 𝓤 H 𝓜 𝓖 𝓡 =
     entered 𝓤 H (tripleOf 𝓤 H (𝓖 .A) this.signature (this.spec 𝓤 H (𝓖 .A) (𝓜 .mem) (𝓡 .run)))
     (tables 𝓤 H 𝓜 𝓡 code.env .C) (tables 𝓤 H 𝓜 𝓡 code.env .Λ) #this code.function (code.unfolded 𝓤 H 𝓜 𝓡)
     (this-meets 𝓤 H (𝓖 .A) (givenOf 𝓤 H 𝓜 𝓖) (𝓜 .mem) (𝓡 .run) (tablesOf 𝓤 H 𝓜 (tables 𝓤 H 𝓜 𝓡 code.env))
-    (cited 𝓤 H (Cancel 𝓤 H (𝓖 .A) (𝓜 .mem) (𝓡 .run)) 𝓜 𝓡 code.env #callee cancel-def.routine code.calls-lent·cancel (cancel-thm.met 𝓤 H 𝓜 𝓖 𝓡)))
+    (cited 𝓤 H (Cancel 𝓤 H (𝓖 .A) (𝓜 .mem) (𝓡 .run)) 𝓜 𝓡 code.env #callee cancel-def.routine code.calls-steps·cancel (cancel-thm.met 𝓤 H 𝓜 𝓖 𝓡)))

@@ -4,7 +4,7 @@ use lib.Dec.{eqb}
 use borrow.Author.Tests.{eqb-true}
 use Rattle.base.proofs.Bools.{and-left, and-right}
 use Rattle.tape.specs.declared.event.Event.{Event}
-use Rattle.lent.specs.rules.Lent.{cancelEvent}
+use Rattle.steps.specs.rules.Lent.{cancelEvent}
 use Rattle.forms.proofs.play.is_cancel.Statement.{statement}
 use Rattle.forms.proofs.play.is_cancel.Tie as tie
 

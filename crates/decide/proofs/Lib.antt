@@ -1,2 +1,0 @@
--- The theorem of `decide`.
-pub mod Settled

@@ -1,2 +1,0 @@
--- What the contracts of `lent` cite.
-pub mod rules

@@ -1,0 +1,2 @@
+-- Theorems of `steps`.
+pub mod Settled

@@ -1,0 +1,2 @@
+-- What the contracts of `steps` cite, beside those of `events`.
+pub mod rules
