@@ -1,4 +1,4 @@
--- What it says that a contract settles its function.
+-- What it means that a contract settles its function.
 use mathlib.Core.Path.{_≡_}
 use contract.Lifetimes.{Lfts}
 use denote.Triple.Entry.{Args, Res}

@@ -1,4 +1,4 @@
--- Which orders are accepted, and the auction that one opens (document 01, "Numbers for no", "Range and guarantee"), for a buy.
+-- Which orders are accepted, and the auction that one opens (document 01, "Numbers for no", "Range and guarantee"): a sell is tested as the buy that it mirrors.
 use mathlib.Core.Bool.{Bool, true, false, cond, not, _&&_, _||_}
 use Prim.Native.Nat.{ℕ, _+_, _-_, min, max}
 use lib.Dec.{leb, ltb, eqb}

@@ -21,7 +21,7 @@ isOpen Improve = false
 abbrev pub boundBy : Terms → Quotes → ℕ
 boundBy t q = boundOf (t .size) (t .floor) (q .bb) (q .bidmark)
 
--- a number as a word of 32 bits; a bound of an auction that was opened always is one
+-- at most the largest word of 32 bits; the bound of an auction that was opened always is
 abbrev pub word : ℕ → ℕ
 word x = min x 4294967295
 

@@ -83,7 +83,7 @@ planAt d b l = planOf (d .mode) (workingStop d) (d .initiating) (guarantee d (of
 -- ---- what every ended auction has
 
 pub record Tradable (d : Deal) (b : Board) : Type 0 where
-  -- the bound has not passed the initiating price, and neither does the stop or limit
+  -- the bound has not passed the initiating price, and neither has the stop or limit
   pub bound-below : d .bound ≤ d .initiating
   pub stop-below : d .stop ≤ d .initiating
   -- nor does any response
@@ -103,7 +103,7 @@ pub record InRange (d : Deal) (f : Fill) : Type 0 where
   pub high : f .price ≤ d .initiating
   pub some : 1 ≤ f .quantity
 
--- the parties: the Contra Order, the market order, and the live responses'
+-- the parties: the Contra Order, the market order, and the live responses
 pub data Party (d : Deal) (b : Board) (k : ℕ) : Type 0 where
   theContra : k ≡ 0 → Party d b k
   theMarket : k ≡ d .market → 0 < d .selling → Party d b k
@@ -189,7 +189,7 @@ pub record Demand3 (d : Deal) (b : Board) (fs : List Fill) : Type 0 where
   -- price by price
   pub by-level : (l : Level) → In l (levels d (offers b)) → ByLevel d b fs l
 
--- the theorem: every ended auction has these fills
+-- the theorem: the fills of every deal and board that can trade have this
 abbrev pub Demands : Type 0
 Demands = (d : Deal) (b : Board) → Tradable d b → Demand3 d b (fills d (offers b))
 

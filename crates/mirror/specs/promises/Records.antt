@@ -17,7 +17,7 @@ pub record MarksMirror (m : ℕ) : Type 0 where
 
 pub record RecordsMirror : Type 0 where
   pub marks : (m : ℕ) → MarksMirror m
-  -- twice is once
+  -- mirrored twice is itself
   pub marks-twice : (m : ℕ) → mirroredMarks (mirroredMarks m) ≡ m
   pub order-twice : (o : Order) → orderFormed o ≡ true → mirroredOrder (mirroredOrder o) ≡ o
   pub event-twice : (e : Event) → eventFormed e ≡ true → mirroredEvent (mirroredEvent e) ≡ e

@@ -16,11 +16,12 @@ abbrev pub moved : ℕ → Tape → Tape
 moved zero t = t
 moved (suc k) t = nextOf (moved k t)
 
--- what is read up to the end, in at most n moves
+-- an event in front of those after it, and nothing from the end on
 abbrev pub andThen : Current → List Event → List Event
 andThen (There r) rs = r ∷ rs
 andThen End rs = []
 
+-- what is read up to the end, in at most n moves
 abbrev pub gathered : ℕ → Tape → List Event
 gathered zero t = []
 gathered (suc n) t = andThen (standing t) (gathered n (nextOf t))

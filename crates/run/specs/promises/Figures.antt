@@ -24,7 +24,7 @@ pub data Result : Type 0 where
   standing : ℕ → ℕ → Result
   ended : Ending → ℕ → ℕ → List Fill → Result
 
--- one who is open stands with a range; one who has ended has fills
+-- one that is open stands with a range; one that has ended has fills
 abbrev pub shownBy : Ending → Auction → Result
 shownBy Open a = standing (rangeOf (a .head) .low) (rangeOf (a .head) .high)
 shownBy Time a = ended Time (rangeOf (a .head) .low) (rangeOf (a .head) .high) (auctionFills a)

@@ -32,7 +32,7 @@ sharesBy ms R ss = cond (leb (sum ss) R) ss (plus (floors R (sum ss) ss) ms)
 unfoldable pub shares : ℕ → List ℕ → List ℕ
 shares R ss = sharesBy (firsts (leftover R ss) ss) R ss
 
--- first come first: each as far as what is left goes
+-- first come, first served: each as far as what is left goes
 abbrev pub inTurn : ℕ → List ℕ → List ℕ
 inTurn left [] = []
 inTurn left (s ∷ ss) = min left s ∷ inTurn (left - s) ss

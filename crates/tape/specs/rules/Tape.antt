@@ -15,7 +15,7 @@ use Rattle.tape.specs.declared.trailer.ReadTrailer.the-variants.{Trailer
 use Rattle.tape.specs.declared.trailer.Opened.{Opened}
 use Rattle.tape.specs.declared.trailer.Opened.the-variants.{Tape, Refused}
 
--- the lengths add up
+-- what the lengths add up to
 abbrev pub lengthOf : Trailer → ℕ
 lengthOf t = t .order + 64 + t .events * 32 + 16
 

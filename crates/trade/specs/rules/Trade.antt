@@ -133,7 +133,7 @@ module _ (d : Deal) (rs : List Response) where
 
   -- ---- the market order that ended the auction
 
-  -- in mode 2 the lowest working price, or the midpoint where nobody responded, half cents up; else the lower of that and the stop or limit
+  -- in mode 2 the lowest working price, or the midpoint where nobody responded, half cents up; else the lower of the lowest working price, if there is a response, and the working stop or limit
   unfoldable pub marketPrice : ℕ
   marketPrice =
       let lowest = next d 0 rs in

@@ -16,7 +16,7 @@ pub record BitsMean : Type 0 where
   -- the count: one more where a clear bit is set, one less where a set bit is cleared
   pub set-counts : (w i : ℕ) → i < 64 → bitAt w i ≡ false → onesIn 64 (withBit w i) ≡ suc (onesIn 64 w)
   pub clear-counts : (w i : ℕ) → i < 64 → bitAt w i ≡ true → onesIn 64 w ≡ suc (onesIn 64 (withoutBit w i))
-  -- the first clear bit: it is clear, all below it are set, and there is one exactly where a bit is clear, or not all count
+  -- the first clear bit: it is clear, all below it are set, and there is one exactly where fewer than 64 bits are set
   pub clear-at-most : (w : ℕ) → clearIn 64 w ≤ 64
   pub clear-is : (w : ℕ) → clearIn 64 w < 64 → bitAt w (clearIn 64 w) ≡ false
   pub clear-lowest : (w j : ℕ) → j < clearIn 64 w → bitAt w j ≡ true
