@@ -16,7 +16,7 @@ use Rattle.tape.specs.declared.trailer.ReadTrailer.the-variants.{Trailer
 use Rattle.tape.specs.declared.trailer.Opened.the-variants.{Tape, Refused}
 use Rattle.tape.specs.rules.Form.{eventFormed, shapeOf, shapeTests}
 use Rattle.tape.specs.rules.Records.{eventOf, eventSpare, ofNoKind, recordAt, readEvent, readTrailer}
-use Rattle.tape.specs.rules.Tape.{lengthOf, openedBy, openTape, eventPlace, recordIn, recordsFrom, recordsOf}
+use Rattle.tape.specs.rules.Tape.{lengthOf, openedWith, openTape, eventPlace, recordIn, recordsFrom, recordsOf}
 use Rattle.tape.specs.promises.Holds.{Holds, Recorded}
 use Rattle.base.proofs.Bools.{and-left, and-right, or-right}
 
@@ -82,7 +82,7 @@ records-length s t = records-long s t 0 (t .events)
 -- ---- a tape that opens
 
 -- the tests that led to it
-took-tape : (a : Bool) (n : ℕ) (r : ReadTrailer) (t : Trailer) → cond a (Refused 21) (openedBy n r) ≡ Tape t → (a ≡ false) × (lengthOf t ≡ n)
+took-tape : (a : Bool) (n : ℕ) (r : ReadTrailer) (t : Trailer) → cond a (Refused 21) (openedWith n r) ≡ Tape t → (a ≡ false) × (lengthOf t ≡ n)
 took-tape true n r t h = (cc, cc)
 took-tape false n (NoTrailer k) t h = (refl, cc)
 took-tape false n (GotTrailer x) t h = (refl, go (eqb (lengthOf x) n) refl h)

@@ -19,15 +19,15 @@ use Rattle.tape.specs.declared.trailer.Opened.the-variants.{Tape, Refuse
 abbrev pub lengthOf : Trailer → ℕ
 lengthOf t = t .order + 64 + t .events * 32 + 16
 
-abbrev pub openedBy : ℕ → ReadTrailer → Opened
-openedBy n (GotTrailer t) = cond (eqb (lengthOf t) n) (Tape t) (Refused 23)
-openedBy n (NoTrailer number) = Refused number
+abbrev pub openedWith : ℕ → ReadTrailer → Opened
+openedWith n (GotTrailer t) = cond (eqb (lengthOf t) n) (Tape t) (Refused 23)
+openedWith n (NoTrailer number) = Refused number
 
 -- the last 16 bytes are the trailer
 unfoldable pub openTape : List ℕ → Opened
 openTape s =
     cond (ltb (length s) 16 || ltb 65536 (length s)) (Refused 21)
-    (openedBy (length s) (readTrailer (drop (length s - 16) s)))
+    (openedWith (length s) (readTrailer (drop (length s - 16) s)))
 
 -- where event k stands, after the order at `at`
 abbrev pub eventPlace : ℕ → ℕ → ℕ
