@@ -3,7 +3,7 @@ use Prim.Native.Nat.{ℕ, _+_, _%_, _^_}
 use Rattle.auction.specs.declared.Ending.{Ending}
 use Rattle.auction.specs.declared.Ending.the-variants.{Open, Time, Same, Opposite, Improve}
 use Rattle.listing.specs.declared.Listed.{Listed}
-use Rattle.listing.specs.declared.Listed.the-variants.{Short, Refused, Ended}
+use Rattle.listing.specs.declared.Listed.the-variants.{Refused, Ended}
 use Rattle.evening.specs.declared.Tally.{Tally}
 
 -- past the greatest number of 64 bits comes 0
@@ -34,4 +34,3 @@ countedEnding t Open = t
 abbrev pub countedListed : Tally → Listed → Tally
 countedListed t (Refused number length) = with t (oneMore (t .refused)) (t .time) (t .same) (t .opposite) (t .improve)
 countedListed t (Ended ending length) = countedEnding t ending
-countedListed t Short = t

@@ -217,7 +217,6 @@ fn count_listed(mut t: Tally, l: Listed) -> Tally
             t
         }
         Listed::Ended { ending, length: _ } => count_ending(t, ending),
-        Listed::Short => t,
     }
 }
 

@@ -9,7 +9,7 @@ use Rattle.base.proofs.SetsLaws.{sets-front}
 use Rattle.auction.specs.declared.Auction.{Auction}
 use Rattle.auction.specs.declared.Ending.{Ending}
 use Rattle.listing.specs.declared.Listed.{Listed}
-use Rattle.listing.specs.declared.Listed.the-variants.{Short, Ended as Auctioned}
+use Rattle.listing.specs.declared.Listed.the-variants.{Refused as NoAuction, Ended as Auctioned}
 use Rattle.run.specs.rules.Run.{Said, Run, ended, runOf}
 use Rattle.listing.specs.rules.Listing.{auctionLine, eventLines, endLines, linesOf, listingOf, roomOf, answerOf, listedOf, bytesOf}
 use Rattle.listing.proofs.WroteLaws.{wrote-append}
@@ -35,7 +35,7 @@ auction-lists {ws} {xs} {ys} {zs} {u} {v} {n} {a} {es} g b c p q r eg eb =
 -- ---- the whole listing
 
 module _ (s xs : List ℕ) where
-  pub too-small : length xs < roomOf → (Short ≡ listedOf s xs) × (xs ≡ bytesOf s xs)
+  pub too-small : length xs < roomOf → (NoAuction 24 0 ≡ listedOf s xs) × (xs ≡ bytesOf s xs)
   unfolding listedOf bytesOf
   too-small h = rw (lt-ltb (length xs) roomOf h) (refl, refl)
 

@@ -8,7 +8,7 @@ use borrow.Author.Tests.{lt-ltb, le-ltb, ltb-false}
 use lib.Dec.{ltb}
 use lib.ListN.{length, drop}
 use Rattle.listing.specs.declared.Listed.{Listed}
-use Rattle.listing.specs.declared.Listed.the-variants.{Short}
+use Rattle.listing.specs.declared.Listed.the-variants.{Refused as NoAuction}
 use Rattle.run.specs.rules.Run.{Run, refused, ended, runOf}
 use Rattle.listing.specs.rules.Listing.{listingOf, roomOf, answerOf, lengthIn, listedOf, bytesOf}
 use Rattle.listing.specs.promises.Demands.{Demands}
@@ -24,7 +24,7 @@ pub within : (s out : List ℕ) → lengthIn (listedOf s out) ≤ length out
 unfolding listedOf
 within s out = go (ltb (length out) roomOf) refl
   where
-    go : (b : Bool) → ltb (length out) roomOf ≡ b → lengthIn (cond b Short (answerOf (length (listingOf s)) (runOf s))) ≤ length out
+    go : (b : Bool) → ltb (length out) roomOf ≡ b → lengthIn (cond b (NoAuction 24 0) (answerOf (length (listingOf s)) (runOf s))) ≤ length out
     go true e = omega arith
     go false e = omega (arith, length-answer (length (listingOf s)) (runOf s), listing-fits s, ltb-false (length out) roomOf e)
 

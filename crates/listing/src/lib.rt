@@ -27,9 +27,7 @@ mod text;
 
 // What came of a tape, and the length of its listing.
 pub enum Listed {
-    // The room is too small: nothing was written.
-    Short,
-    // A refused tape or order.
+    // A refused tape or order; 24 where the room is too small, and nothing was written then.
     Refused { number: u32, length: usize },
     // An auction.
     Ended { ending: Ending, length: usize },
@@ -43,7 +41,6 @@ pub fn length_of(l: Listed) -> usize
     ensures { λ r. ⌜ r ≡ lengthIn l ⌝ }
 {
     match l {
-        Listed::Short => 0,
         Listed::Refused { number: _, length } => length,
         Listed::Ended { ending: _, length } => length,
     }
@@ -148,13 +145,16 @@ fn list_tape(tape: &[u8], t: Trailer, out: &mut [u8]) -> Listed
     }
 }
 
-// The listing at the start of lent bytes; nothing is written where they are fewer than ROOM.
+// The listing at the start of lent bytes: 24, before anything else, where they are fewer than ROOM, and nothing is written then.
 pub fn listing(tape: &[u8], out: &mut [u8]) -> Listed
     ensures { λ r. ⌜ r ≡ listedOf (now (tape .entry)) (now (out .entry)) ⌝ }
     ensures { λ _. ⌜ now (out .exit) ≡ bytesOf (now (tape .entry)) (now (out .entry)) ⌝ }
 {
     if out.len() < ROOM {
-        return Listed::Short;
+        return Listed::Refused {
+            number: 24,
+            length: 0,
+        };
     }
     match tape::open_tape(tape) {
         Opened::Tape(t) => list_tape(tape, t, out),

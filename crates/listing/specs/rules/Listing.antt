@@ -19,7 +19,7 @@ use Rattle.fills.specs.rules.Fills.{auctionFills}
 use Rattle.listing.specs.rules.Text.{text, newline, decimal}
 use Rattle.run.specs.rules.Run.{Said, Run, refused, ended, runOf}
 use Rattle.listing.specs.declared.Listed.{Listed}
-use Rattle.listing.specs.declared.Listed.the-variants.{Short, Refused as NoAuction, Ended as Auctioned}
+use Rattle.listing.specs.declared.Listed.the-variants.{Refused as NoAuction, Ended as Auctioned}
 
 -- ---- lines
 
@@ -109,12 +109,12 @@ answerOf n (ended first said last) = Auctioned (last .head .ending) n
 
 -- the length in an answer
 abbrev pub lengthIn : Listed → ℕ
-lengthIn Short = 0
 lengthIn (NoAuction number n) = n
 lengthIn (Auctioned ending n) = n
 
+-- 24, before anything else, where the room is too small
 unfoldable pub listedOf : List ℕ → List ℕ → Listed
-listedOf s out = cond (ltb (length out) roomOf) Short (answerOf (length (listingOf s)) (runOf s))
+listedOf s out = cond (ltb (length out) roomOf) (NoAuction 24 0) (answerOf (length (listingOf s)) (runOf s))
 
 -- the listing at the start, every byte past it as it was; nothing changes where the room is too small
 unfoldable pub bytesOf : List ℕ → List ℕ → List ℕ

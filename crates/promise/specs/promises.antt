@@ -1,0 +1,3 @@
+-- What the user is promised.
+pub mod Parts
+pub mod Promise

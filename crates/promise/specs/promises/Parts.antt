@@ -1,0 +1,158 @@
+-- The parts of the promise.
+use mathlib.Core.Path.{_≡_}
+use mathlib.Core.Bool.{Bool, true, false, cond}
+use mathlib.Core.List.{List, [], _∷_, _++_}
+use mathlib.Core.Logic.{_⊎_, _≢_}
+use Prim.Native.Nat.{ℕ, _+_, _*_, _≤_, _<_, min}
+use lib.Dec.{eqb}
+use lib.ListN.{length, take, drop}
+use Rattle.base.specs.Lists.{In, Every, sum}
+use Rattle.words.specs.rules.Bytes.{AllBytes}
+use Rattle.board.specs.declared.Response.{Response}
+use Rattle.board.specs.rules.Board.{liveOf}
+use Rattle.share.specs.rules.Fills.{Fill, sizes, words}
+use Rattle.share.specs.promises.Share.{Near}
+use Rattle.tape.specs.declared.order.Order.{Order}
+use Rattle.tape.specs.declared.event.Event.{Event}
+use Rattle.tape.specs.declared.trailer.Trailer.{Trailer}
+use Rattle.tape.specs.declared.trailer.Opened.the-variants.{Tape}
+use Rattle.tape.specs.declared.order.ReadOrder.the-variants.{Order as GotOrder}
+use Rattle.tape.specs.rules.Form.{eventFormed}
+use Rattle.tape.specs.rules.Fields.{sizeOf, priceOf, nameOf}
+use Rattle.tape.specs.rules.Tape.{openTape, orderIn, tapeOf}
+use Rattle.mirror.specs.rules.Mirror.{mirroredOrder}
+use Rattle.trade.specs.rules.Trade.{traded}
+use Rattle.demand.specs.promises.Demands.{Absent, got, soldAt}
+use Rattle.auction.specs.rules.Accept.{acceptOf}
+use Rattle.auction.specs.rules.Range.{isOpen}
+use Rattle.auction.specs.declared.Auction.{Auction}
+use Rattle.auction.specs.declared.Ending.the-variants.{Opposite}
+use Rattle.auction.specs.declared.Entry.the-variants.{Accepted}
+use Rattle.events.specs.rules.Decide.{isCustomer}
+use Rattle.events.specs.rules.Step.{gives, stepOf}
+use Rattle.events.specs.declared.Answer.the-variants.{Taken, Refused}
+use Rattle.fills.specs.rules.Fills.{auctionFills, fillsAnswer, fillsAfter}
+use Rattle.run.specs.rules.Run.{Said, run, heard, takenOf, played, runOf}
+use Rattle.run.specs.promises.Demands.{Within, Trades, mirroredRecords}
+use Rattle.listing.specs.rules.Listing.{refusedLine, auctionLine, eventLines, endLines, listingOf, roomOf, listedOf, lengthIn, bytesOf}
+use Rattle.promise.specs.rules.Answers.{Paper, no, yes, openedIs, orderIs, entryIs, answerIs, filledIs, listedIs}
+use Rattle.promise.specs.rules.Tapes.{Carries, endOf, notRefused, Resends, mirroredLines}
+use Rattle.promise.specs.rules.Sides.{isSell, otherSide, better, responses, taken, last, range, written, there, market, walked, worksAt, othersAt, guarantee, planAt, leftToOthers}
+
+-- ---- 1. every tape is answered
+
+-- the listing of the bytes s: one of four
+pub data Answered (s : List ℕ) : Type 0 where
+  -- 21, 22 or 23: the bytes are no tape
+  no-tape : (n : ℕ) → openedIs (openTape s) ≡ no n → In n (21 ∷ 22 ∷ 23 ∷ []) → listingOf s ≡ refusedLine n → Answered s
+  -- 1: the order's record is out of form
+  no-order : (t : Trailer) → openTape s ≡ Tape t → orderIs (orderIn s t) ≡ no 1 → listingOf s ≡ refusedLine 1 → Answered s
+  -- 2 to 12: the order is not accepted
+  not-accepted : (o : Order) (es : List Event) (n : ℕ) → Carries s (GotOrder o) es → entryIs (acceptOf o .answer) ≡ no n → In n (2 ∷ 3 ∷ 4 ∷ 5 ∷ 6 ∷ 7 ∷ 8 ∷ 9 ∷ 10 ∷ 11 ∷ 12 ∷ []) → listingOf s ≡ refusedLine n → Answered s
+  -- the auction: its opening, a line for each record, its end
+  auction : (o : Order) (es : List Event) → Carries s (GotOrder o) es → entryIs (acceptOf o .answer) ≡ yes tt
+      → listingOf s ≡ auctionLine (acceptOf o .auction .head) ++ (eventLines (heard (acceptOf o .auction) es) ++ endLines (played o es)) → Answered s
+
+-- and the room lent for it
+pub record Roomed (s out : List ℕ) : Type 0 where
+  -- too small a room is 24, before anything else, and nothing is written
+  pub small : length out < roomOf → (listedIs (listedOf s out) ≡ no 24) × (bytesOf s out ≡ out)
+  -- else the listing stands at the start, and every byte past it stays
+  pub stands : roomOf ≤ length out → (lengthIn (listedOf s out) ≡ length (listingOf s)) × (bytesOf s out ≡ listingOf s ++ drop (length (listingOf s)) out)
+  pub fits : length (listingOf s) ≤ roomOf
+
+-- the fills of an auction, into words from a start place
+pub record Filling (a : Auction) (xs : List ℕ) (start : ℕ) : Type 0 where
+  -- 40 or 39, and every word stays
+  pub refused : (n : ℕ) → filledIs (fillsAnswer a xs start) ≡ no n → In n (39 ∷ 40 ∷ []) × (fillsAfter a xs start ≡ xs)
+  -- or their number, and their words from the start place on; all other words stay
+  pub counted : (n : ℕ) → filledIs (fillsAnswer a xs start) ≡ yes n → (n ≡ length (auctionFills a)) × (fillsAfter a xs start ≡ take start xs ++ (words (auctionFills a) ++ drop (start + 3 * n) xs))
+
+-- which numbers an event's line can have
+abbrev pub EventNumber : Said → Type 0
+EventNumber x = (n : ℕ) → answerIs (x .answer) ≡ no n → In n (31 ∷ 32 ∷ 33 ∷ 34 ∷ 35 ∷ 36 ∷ 37 ∷ 38 ∷ [])
+
+-- ---- 3. demand 3, in real prices
+
+module _ (o : Order) (es : List Event) where
+  -- the response r is that of the record e: taken, on the other side, a GTX response (its size capped at the CUBE size) or a limit order
+  pub record Sends (e : Event) (r : Response) : Type 0 where
+    pub taken : In e (taken o es)
+    pub side : e .side ≡ otherSide o
+    pub kind : (e .kind ≡ 1) ⊎ (e .kind ≡ 3)
+    pub sequence : r .sequence ≡ e .sequence
+    pub price : r .price ≡ priceOf e
+    pub customer : r .customer ≡ isCustomer e
+    pub size : r .size ≡ cond (eqb (e .kind) 1) (min (sizeOf e) (o .size)) (sizeOf e)
+
+  -- the record e is the market order that ended the auction: the last that was taken, on the other side
+  pub record Ends (e : Event) : Type 0 where
+    pub taken : In e (taken o es)
+    pub side : e .side ≡ otherSide o
+    pub kind : e .kind ≡ 4
+    pub sequence : market o es .sequence ≡ e .sequence
+    pub size : market o es .size ≡ sizeOf e
+    pub ending : last o es .head .ending ≡ Opposite
+    pub latest : last o es .head .sequence ≡ e .sequence
+
+  -- it is one of the records
+  pub record Ended : Type 0 where
+    pub record-of : Event
+    pub ends : Ends record-of
+
+  -- who trades: the Contra Order, the response of a record, or the market order that ended the auction; no more than the record's size field, and a response not beyond its price field
+  pub data Party (f : Fill) : Type 0 where
+    theContra : f .party ≡ 0 → Party f
+    aResponse : (e : Event) (r : Response) → In r (there o es) → Sends e r → f .party ≡ e .sequence → got (e .sequence) (written o es) ≤ sizeOf e → better (isSell o) (f .price) (priceOf e) ≡ false → Party f
+    theMarket : (e : Event) → Ends e → f .party ≡ e .sequence → got (e .sequence) (written o es) ≤ sizeOf e → Party f
+
+  pub record Traded : Type 0 where
+    -- the fills add up to the order's size field
+    pub adds-up : traded (written o es) ≡ o .size
+    -- each price lies in the range that the END line shows, and not beyond the order's limit field; no fill is of zero
+    pub in-range : Every (Within (range o es)) (written o es)
+    pub own-limit : Every (λ f. better (isSell o) (o .limit) (f .price) ≡ false) (written o es)
+    pub some : Every (λ f. 1 ≤ f .quantity) (written o es)
+    -- each party is the Contra Order, or exactly one record
+    pub parties : Every Party (written o es)
+    pub one-record : (e f : Event) → In e (taken o es) → In f (taken o es) → e .sequence ≡ f .sequence → e ≡ f
+    -- the Contra Order does not trade beyond its stop or auto-match limit
+    pub contra-limit : o .mode ≢ 2 → Every (λ f. f .party ≡ 0 → better (isSell o) (f .price) (o .stop) ≡ false) (written o es)
+    -- a response trades at its working price alone, and at most its size
+    pub works : (r : Response) → In r (there o es) → Every (λ f. f .party ≡ r .sequence → f .price ≡ worksAt o es r) (written o es)
+    pub fits : (r : Response) → In r (there o es) → got (r .sequence) (written o es) ≤ r .size
+    -- where anything trades, every response with a better working price is filled
+    pub priority : (r : Response) → In r (there o es) → (f : Fill) → In f (written o es) → better (isSell o) (worksAt o es r) (f .price) ≡ true → got (r .sequence) (written o es) ≡ r .size
+    -- the others at a price where anything trades are all filled where what is left to them covers them, and otherwise each gets the whole part, or one more
+    pub filled : (r : Response) → In r (there o es) → r .customer ≡ false → 0 < soldAt (worksAt o es r) (walked o es)
+        → sum (sizes (othersAt o es (worksAt o es r))) ≤ leftToOthers o es (worksAt o es r) → got (r .sequence) (written o es) ≡ r .size
+    pub short : (r : Response) → In r (there o es) → r .customer ≡ false → 0 < soldAt (worksAt o es r) (walked o es)
+        → leftToOthers o es (worksAt o es r) < sum (sizes (othersAt o es (worksAt o es r)))
+        → Near (leftToOthers o es (worksAt o es r)) (sum (sizes (othersAt o es (worksAt o es r)))) (r .size) (got (r .sequence) (written o es))
+    -- where one of them trades at the guarantee price the Contra Order has its guarantee
+    pub guaranteed : (r : Response) → In r (there o es) → r .customer ≡ false → planAt o es (worksAt o es r) .final ≡ true → 0 < got (r .sequence) (written o es) → guarantee o es ≤ got 0 (written o es)
+    -- and every clause of demand 3 holds of the buy that the order is or mirrors
+    pub clauses : Trades (last o es)
+
+-- ---- 4. a response that stands on the board is never counted twice
+
+-- the response r is live after the records es, and is that of one record
+pub record OneRecord (o : Order) (es : List Event) (r : Response) : Type 0 where
+  pub record-of : Event
+  pub sends : Sends o es record-of r
+  pub only : (f : Event) → In f (taken o es) → f .sequence ≡ r .sequence → f ≡ record-of
+
+module _ (o : Order) where
+  -- the order's auction after some records
+  abbrev pub after : List Event → Auction
+  after es = run (acceptOf o .auction) es
+
+  pub record Resent : Type 0 where
+    -- once a record was taken, every record with its sequence or a lower one is refused, whatever else it says, and changes nothing: 31 once ended; else 32 where it is out of form, and 33
+    pub refused : (before : List Event) (e f : Event) → In e (taken o before) → f .sequence ≤ e .sequence
+        → stepOf (after before) f ≡ gives (Refused (cond (isOpen (after before .head .ending)) (cond (eventFormed f) 33 32) 31)) (after before)
+    -- each live response comes from one record
+    pub one-record : (es : List Event) → acceptOf o .answer ≡ Accepted → Every (OneRecord o es) (responses (after es))
+    -- a cancelled one never comes back
+    pub never-back : (before : List Event) (e : Event) (es : List Event) → acceptOf o .answer ≡ Accepted → e .kind ≡ 2 → stepOf (after before) e .answer ≡ Taken
+        → Absent (nameOf e) (liveOf (after (before ++ (e ∷ es)) .board))

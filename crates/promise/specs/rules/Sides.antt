@@ -1,0 +1,109 @@
+-- An ended auction in real prices, buys and sells alike: the fills as they are written, the responses as they were sent.
+use mathlib.Core.Bool.{Bool, true, false, cond, not, _&&_}
+use mathlib.Core.List.{List, [], _∷_, map}
+use Prim.Native.Nat.{ℕ, _+_, _-_, min, max}
+use lib.Dec.{ltb, eqb}
+use lib.ListN.{length}
+use Rattle.base.specs.Lists.{filter, sum}
+use Rattle.board.specs.declared.Response.{Response}
+use Rattle.board.specs.rules.Board.{liveOf}
+use Rattle.share.specs.rules.Fills.{Fill, sizes}
+use Rattle.tape.specs.declared.order.Order.{Order}
+use Rattle.tape.specs.declared.event.Event.{Event}
+use Rattle.trade.specs.rules.Plan.{Plan, planOf}
+use Rattle.trade.specs.rules.Trade.{fromCustomer, fromOther, guaranteeOf, workingStop}
+use Rattle.trade.specs.rules.Write.{reportedPrice}
+use Rattle.demand.specs.promises.Demands.{tally}
+use Rattle.auction.specs.rules.Accept.{acceptOf}
+use Rattle.auction.specs.rules.Range.{rangeOf}
+use Rattle.auction.specs.declared.Auction.{Auction}
+use Rattle.auction.specs.declared.Range.{Range}
+use Rattle.auction.specs.declared.Market.{Market}
+use Rattle.fills.specs.rules.Fills.{dealOf, auctionFills}
+use Rattle.run.specs.rules.Run.{takenOf, played}
+
+abbrev pub isSell : Order → Bool
+isSell o = eqb (o .side) 2
+
+-- the side of those who trade with the order
+abbrev pub otherSide : Order → ℕ
+otherSide o = cond (isSell o) 1 2
+
+-- p is a better price than q for the CUBE order: lower for a buy, higher for a sell. A response trades beyond its limit where the price is better than that
+abbrev pub better : Bool → ℕ → ℕ → Bool
+better sell p q = cond sell (ltb q p) (ltb p q)
+
+-- a response with its price as it was sent
+abbrev pub sent : Bool → Response → Response
+sent sell r = record { sequence = r .sequence; size = r .size; price = reportedPrice sell (r .price); customer = r .customer; gtx = r .gtx }
+
+-- the live responses of an auction, as they were sent
+abbrev pub responses : Auction → List Response
+responses a = map (sent (a .head .terms .sell)) (liveOf (a .board))
+
+-- what trades at better prices than p, and what a party trades at those
+abbrev pub soldBetter : Bool → ℕ → List Fill → ℕ
+soldBetter sell p fs = tally (λ f. better sell (f .price) p) fs
+
+abbrev pub gotBetter : Bool → ℕ → ℕ → List Fill → ℕ
+gotBetter sell k p fs = tally (λ f. eqb (f .party) k && better sell (f .price) p) fs
+
+-- ---- an order, and the records after it: the auction once ended
+
+module _ (o : Order) (es : List Event) where
+  -- the records taken
+  abbrev pub taken : List Event
+  taken = takenOf (acceptOf o .auction) es
+
+  -- the auction at its end, the range that the END line shows, and the fills of the FILL lines
+  abbrev pub last : Auction
+  last = played o es
+
+  abbrev pub range : Range
+  range = rangeOf (last .head)
+
+  abbrev pub written : List Fill
+  written = auctionFills last
+
+  -- the responses live at the ending
+  abbrev pub there : List Response
+  there = responses last
+
+  -- the market order that ended it, of size 0 where none did; and the fills of all others
+  abbrev pub market : Market
+  market = last .head .market
+
+  abbrev pub walked : List Fill
+  walked = filter (λ f. not (ltb 0 (market .size) && eqb (f .party) (market .sequence))) written
+
+  -- a response's working price: its own, or the bound where its own is better
+  abbrev pub worksAt : Response → ℕ
+  worksAt r = cond (isSell o) (min (r .price) (range .high)) (max (r .price) (range .low))
+
+  -- the responses at a price, the Customers among them, and the others
+  abbrev pub allAt : ℕ → List Response
+  allAt p = filter (λ r. eqb (worksAt r) p) there
+
+  abbrev pub customersAt : ℕ → List Response
+  customersAt p = filter fromCustomer (allAt p)
+
+  abbrev pub othersAt : ℕ → List Response
+  othersAt p = filter fromOther (allAt p)
+
+  -- 40%, or 50% where exactly one response is live
+  abbrev pub guarantee : ℕ
+  guarantee = guaranteeOf (o .size) (length there)
+
+  -- the size left on arriving at a price: what the market order and better prices leave
+  abbrev pub leftAt : ℕ → ℕ
+  leftAt p = o .size - (min (o .size) (market .size) + soldBetter (isSell o) p walked)
+
+  -- document 01's plan at a price, for the buy that the order is or mirrors: what the Contra Order takes there before the others, and whether it is the guarantee price, where the rest goes to it too
+  abbrev pub planAt : ℕ → Plan
+  planAt p = planOf (o .mode) (workingStop (dealOf (last .head))) (last .head .terms .initiating) guarantee (reportedPrice (isSell o) p) (leftAt p) (gotBetter (isSell o) 0 p written) (sum (sizes (allAt p)))
+
+  -- what is left to the others at a price, after Customers and the Contra Order's first part
+  abbrev pub leftToOthers : ℕ → ℕ
+  leftToOthers p =
+      let left = leftAt p - sum (sizes (customersAt p)) in
+      left - min left (planAt p .want)

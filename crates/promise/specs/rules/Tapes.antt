@@ -1,0 +1,76 @@
+-- Tapes beside one another: what a tape carries, and which records another has more, fewer, or mirrored.
+use mathlib.Core.Path.{_≡_}
+use mathlib.Core.Bool.{Bool, true, false, cond, not}
+use mathlib.Core.List.{List, [], _∷_, _++_}
+use Prim.Native.Nat.{ℕ, _≤_}
+use Rattle.base.specs.Lists.{In, keep}
+use Rattle.base.specs.Price.{mirrored}
+use Rattle.tape.specs.rules.Tape.{openTape, orderIn, recordsOf}
+use Rattle.tape.specs.declared.order.Order.{Order}
+use Rattle.tape.specs.declared.order.ReadOrder.{ReadOrder}
+use Rattle.tape.specs.declared.event.Event.{Event}
+use Rattle.tape.specs.declared.trailer.Trailer.{Trailer}
+use Rattle.tape.specs.declared.trailer.Opened.the-variants.{Tape}
+use Rattle.trade.specs.rules.Trade.{traded}
+use Rattle.auction.specs.rules.Range.{rangeOf}
+use Rattle.auction.specs.declared.Auction.{Auction}
+use Rattle.auction.specs.declared.Range.{Range}
+use Rattle.events.specs.rules.Step.{stepOf}
+use Rattle.events.specs.declared.Answer.{Answer}
+use Rattle.events.specs.declared.Answer.the-variants.{Taken, Ended, Late, Refused}
+use Rattle.fills.specs.rules.Fills.{auctionFills}
+use Rattle.run.specs.rules.Run.{Run, refused, ended, runOf, takenOf}
+use Rattle.run.specs.promises.Demands.{mirroredFills}
+use Rattle.listing.specs.rules.Listing.{field, refusedLine, rangeText, sideText, eventLines, endText, fillLines, totalLine, endLines}
+
+-- the bytes s are a tape that opens: what is read of its order's record, and the events that stand in its records, in form or not
+pub record Carries (s : List ℕ) (o : ReadOrder) (es : List Event) : Type 0 where
+  pub trailer : Trailer
+  pub opens : openTape s ≡ Tape trailer
+  pub order : orderIn s trailer ≡ o
+  pub records : recordsOf s trailer ≡ es
+
+-- there is a tape that carries an order and records
+pub record SomeTape (o : ReadOrder) (es : List Event) : Type 0 where
+  pub bytes : List ℕ
+  pub carries : Carries bytes o es
+
+-- the END, FILL and TOTAL lines of a tape's listing; none where it is refused
+abbrev pub endIn : Run → List ℕ
+endIn (refused number) = []
+endIn (ended first said last) = endLines last
+
+abbrev pub endOf : List ℕ → List ℕ
+endOf s = endIn (runOf s)
+
+-- ---- fewer records, and more
+
+abbrev pub isRefused : Answer → Bool
+isRefused Taken = false
+isRefused Ended = false
+isRefused Late = false
+isRefused (Refused n) = true
+
+-- the records that the auction a does not refuse
+abbrev pub notRefused : Auction → List Event → List Event
+notRefused a [] = []
+notRefused a (e ∷ es) = keep (not (isRefused (stepOf a e .answer))) e (notRefused (stepOf a e .auction) es)
+
+-- fs is es with resent records put in, one after the other: each bears the sequence of a record that was taken before it, or a lower one, whatever else it says
+pub data Resends (a : Auction) (es : List Event) : List Event → Type 0 where
+  none : Resends a es es
+  more : (before : List Event) (e f : Event) (after : List Event) → In e (takenOf a before) → f .sequence ≤ e .sequence → Resends a es (before ++ after) → Resends a es (before ++ (f ∷ after))
+
+-- ---- the mirror
+
+abbrev pub mirroredRange : Range → Range
+mirroredRange r = record { low = mirrored (r .high); high = mirrored (r .low) }
+
+-- the listing for the other side: its word, the ranges and the fills' prices are mirrored, all else stays
+abbrev pub mirroredLines : Run → List ℕ
+mirroredLines (refused number) = refusedLine number
+mirroredLines (ended first said last) =
+    (sideText (not (first .head .terms .sell)) ++ (field " size " (first .head .terms .size) ++ rangeText (mirroredRange (rangeOf (first .head)))))
+    ++ (eventLines said
+    ++ ((endText (last .head .ending) ++ rangeText (mirroredRange (rangeOf (last .head))))
+    ++ (fillLines (mirroredFills (auctionFills last)) ++ totalLine (traded (auctionFills last)))))
