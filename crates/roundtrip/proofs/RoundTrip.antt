@@ -8,7 +8,8 @@ use lib.ListN.{length, getD, take, drop, length-append}
 use lib.Seq.{take-at, getD-drop}
 use lib.Dec.{ltb, eqb}
 use borrow.Author.Tests.{le-ltb, ltb-false, leb-true, eqb-true}
-use Rattle.words.specs.rules.Bytes.{AllBytes, joined, wordBytes, wordAt, wordsFrom}
+use Rattle.words.specs.rules.Bytes.{AllBytes, joined, wordBytes, wordAt}
+use Rattle.words.specs.inside.Row.{wordsFrom}
 use Rattle.words.proofs.ByteLaws.{Fit, bytes-joined, length-wordBytes, row-read, row-back, word-in}
 use Rattle.tape.specs.declared.order.Order.{Order}
 use Rattle.tape.specs.declared.event.Event.{Event}

@@ -11,7 +11,8 @@ use lib.Seq.{sets, take-suc, drop-cons, length-take-le, getD-append-add}
 use native.Mathlib.Numerals.{add-one}
 use Rattle.base.proofs.Numbers.{le-or-lt}
 use Rattle.base.proofs.SetsLaws.{sets-append, sets-front}
-use Rattle.words.specs.rules.Bytes.{AllBytes, joined, u32Bytes, wordBytes, wordAt, wordsFrom, withWords}
+use Rattle.words.specs.rules.Bytes.{AllBytes, joined, u32Bytes, wordBytes, wordAt, withWords}
+use Rattle.words.specs.inside.Row.{wordsFrom}
 
 -- four stores in a row, as code writes their places
 pub sets4 : (s : List ℕ) (i a b c d : ℕ) → set (set (set (set s i a) (i + 1) b) (i + 2) c) (i + 3) d ≡ sets s i (a ∷ b ∷ c ∷ d ∷ [])
