@@ -1,2 +1,3 @@
 -- The proofs of the promise.
 pub mod RealLaws
+pub mod Real

@@ -101,7 +101,7 @@ filter-shown s t u (f ∷ fs) h = rw (h .0) (go (u f) (filter-shown s t u fs (h 
     go true e = ap {B = List Fill} (λ zs. shown s f ∷ zs) e
     go false e = e
 
-every-all : {A : Type 0} (P : A → Type 0) (xs : List A) → ((x : A) → In x xs → P x) → Every P xs
+pub every-all : {A : Type 0} (P : A → Type 0) (xs : List A) → ((x : A) → In x xs → P x) → Every P xs
 every-all P [] g = tt
 every-all P (x ∷ xs) g = (g x (inl refl), every-all P xs (λ y i. g y (inr i)))
 
@@ -150,7 +150,7 @@ run-terms : (es : List Event) (a : Auction) → run a es .head .terms ≡ a .hea
 run-terms [] a = refl
 run-terms (e ∷ es) a = run-terms es (stepOf a e .auction) ∙ terms-stay a e
 
-close-terms : (a : Auction) → closeOf a .auction .head .terms ≡ a .head .terms
+pub close-terms : (a : Auction) → closeOf a .auction .head .terms ≡ a .head .terms
 unfolding closeTurn endedByTime
 close-terms a = by (λ (t : Turn). t .head .terms ≡ a .head .terms) (isOpen (a .head .ending)) _ _ (λ _. refl) (λ _. refl)
 
