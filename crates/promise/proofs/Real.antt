@@ -2,42 +2,39 @@
 use mathlib.Core.Path.{_≡_, refl, sym, ap, subst, _∙_}
 use mathlib.Core.Bool.{Bool, true, false, cond}
 use mathlib.Core.List.{List, [], _∷_, map}
-use mathlib.Core.Logic.{_⊎_, inl, inr, _≢_}
-use Prim.Native.Nat.{ℕ, _+_, _-_, _≤_, _<_, min, max}
+use mathlib.Core.Logic.{inl, inr, _≢_}
+use Prim.Native.Nat.{ℕ, _-_, _≤_, _<_, min, max}
 use native.Mathlib.Omega.{arith}
-use lib.Dec.{ltb, eqb}
+use lib.Dec.{eqb}
 use borrow.Author.Tests.{ltb-true, le-ltb, eq-eqb, ne-eqb}
 use Rattle.base.specs.Lists.{In, Every}
 use Rattle.base.specs.Price.{mirrored}
-use Rattle.base.proofs.Bools.{by}
-use Rattle.base.proofs.ListLaws.{every-in, every-any}
+use Rattle.base.proofs.ListLaws.{every-in}
 use Rattle.board.specs.declared.Board.{Board}
 use Rattle.board.specs.declared.Response.{Response}
 use Rattle.board.specs.rules.Board.{liveOf}
 use Rattle.share.specs.rules.Fills.{Fill}
 use Rattle.tape.specs.declared.order.Order.{Order}
 use Rattle.tape.specs.declared.event.Event.{Event}
-use Rattle.tape.specs.rules.Fields.{sizeOf, priceOf}
+use Rattle.tape.specs.rules.Fields.{sizeOf}
 use Rattle.tape.proofs.FormLaws.{order-bounds}
 use Rattle.trade.specs.rules.Trade.{traded, working, entry}
 use Rattle.trade.specs.rules.Write.{reportedPrice}
-use Rattle.demand.specs.promises.Demands.{tally, got, soldAt}
+use Rattle.demand.specs.promises.Demands.{got, soldAt}
 use Rattle.demand.specs.promises.Demands as demands
 use Rattle.demand.specs.promises.Demands.Party.{theContra as isContra, theMarket as isMarket, aResponse as isResponse}
 use Rattle.mirror.specs.rules.Mirror.{mirroredOrder, buyOrder}
 use Rattle.auction.specs.rules.Accept.{initiatingOf, termsOf, acceptOf}
-use Rattle.auction.specs.declared.Auction.{Auction}
 use Rattle.auction.specs.declared.Terms.{Terms}
 use Rattle.auction.specs.declared.Entry.the-variants.{Accepted}
 use Rattle.fills.specs.rules.Fills.{dealOf}
-use Rattle.run.specs.rules.Run.{run}
 use Rattle.run.specs.promises.Demands.{Within, Trades}
-use Rattle.run.proofs.Accepted.{Opened, opened}
+use Rattle.run.proofs.Accepted.{opened, below-limit}
 use Rattle.run.proofs.Resend.{one}
 use Rattle.promise.specs.rules.Sides.{isSell, better, sent, responses, taken, last, range, written, there, market, worksAt}
-use Rattle.promise.specs.promises.Parts.{Sends, Ends, Ended, Party, OneRecord, after}
+use Rattle.promise.specs.promises.Parts.{Ended, Party, OneRecord, after}
 use Rattle.promise.specs.promises.Parts.Party.{theContra, aResponse, theMarket}
-use Rattle.promise.proofs.RealLaws.{better-shown, shown, every-all, Shows, in-shown, Sent, sent-in, close-terms, close-board, deal, live, dealt, ended-well, demand, terms-are, sell-is, mode-is, size-is, written-is, there-is, sent-fits, initiating-fits, price-fits, working-fits, works-is, got-is, was-live, every-written}
+use Rattle.promise.proofs.RealLaws.{better-shown, shown, Shows, in-shown, sent-in, close-terms, close-board, deal, live, dealt, ended-well, demand, terms-are, mode-is, size-is, written-is, there-is, sent-fits, initiating-fits, price-fits, working-fits, works-is, got-is, was-live, every-written}
 
 -- ---- a price against a field of the order
 
@@ -78,10 +75,6 @@ buy-stop o n = go (isSell o)
     go : (s : Bool) → cond {A = Order} s (mirroredOrder o) o .stop ≡ reportedPrice s (o .stop)
     go true = simp (ne-eqb (o .mode) 2 n)
     go false = refl
-
-below-limit : (b : Order) → initiatingOf b ≤ b .limit
-unfolding initiatingOf
-below-limit b = by (λ (k : ℕ). k ≤ b .limit) (ltb (b .size) 50) _ _ (λ _. omega arith) (λ _. omega arith)
 
 -- a size that may be capped is at most the size
 capped : (b : Bool) (n m k : ℕ) → k ≡ cond b (min n m) n → k ≤ n

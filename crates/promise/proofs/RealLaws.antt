@@ -2,28 +2,26 @@
 use mathlib.Core.Path.{_≡_, refl, sym, ap, subst, _∙_}
 use mathlib.Core.Bool.{Bool, true, false, cond, not, _&&_}
 use mathlib.Core.List.{List, [], _∷_, map}
-use mathlib.Core.Logic.{_⊎_, inl, inr}
-use Prim.Native.Nat.{ℕ, _+_, _-_, _≤_, _<_, min, max}
+use mathlib.Core.Logic.{inl, inr}
+use Prim.Native.Nat.{ℕ, _+_, _-_, _≤_, min, max}
 use native.Mathlib.Omega.{arith}
-use lib.Dec.{leb, ltb, eqb}
-use lib.ListN.{length}
+use lib.Dec.{ltb, eqb}
 use borrow.Author.Tests.{ltb-true, ltb-false, lt-ltb, le-ltb, eqb-true, eqb-false, eq-eqb, ne-eqb}
 use Rattle.base.specs.Lists.{In, Every, keep, filter}
 use Rattle.base.specs.Price.{mirrored}
 use Rattle.base.proofs.Bools.{by}
-use Rattle.base.proofs.ListLaws.{every-in, every-map}
-use Rattle.board.specs.declared.Board.{Board}
+use Rattle.base.proofs.ListLaws.{every-in, every-map, every-any}
 use Rattle.board.specs.declared.Response.{Response}
 use Rattle.board.specs.rules.Board.{liveOf}
 use Rattle.share.specs.rules.Fills.{Fill, sizes}
 use Rattle.tape.specs.declared.order.Order.{Order}
 use Rattle.tape.specs.declared.event.Event.{Event}
 use Rattle.trade.specs.declared.Deal.{Deal}
-use Rattle.trade.specs.rules.Trade.{offers, fills, working, fromCustomer, fromOther}
+use Rattle.trade.specs.rules.Trade.{offers, fills, working}
 use Rattle.trade.specs.rules.Write.{reportedPrice, reported, fillsOf}
-use Rattle.demand.specs.promises.Demands.{tally, got, soldAt, isMarket, Demand3}
+use Rattle.demand.specs.promises.Demands.{tally, got, soldAt, isMarket, InRange, Demand3}
 use Rattle.mirror.specs.rules.Mirror.{mirroredOrder, buyOrder}
-use Rattle.auction.specs.rules.Accept.{initiatingOf, termsOf, openedBy, acceptOf}
+use Rattle.auction.specs.rules.Accept.{termsOf, openedBy, acceptOf}
 use Rattle.auction.specs.rules.Range.{isOpen, boundNow, rangeOf}
 use Rattle.auction.specs.declared.Auction.{Auction}
 use Rattle.auction.specs.declared.Terms.{Terms}
@@ -31,11 +29,11 @@ use Rattle.auction.specs.declared.Range.{Range}
 use Rattle.auction.specs.declared.Entry.the-variants.{Accepted}
 use Rattle.events.specs.rules.Step.{stepOf, closeOf, closeTurn, endedByTime, boardAfter}
 use Rattle.events.specs.declared.Turn.{Turn}
-use Rattle.fills.specs.rules.Fills.{dealOf, auctionFills}
-use Rattle.run.specs.rules.Run.{run, played}
+use Rattle.fills.specs.rules.Fills.{dealOf}
+use Rattle.run.specs.rules.Run.{run}
 use Rattle.run.specs.promises.Demands.{Stands, Sound, Trades}
 use Rattle.demand.specs.promises.Demands as demands
-use Rattle.run.proofs.Accepted.{Opened, opened}
+use Rattle.run.proofs.Accepted.{opened}
 use Rattle.run.proofs.ComesFrom.{terms-stay}
 use Rattle.run.proofs.SoundLaws.{sound-opened, sound-run, sound-close, demanded}
 use Rattle.promise.specs.rules.Sides.{isSell, better, sent, responses, last, range, written, there, market, walked, worksAt}
@@ -101,12 +99,8 @@ filter-shown s t u (f ∷ fs) h = rw (h .0) (go (u f) (filter-shown s t u fs (h 
     go true e = ap {B = List Fill} (λ zs. shown s f ∷ zs) e
     go false e = e
 
-pub every-all : {A : Type 0} (P : A → Type 0) (xs : List A) → ((x : A) → In x xs → P x) → Every P xs
-every-all P [] g = tt
-every-all P (x ∷ xs) g = (g x (inl refl), every-all P xs (λ y i. g y (inr i)))
-
 pub got-shown : (s : Bool) (k : ℕ) (fs : List Fill) → got k (reported s fs) ≡ got k fs
-got-shown s k fs = tally-shown s (λ f. eqb (f .party) k) (λ f. eqb (f .party) k) fs (every-all _ fs (λ f i. refl))
+got-shown s k fs = tally-shown s (λ f. eqb (f .party) k) (λ f. eqb (f .party) k) fs (every-any (λ f. eqb (f .party) k ≡ eqb (f .party) k) fs (λ f. refl))
 
 pub sold-shown : (s : Bool) (p : ℕ) (fs : List Fill) → p ≤ 1000000 → Every (λ f. f .price ≤ 1000000) fs → soldAt (reportedPrice s p) (reported s fs) ≡ soldAt p fs
 sold-shown s p fs h k =
@@ -225,7 +219,7 @@ module _ (o : Order) (es : List Event) (h : acceptOf o .answer ≡ Accepted) whe
   price-fits f i = omega (arith, every-in _ dealt f (demand .in-range) i .high, initiating-fits)
 
   pub prices-fit : Every (λ f. f .price ≤ 1000000) dealt
-  prices-fit = every-all _ dealt (λ f i. omega (arith, price-fits f i))
+  prices-fit = every-map (InRange deal) (λ f. f .price ≤ 1000000) dealt (λ f k. omega (arith, k .high, initiating-fits)) (demand .in-range)
 
   pub sent-fits : (r : Response) → In r live → r .price ≤ deal .initiating
   unfolding dealOf
@@ -268,7 +262,7 @@ module _ (o : Order) (es : List Event) (h : acceptOf o .answer ≡ Accepted) whe
   unfolding dealOf
   walked-is =
       ap (filter (λ f. not (ltb 0 (market o es .size) && eqb (f .party) (market o es .sequence)))) written-is
-      ∙ filter-shown (isSell o) (λ f. not (ltb 0 (market o es .size) && eqb (f .party) (market o es .sequence))) (λ f. not (isMarket deal f)) dealt (every-all _ dealt (λ f i. refl))
+      ∙ filter-shown (isSell o) (λ f. not (ltb 0 (market o es .size) && eqb (f .party) (market o es .sequence))) (λ f. not (isMarket deal f)) dealt (every-any _ dealt (λ f. refl))
 
   -- what a party trades, as it is written
   pub got-is : (k : ℕ) → got k (written o es) ≡ got k dealt
