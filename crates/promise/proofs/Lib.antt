@@ -1,3 +1,4 @@
 -- The proofs of the promise.
 pub mod RealLaws
 pub mod Real
+pub mod SharedFigures
