@@ -2,3 +2,4 @@
 pub mod RealLaws
 pub mod Real
 pub mod SharedFigures
+pub mod BuyShares
