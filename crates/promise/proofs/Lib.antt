@@ -3,3 +3,4 @@ pub mod RealLaws
 pub mod Real
 pub mod SharedFigures
 pub mod BuyShares
+pub mod Shared
