@@ -1,8 +1,8 @@
 -- The others at a price of the buy: what is left to them, by the price alone. Assumes nothing.
-use mathlib.Core.Path.{_≡_, refl, sym, ap, _∙_, subst}
+use mathlib.Core.Path.{_≡_, refl, sym, ap, _∙_}
 use mathlib.Core.Bool.{Bool, true, false, cond}
-use mathlib.Core.List.{List, [], _∷_, _++_}
-use mathlib.Core.Logic.{inl, inr}
+use mathlib.Core.List.{List, [], _∷_}
+use mathlib.Core.Logic.{inl, inr, _≢_}
 use Prim.Native.Nat.{ℕ, _+_, _-_, _≤_, _<_, min}
 use native.Mathlib.Omega.{arith}
 use borrow.Author.Tests.{eqb-true, eqb-false, eq-eqb}
@@ -20,7 +20,7 @@ use Rattle.trade.specs.rules.Trade.{Level, fromCustomer, fromOther, shared, oth
 use Rattle.demand.specs.promises.Demands.{Tradable, ByLevel, got, gotBelow, soldAt, soldBelow, walked, othersAt, planOn}
 use Rattle.demand.proofs.Lists.{soldAt-none, got-none, all-fill}
 use Rattle.demand.proofs.Levels.{all-level}
-use Rattle.demand.proofs.Walk.{Walkable, Run}
+use Rattle.demand.proofs.Walk.{Run}
 use Rattle.demand.proofs.Runs.{got-append, sold-append, run-each}
 use Rattle.demand.proofs.Theorems.{fit, the-run, walked-levels, demand3}
 
@@ -38,7 +38,7 @@ run-priced d rs p from left held (l ∷ ls) r t = go (eqb (l .price) p) refl (ru
     go : (b : Bool) → eqb (l .price) p ≡ b → (0 < soldAt p (flat ls) → Priced ls p) → Priced (l ∷ ls) p
     go true e ih = record { level = l; one = inl refl; price = eqb-true (l .price) p e }
     go false e ih =
-        let k = ih (omega (arith, sold-append p (levelFills l) (flat ls), soldAt-none p (levelFills l) (all-level l (λ f. f .price ≡ p → ⊥) (λ x y z. eqb-false (l .price) p e)))) in
+        let k = ih (omega (arith, sold-append p (levelFills l) (flat ls), soldAt-none p (levelFills l) (all-level l (λ f. f .price ≢ p) (λ x y z. eqb-false (l .price) p e)))) in
         record { level = k .level; one = inr (k .one); price = k .price }
 
 -- what a party gets trades at the price where it trades alone
@@ -49,6 +49,10 @@ got-sold k p (f ∷ fs) a = go (eqb (f .party) k) refl (got-sold k p fs (a .1))
     go : (b : Bool) → eqb (f .party) k ≡ b → got k fs ≤ soldAt p fs → cond b (f .quantity) 0 + got k fs ≤ soldAt p (f ∷ fs)
     go true e h = rw (eq-eqb (f .price) p (a .0 (eqb-true (f .party) k e))) (omega arith)
     go false e h = omega arith
+
+-- a share by equal numbers
+pub near : (s : ℕ) {R Q T S x y : ℕ} → R ≡ Q → T ≡ S → x ≡ y → Near R T s x → Near Q S s y
+near s e1 e2 e3 n = rw (sym e1, sym e2, sym e3) n
 
 -- ---- what is left to the others, from what is left on arriving, the responses there and the plan
 
@@ -100,11 +104,19 @@ module _ (d : Deal) (b : Board) where
       others-are : sum (sizes (others l)) ≡ sum (sizes (othersAt d (offers b) (l .price)))
       others-are = ap (λ (xs : List Response). sum (sizes (filter fromOther xs))) here-is
 
-      final-is : l .final ≡ planAt (l .price) .final
-      final-is = ap (λ (x : Plan). x .final) plan-is
+    -- ---- at a price where anything trades
 
-    -- ---- a response that is no Customer's, at a price where anything trades
+    module _ (p : ℕ) (k : Priced (levels d (offers b)) p) where
+      others-at : sum (sizes (others (k .level))) ≡ sum (sizes (othersAt d (offers b) p))
+      others-at = others-are (k .level) (k .one) ∙ ap (λ (x : ℕ). sum (sizes (othersAt d (offers b) x))) (k .price)
 
+      shared-at : shared (k .level) ≡ leftToOthers p
+      shared-at = shared-is (k .level) (k .one) ∙ ap leftToOthers (k .price)
+
+      final-at : k .level .final ≡ planAt p .final
+      final-at = ap (λ (x : Plan). x .final) (plan-is (k .level) (k .one)) ∙ ap (λ (x : ℕ). planAt x .final) (k .price)
+
+    -- a response that is no Customer's
     module _ (r : Response) (m : In r (liveOf b)) (c : r .customer ≡ false) where
       abbrev works : ℕ
       works = working d r
@@ -112,19 +124,13 @@ module _ (d : Deal) (b : Board) where
       pub filled-at : 0 < soldAt works (walked d all) → sum (sizes (othersAt d (offers b) works)) ≤ leftToOthers works → got (r .sequence) all ≡ r .size
       filled-at t h =
           let k = priced works t in
-          let x : sum (sizes (others (k .level))) ≡ sum (sizes (othersAt d (offers b) works)) = others-are (k .level) (k .one) ∙ ap (λ (p : ℕ). sum (sizes (othersAt d (offers b) p))) (k .price) in
-          let y : shared (k .level) ≡ leftToOthers works = shared-is (k .level) (k .one) ∙ ap leftToOthers (k .price) in
-          by-level (k .level) (k .one) .filled r m c (sym (k .price)) (rw (x, y) h)
+          by-level (k .level) (k .one) .filled r m c (sym (k .price)) (rw (others-at works k, shared-at works k) h)
 
       pub short-at : 0 < soldAt works (walked d all) → leftToOthers works < sum (sizes (othersAt d (offers b) works))
           → Near (leftToOthers works) (sum (sizes (othersAt d (offers b) works))) (r .size) (got (r .sequence) all)
       short-at t h =
           let k = priced works t in
-          let x : sum (sizes (others (k .level))) ≡ sum (sizes (othersAt d (offers b) works)) = others-are (k .level) (k .one) ∙ ap (λ (p : ℕ). sum (sizes (othersAt d (offers b) p))) (k .price) in
-          let y : shared (k .level) ≡ leftToOthers works = shared-is (k .level) (k .one) ∙ ap leftToOthers (k .price) in
-          subst (λ (R : ℕ). Near R (sum (sizes (othersAt d (offers b) works))) (r .size) (got (r .sequence) all)) y
-          (subst (λ (T : ℕ). Near (shared (k .level)) T (r .size) (got (r .sequence) all)) x
-          (by-level (k .level) (k .one) .short r m c (sym (k .price)) (rw (x, y) h)))
+          near (r .size) (shared-at works k) (others-at works k) refl (by-level (k .level) (k .one) .short r m c (sym (k .price)) (rw (others-at works k, shared-at works k) h))
 
       -- what it gets trades in the walk, at its working price
       got-walked : got (r .sequence) all ≤ soldAt works (walked d all)
@@ -132,8 +138,8 @@ module _ (d : Deal) (b : Board) where
           let k = r .sequence in
           let z : got k (marketFill d (offers b)) ≡ 0 =
           got-none k (marketFill d (offers b))
-          (all-fill (λ f. f .party ≡ k → ⊥) (d .market) (marketPrice d (offers b)) (marketTakes d (offers b))
-          (λ h e. every-in (λ x. x .sequence ≡ d .market → ⊥) (liveOf b) r (s .market-apart (omega arith) .1) m (sym e))) in
+          (all-fill (λ f. f .party ≢ k) (d .market) (marketPrice d (offers b)) (marketTakes d (offers b))
+          (λ h e. every-in (λ x. x .sequence ≢ d .market) (liveOf b) r (s .market-apart (omega arith) .1) m (sym e))) in
           let g : got k all ≡ got k (marketFill d (offers b)) + got k (walked d all) =
           ap (got k) (demand3 d b s .market-trades) ∙ got-append k (marketFill d (offers b)) (walked d all) in
           let w : got k (walked d all) ≤ soldAt works (walked d all) =
@@ -143,5 +149,4 @@ module _ (d : Deal) (b : Board) where
       pub guaranteed-at : planAt works .final ≡ true → 0 < got (r .sequence) all → guarantee d (offers b) ≤ got 0 all
       guaranteed-at e t =
           let k = priced works (omega (arith, got-walked)) in
-          let f : k .level .final ≡ true = final-is (k .level) (k .one) ∙ ap (λ (p : ℕ). planAt p .final) (k .price) ∙ e in
-          by-level (k .level) (k .one) .has-guarantee r m c (sym (k .price)) f t
+          by-level (k .level) (k .one) .has-guarantee r m c (sym (k .price)) (final-at works k ∙ e) t

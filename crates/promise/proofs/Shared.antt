@@ -1,8 +1,8 @@
 -- What the others at a price share, in real prices. Assumes nothing.
 use mathlib.Core.Path.{_≡_, refl, sym, ap, _∙_, subst}
-use mathlib.Core.Bool.{Bool, true, false, cond, _&&_}
-use mathlib.Core.List.{List, [], _∷_, map}
-use Prim.Native.Nat.{ℕ, _+_, _-_, _≤_, _<_, min}
+use mathlib.Core.Bool.{Bool, true, false, _&&_}
+use mathlib.Core.List.{List, map}
+use Prim.Native.Nat.{ℕ, _-_, _≤_, _<_, min}
 use native.Mathlib.Omega.{arith}
 use lib.Dec.{ltb, eqb}
 use lib.ListN.{length, length-map}
@@ -29,7 +29,7 @@ use Rattle.auction.specs.declared.Entry.the-variants.{Accepted}
 use Rattle.fills.specs.rules.Fills.{dealOf}
 use Rattle.run.proofs.SoundLaws.{sound-deal}
 use Rattle.promise.specs.rules.Sides.{isSell, better, sent, soldBetter, gotBetter, last, written, there, walked, worksAt, allAt, customersAt, othersAt, guarantee, leftAt, planAt, leftToOthers}
-use Rattle.promise.proofs.RealLaws.{better-shown, same-shown, shown-twice, tally-shown, sold-shown, filter-sent, sizes-sent, deal, live, dealt, sound, mode-is, size-is, written-is, there-is, initiating-fits, prices-fit, working-fits, works-is, walked-is, got-is, was-live}
+use Rattle.promise.proofs.RealLaws.{better-shown, same-shown, shown-twice, tally-shown, sold-shown, filter-sent, sizes-sent, deal, dealt, sound, mode-is, size-is, written-is, there-is, initiating-fits, prices-fit, working-fits, works-is, walked-is, got-is, was-live}
 use Rattle.promise.proofs.BuyShares as buy
 
 -- a plan by equal numbers, and what is left by them
@@ -38,9 +38,6 @@ same-plan w i e1 e2 e3 e4 e5 e6 = rw (e1, e2, e3, e4, e5, e6)
 
 same-left : {l j c k w v : ℕ} → l ≡ j → c ≡ k → w ≡ v → (l - c) - min (l - c) w ≡ (j - k) - min (j - k) v
 same-left e1 e2 e3 = rw (e1, e2, e3)
-
-near : (s : ℕ) {R Q T S x y : ℕ} → R ≡ Q → T ≡ S → x ≡ y → Near R T s x → Near Q S s y
-near s e1 e2 e3 n = rw (sym e1, sym e2, sym e3) n
 
 module _ (o : Order) (es : List Event) (h : acceptOf o .answer ≡ Accepted) where
   abbrev sell : Bool
@@ -170,7 +167,7 @@ module _ (o : Order) (es : List Event) (h : acceptOf o .answer ≡ Accepted) whe
   short =
       as-sent Short
       (λ x m c z t e.
-      near (x .size) (sym (left-to-is (working d x) z)) (sym (others-are (working d x) z)) (sym (got-is o es h (x .sequence)))
+      buy.near (x .size) (sym (left-to-is (working d x) z)) (sym (others-are (working d x) z)) (sym (got-is o es h (x .sequence)))
       (buy.short-at d board can-trade x m c (subst (λ (n : ℕ). 0 < n) (sold-is (working d x) z) t) (omega (arith, others-are (working d x) z, left-to-is (working d x) z))))
 
   pub guaranteed : (r : Response) → In r (there o es) → r .customer ≡ false → Guaranteed r (worksAt o es r)
