@@ -1,2 +1,7 @@
 -- The proofs of the promise.
 pub mod Below
+pub mod RealLaws
+pub mod Real
+pub mod SharedFigures
+pub mod BuyShares
+pub mod Shared

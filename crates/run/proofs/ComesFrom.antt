@@ -46,7 +46,7 @@ record From (Q : Event → Type 0) (t : Terms) (r : Response) : Type 0 where
   named : r .sequence ≡ event .sequence
 
 -- the terms never change
-terms-stay : (a : Auction) (e : Event) → stepOf a e .auction .head .terms ≡ a .head .terms
+pub terms-stay : (a : Auction) (e : Event) → stepOf a e .auction .head .terms ≡ a .head .terms
 unfolding headAfter endedByTime
 terms-stay a e = cases (a .head) e (sightOf (a .board) e) (λ t. t .head .terms ≡ a .head .terms) (record { refused = λ _ _. refl; late = λ _. refl; does = λ _. any-change _ _ _ _ _ (λ _ _. refl) (λ _ _. refl) })
 

@@ -212,7 +212,7 @@ bound-is : (a : Auction) → Sound a → boundNow (a .head) ≡ boundBy (a .head
 unfolding boundNow
 bound-is a s = omega (arith, s .bound-below, s .price)
 
-sound-deal : (a : Auction) → Sound a → SoundDeal (dealOf (a .head)) (a .board)
+pub sound-deal : (a : Auction) → Sound a → SoundDeal (dealOf (a .head)) (a .board)
 unfolding dealOf
 sound-deal a s =
     record {
