@@ -44,11 +44,11 @@ any-change t q s m P r d =
     record {
       refuses = r;
       nothing = λ g. d Nothing g;
-      gtx = λ _ _ _. d (Seat _ _) _;
-      limit = λ g _ _ _. d (Seat _ _) g;
+      gtx = λ _ _ _ _. d (Seat _ _) _;
+      limit = λ g _ _ _ _. d (Seat _ _) g;
       clear = λ _ _. d (Free _) _;
       quote = λ n _. d (Quote n) _;
-      sell = d (Sell _) _;
+      sell = λ _ _. d (Sell _) _;
     }
 
 -- an event that was taken or ended the auction was not refused
