@@ -1,2 +1,3 @@
 -- The proofs of the promise.
 pub mod Answered
+pub mod Resent

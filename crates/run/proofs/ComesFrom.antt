@@ -77,7 +77,7 @@ other-side : (s : Bool) (e : Event) → (buyEvent s e .kind ≡ 1) ⊎ ((buyEven
 other-side s e k f n = side-two (buyEvent s e) (sided (buyEvent s e .kind) k) (buy-form s e f) n
 
 -- the terms never change
-terms-stay : (a : Auction) (e : Event) → stepOf a e .auction .head .terms ≡ a .head .terms
+pub terms-stay : (a : Auction) (e : Event) → stepOf a e .auction .head .terms ≡ a .head .terms
 unfolding headAfter endedByTime
 terms-stay a e = cases (a .head) e (sightOf (a .board) e) (λ t. t .head .terms ≡ a .head .terms) (record { refused = λ _ _. refl; late = λ _. refl; does = λ _. any-change _ _ _ _ _ (λ _ _. refl) (λ _ _. refl) })
 
