@@ -1,5 +1,5 @@
 -- Every tape is answered, whatever room is lent for it, and by which numbers. Assumes nothing.
-use mathlib.Core.Path.{_≡_, refl, sym, ap, subst, _∙_}
+use mathlib.Core.Path.{_≡_, refl, sym, ap, _∙_}
 use mathlib.Core.Bool.{Bool, true, false, cond, not, _&&_, _||_}
 use mathlib.Core.List.{List, [], _∷_, _++_}
 use mathlib.Core.Logic.{_⊎_, inl, inr, ⊎-elim}
@@ -7,9 +7,9 @@ use Prim.Native.Nat.{ℕ, zero, suc, _+_, _-_, _*_, _≤_, _<_}
 use native.Mathlib.Omega.{arith}
 use lib.Dec.{leb, ltb, eqb}
 use lib.ListN.{length, take, drop, length-drop}
-use borrow.Author.Tests.{lt-ltb, le-ltb, ltb-false, eqb-true}
+use borrow.Author.Tests.{lt-ltb, le-ltb, ltb-false}
 use Rattle.base.specs.Lists.{In, Every, keep}
-use Rattle.base.proofs.Bools.{by, no as never, or-left}
+use Rattle.base.proofs.Bools.{by, no as never, and-right, or-left}
 use Rattle.base.proofs.Numbers.{eq-or}
 use Rattle.words.specs.rules.Bits.{bitAt}
 use Rattle.words.specs.rules.Bytes.{wordAt}
@@ -26,12 +26,10 @@ use Rattle.tape.specs.declared.trailer.Opened.the-variants.{Tape, Refused as No
 use Rattle.tape.specs.rules.Form.{orderFormed}
 use Rattle.tape.specs.rules.Records.{cubt, orderOf, orderSpare, readOrder, trailerOf, readTrailer}
 use Rattle.tape.specs.rules.Tape.{lengthOf, openedWith, openTape, orderIn, recordsOf}
-use Rattle.tape.specs.promises.Holds.{Holds}
 use Rattle.tape.proofs.HoldsLaws.{holds}
-use Rattle.base.proofs.Bools.{and-right}
 use Rattle.mirror.specs.rules.Mirror.{buyOrder}
 use Rattle.trade.specs.declared.Filled.the-variants.{Count, Refused as NotFilled}
-use Rattle.trade.specs.rules.Write.{roomy, fillsOf, fillAnswer, fillWords}
+use Rattle.trade.specs.rules.Write.{roomy, fillAnswer, fillWords}
 use Rattle.auction.specs.declared.Auction.{Auction}
 use Rattle.auction.specs.declared.Opening.{Opening}
 use Rattle.auction.specs.declared.Entry.{Entry}
@@ -40,13 +38,13 @@ use Rattle.auction.specs.rules.Accept.{initiatingOf, firstBound, guaranteedOf, 
 use Rattle.events.specs.declared.Answer.{Answer}
 use Rattle.events.specs.declared.Answer.the-variants.{Taken, Ended, Late, Refused}
 use Rattle.events.specs.rules.Step.{sightOf, stepOf}
-use Rattle.fills.specs.rules.Fills.{hasEnded, dealOf, auctionFills}
-use Rattle.run.specs.rules.Run.{run, closed, heard, runEntry, runOrder, runTape, runOf, played}
+use Rattle.fills.specs.rules.Fills.{hasEnded, auctionFills}
+use Rattle.run.specs.rules.Run.{run, closed, heard, runEntry, runOrder, runTape, runOf}
 use Rattle.run.proofs.Resend.{keeps}
-use Rattle.listing.specs.rules.Listing.{refusedLine, auctionLine, eventLines, endLines, linesOf, listingOf, roomOf, listedOf, lengthIn, answerOf, bytesOf}
+use Rattle.listing.specs.rules.Listing.{endLines, linesOf, listingOf, roomOf, listedOf, lengthIn, answerOf}
 use Rattle.listing.specs.declared.Listed.the-variants.{Refused as NoAuction}
 use Rattle.listing.proofs.Theorems.{length-answer, demands}
-use Rattle.promise.specs.rules.Answers.{Paper, no, yes, openedIs, orderIs, entryIs, answerIs, filledIs, listedIs}
+use Rattle.promise.specs.rules.Answers.{no, yes, openedIs, orderIs, entryIs, answerIs, filledIs, listedIs}
 use Rattle.promise.specs.rules.Tapes.{Carries, endIn, endOf, isRefused, notRefused}
 use Rattle.promise.specs.promises.Parts.{Answered, Roomed, Filling, EventNumber}
 use Rattle.promise.specs.promises.Parts.Answered.{no-tape, no-order, not-accepted, auction}

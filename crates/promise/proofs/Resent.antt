@@ -1,13 +1,13 @@
 -- A response that stands on the board is never counted twice, and the market order that ended an auction is one of its records. Assumes nothing.
 use mathlib.Core.Path.{_≡_, refl, sym, ap, subst, _∙_}
-use mathlib.Core.Bool.{Bool, true, false, cond, not}
+use mathlib.Core.Bool.{Bool, true, false, cond}
 use mathlib.Core.List.{List, [], _∷_, _++_, map}
 use mathlib.Core.Logic.{_⊎_, inl, inr, _≢_}
 use Prim.Native.Nat.{ℕ, _≤_, _<_, min}
 use native.Mathlib.Nat.{le-trans}
 use native.Mathlib.Omega.{arith}
 use lib.Dec.{leb, ltb, eqb}
-use borrow.Author.Tests.{eq-eqb, ne-eqb, le-leb, ltb-true}
+use borrow.Author.Tests.{eq-eqb, ne-eqb, ltb-true}
 use Rattle.base.specs.Lists.{In, Every, keep, Inserts}
 use Rattle.base.specs.Lists.Inserts.{here, there}
 use Rattle.base.specs.Price.{mirrored}
@@ -16,7 +16,7 @@ use Rattle.base.proofs.ListLaws.{every-map, every-in, every-inserts}
 use Rattle.base.proofs.Numbers.{mirror-twice}
 use Rattle.board.specs.declared.Board.{Board}
 use Rattle.board.specs.declared.Response.{Response}
-use Rattle.board.specs.rules.Board.{responseAt, liveOf, cleared, findGtx}
+use Rattle.board.specs.rules.Board.{liveOf, cleared, findGtx}
 use Rattle.board.specs.promises.Board.{GtxAt}
 use Rattle.board.proofs.BoardLaws.{clearing, find-gtx}
 use Rattle.tape.specs.declared.order.Order.{Order}
@@ -36,28 +36,26 @@ use Rattle.auction.specs.declared.Market.{Market}
 use Rattle.auction.specs.declared.Entry.the-variants.{Accepted}
 use Rattle.auction.specs.rules.Accept.{termsOf, openedBy, acceptOf}
 use Rattle.auction.specs.rules.Range.{isOpen}
-use Rattle.events.specs.declared.Answer.the-variants.{Taken, Late, Refused}
+use Rattle.events.specs.declared.Answer.the-variants.{Taken, Refused}
 use Rattle.events.specs.declared.Sight.{Sight}
 use Rattle.events.specs.declared.Turn.{Turn}
-use Rattle.events.specs.declared.Change.{Change}
 use Rattle.events.specs.declared.Change.the-variants.{Free}
 use Rattle.events.specs.declared.Outcome.{Outcome}
-use Rattle.events.specs.declared.Outcome.the-variants.{Refuses, Does}
 use Rattle.events.specs.declared.Stepped.{Stepped}
 use Rattle.events.specs.rules.Decide.{isCustomer, cancelOutcome, outcomeOf}
-use Rattle.events.specs.rules.Step.{sightOf, eventRefusal, boardAfter, stays, endedByTime, carried, turnOf, closeTurn, gives, seatedOn, stepOf}
-use Rattle.run.specs.rules.Run.{run, closed, played, isTaken, takenOf}
+use Rattle.events.specs.rules.Step.{sightOf, eventRefusal, boardAfter, endedByTime, carried, turnOf, closeTurn, gives, stepOf}
+use Rattle.run.specs.rules.Run.{run, closed, isTaken, takenOf}
 use Rattle.run.specs.promises.Demands.{madeBy, ComesFrom, MarketFrom, Stands, Sound}
 use Rattle.run.proofs.StepLaws.{Outcomes, Ordinary, cases}
-use Rattle.run.proofs.Resend.{rises, taken-is, run-rises}
+use Rattle.run.proofs.Resend.{rises, taken-is, old-refused, run-rises}
 use Rattle.run.proofs.BoardSteps.{sees, seat-every, clear-every}
 use Rattle.run.proofs.Accepted.{opened}
 use Rattle.run.proofs.SoundLaws.{sound-opened, sound-step, sound-run, demanded}
-use Rattle.run.proofs.ComesFrom.{terms-stay, resend}
+use Rattle.run.proofs.ComesFrom.{run-terms, resend}
 use Rattle.promise.specs.rules.Tapes.{Carries, endOf, Resends}
 use Rattle.promise.specs.rules.Tapes.Resends.{none, more}
-use Rattle.promise.specs.rules.Sides.{isSell, otherSide, sent, responses, taken, last, market}
-use Rattle.promise.specs.promises.Parts.{Sends, Ends, Ended, OneRecord, Resent, after}
+use Rattle.promise.specs.rules.Sides.{isSell, sent, responses, taken, last, market}
+use Rattle.promise.specs.promises.Parts.{Ended, OneRecord, Resent, after}
 use Rattle.promise.proofs.Answered.{ends-alike}
 
 -- ---- the records taken
@@ -88,19 +86,9 @@ taken-below (e ∷ es) a = go (isTaken (stepOf a e .answer)) refl (taken-below e
 
 -- ---- a record with the sequence of one that was taken, or a lower one
 
--- 31 once ended; else 32 where it is out of form, and 33
-old-refused : (a : Auction) (f : Event) → f .sequence ≤ a .head .sequence → stepOf a f ≡ gives (Refused (cond (isOpen (a .head .ending)) (cond (eventFormed f) 33 32) 31)) a
-unfolding turnOf eventRefusal
-old-refused a f h = go (isOpen (a .head .ending)) (eventFormed f) refl refl
-  where
-    go : (x y : Bool) → isOpen (a .head .ending) ≡ x → eventFormed f ≡ y → stepOf a f ≡ gives (Refused (cond (isOpen (a .head .ending)) (cond (eventFormed f) 33 32) 31)) a
-    go true true p q = simp (p, q, le-leb _ _ h)
-    go true false p q = simp (p, q)
-    go false y p q = simp p
-
 refused : (a : Auction) (before : List Event) (e f : Event) → In e (takenOf a before) → f .sequence ≤ e .sequence
     → stepOf (run a before) f ≡ gives (Refused (cond (isOpen (run a before .head .ending)) (cond (eventFormed f) 33 32) 31)) (run a before)
-refused a before e f i h = old-refused (run a before) f (le-trans h (every-in (λ e. e .sequence ≤ run a before .head .sequence) (takenOf a before) e (taken-below before a) i))
+refused a before e f i h = old-refused (sightOf (run a before .board) f) (run a before) f (le-trans h (every-in (λ e. e .sequence ≤ run a before .head .sequence) (takenOf a before) e (taken-below before a) i))
 
 run-append : (es fs : List Event) (a : Auction) → run a (es ++ fs) ≡ run (run a es) fs
 run-append [] fs a = refl
@@ -116,10 +104,6 @@ pub resends : (s t : List ℕ) (o : Order) (es fs : List Event) → Carries s (G
 resends s t o es fs c d r = ends-alike s t o es fs c d (resent-run (acceptOf o .auction) es fs r)
 
 -- ---- a record as it was sent
-
-pub run-terms : (es : List Event) (a : Auction) → run a es .head .terms ≡ a .head .terms
-run-terms [] a = refl
-run-terms (e ∷ es) a = run-terms es (stepOf a e .auction) ∙ terms-stay a e
 
 buy-size : (o : Order) → buyOrder o .size ≡ o .size
 unfolding buyOrder mirroredOrder

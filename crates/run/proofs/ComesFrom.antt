@@ -77,9 +77,13 @@ other-side : (s : Bool) (e : Event) → (buyEvent s e .kind ≡ 1) ⊎ ((buyEven
 other-side s e k f n = side-two (buyEvent s e) (sided (buyEvent s e .kind) k) (buy-form s e f) n
 
 -- the terms never change
-pub terms-stay : (a : Auction) (e : Event) → stepOf a e .auction .head .terms ≡ a .head .terms
+terms-stay : (a : Auction) (e : Event) → stepOf a e .auction .head .terms ≡ a .head .terms
 unfolding headAfter endedByTime
 terms-stay a e = cases (a .head) e (sightOf (a .board) e) (λ t. t .head .terms ≡ a .head .terms) (record { refused = λ _ _. refl; late = λ _. refl; does = λ _. any-change _ _ _ _ _ (λ _ _. refl) (λ _ _. refl) })
+
+pub run-terms : (es : List Event) (a : Auction) → run a es .head .terms ≡ a .head .terms
+run-terms [] a = refl
+run-terms (e ∷ es) a = run-terms es (stepOf a e .auction) ∙ terms-stay a e
 
 module _ (Q : Event → Type 0) (a : Auction) (e : Event) (s : Sound a) where
   abbrev view : Sight
