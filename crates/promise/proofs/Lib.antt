@@ -1,5 +1,7 @@
 -- The proofs of the promise.
 pub mod Below
+pub mod Answered
+pub mod Resent
 pub mod RealLaws
 pub mod Real
 pub mod SharedFigures

@@ -1,0 +1,246 @@
+-- Every tape is answered, whatever room is lent for it, and by which numbers. Assumes nothing.
+use mathlib.Core.Path.{_≡_, refl, sym, ap, _∙_}
+use mathlib.Core.Bool.{Bool, true, false, cond, not, _&&_, _||_}
+use mathlib.Core.List.{List, [], _∷_, _++_}
+use mathlib.Core.Logic.{_⊎_, inl, inr, ⊎-elim}
+use Prim.Native.Nat.{ℕ, zero, suc, _+_, _-_, _*_, _≤_, _<_}
+use native.Mathlib.Omega.{arith}
+use lib.Dec.{leb, ltb, eqb}
+use lib.ListN.{length, take, drop, length-drop}
+use borrow.Author.Tests.{lt-ltb, le-ltb, ltb-false}
+use Rattle.base.specs.Lists.{In, Every, keep}
+use Rattle.base.proofs.Bools.{by, no as never, and-right, or-left}
+use Rattle.base.proofs.Numbers.{eq-or}
+use Rattle.words.specs.rules.Bits.{bitAt}
+use Rattle.words.specs.rules.Bytes.{wordAt}
+use Rattle.share.specs.rules.Fills.{words}
+use Rattle.tape.specs.declared.order.Order.{Order}
+use Rattle.tape.specs.declared.event.Event.{Event}
+use Rattle.tape.specs.declared.order.ReadOrder.{ReadOrder}
+use Rattle.tape.specs.declared.order.ReadOrder.the-variants.{Order as GotOrder, Refused as NoOrder}
+use Rattle.tape.specs.declared.trailer.Trailer.{Trailer}
+use Rattle.tape.specs.declared.trailer.ReadTrailer.{ReadTrailer}
+use Rattle.tape.specs.declared.trailer.ReadTrailer.the-variants.{Trailer as GotTrailer, Refused as NoTrailer}
+use Rattle.tape.specs.declared.trailer.Opened.{Opened}
+use Rattle.tape.specs.declared.trailer.Opened.the-variants.{Tape, Refused as NotOpened}
+use Rattle.tape.specs.rules.Form.{orderFormed}
+use Rattle.tape.specs.rules.Records.{cubt, orderOf, orderSpare, readOrder, trailerOf, readTrailer}
+use Rattle.tape.specs.rules.Tape.{lengthOf, openedWith, openTape, orderIn, recordsOf}
+use Rattle.tape.proofs.HoldsLaws.{holds}
+use Rattle.mirror.specs.rules.Mirror.{buyOrder}
+use Rattle.trade.specs.declared.Filled.the-variants.{Count, Refused as NotFilled}
+use Rattle.trade.specs.rules.Write.{roomy, fillAnswer, fillWords}
+use Rattle.auction.specs.declared.Auction.{Auction}
+use Rattle.auction.specs.declared.Opening.{Opening}
+use Rattle.auction.specs.declared.Entry.{Entry}
+use Rattle.auction.specs.declared.Entry.the-variants.{Accepted, Refused as NotAccepted}
+use Rattle.auction.specs.rules.Accept.{initiatingOf, firstBound, guaranteedOf, rangeRefusal, buyRefusal, orderRefusal, acceptOf}
+use Rattle.events.specs.declared.Answer.{Answer}
+use Rattle.events.specs.declared.Answer.the-variants.{Taken, Ended, Late, Refused}
+use Rattle.events.specs.rules.Step.{sightOf, stepOf}
+use Rattle.fills.specs.rules.Fills.{hasEnded, auctionFills}
+use Rattle.run.specs.rules.Run.{run, closed, heard, runEntry, runOrder, runTape, runOf}
+use Rattle.run.proofs.Resend.{keeps}
+use Rattle.listing.specs.rules.Listing.{endLines, linesOf, listingOf, roomOf, listedOf, lengthIn, answerOf}
+use Rattle.listing.specs.declared.Listed.the-variants.{Refused as NoAuction}
+use Rattle.listing.proofs.Theorems.{length-answer, demands}
+use Rattle.promise.specs.rules.Answers.{no, yes, openedIs, orderIs, entryIs, answerIs, filledIs, listedIs}
+use Rattle.promise.specs.rules.Tapes.{Carries, endIn, endOf, isRefused, notRefused}
+use Rattle.promise.specs.promises.Parts.{Answered, Roomed, Filling, EventNumber}
+use Rattle.promise.specs.promises.Parts.Answered.{no-tape, no-order, not-accepted, auction}
+
+-- ---- numbers one after the other
+
+abbrev numbers : ℕ → ℕ → List ℕ
+numbers low zero = []
+numbers low (suc k) = low ∷ numbers (suc low) k
+
+numbers-in : (n low k : ℕ) → low ≤ n → n < low + k → In n (numbers low k)
+numbers-in n low zero h l = absurd (omega arith)
+numbers-in n low (suc k) h l = ⊎-elim (λ e. inl e) (λ d. inr (numbers-in n (suc low) k (omega (arith, d)) (omega (arith, d)))) (eq-or n low)
+
+-- ---- a tape
+
+-- the trailer of a tape of 16 bytes or more is read, or 22
+trailer-number : (s : List ℕ) (n : ℕ) → 16 ≤ length s → readTrailer s ≡ NoTrailer n → n ≡ 22
+unfolding readTrailer
+trailer-number s n h = rw (le-ltb (length s) 16 h) (by (λ (r : ReadTrailer). r ≡ NoTrailer n → n ≡ 22) (eqb (wordAt s 0) cubt && eqb (wordAt s 12) 0) (GotTrailer (trailerOf s)) (NoTrailer 22) (λ _ z. cc) (λ _ z. cc))
+
+-- 21, 22 or 23
+tape-number : (s : List ℕ) (n : ℕ) → openTape s ≡ NotOpened n → In n (21 ∷ 22 ∷ 23 ∷ [])
+unfolding openTape
+tape-number s n =
+    by (λ (p : Opened). p ≡ NotOpened n → In n (21 ∷ 22 ∷ 23 ∷ [])) (ltb (length s) 16 || ltb 65536 (length s)) (NotOpened 21) (openedWith (length s) (readTrailer (drop (length s - 16) s)))
+    (λ _ z. let q : n ≡ 21 = cc in inl q)
+    (λ h. go (readTrailer (drop (length s - 16) s)) refl (ltb-false (length s) 16 (or-left (ltb (length s) 16) (ltb 65536 (length s)) h)))
+  where
+    go : (r : ReadTrailer) → readTrailer (drop (length s - 16) s) ≡ r → 16 ≤ length s → openedWith (length s) r ≡ NotOpened n → In n (21 ∷ 22 ∷ 23 ∷ [])
+    go (NoTrailer k) e l = λ z.
+        let q : k ≡ n = cc in
+        let m : 16 ≤ length (drop (length s - 16) s) = omega (arith, length-drop (length s - 16) s) in
+        inr (inl (sym q ∙ trailer-number (drop (length s - 16) s) k m e))
+    go (GotTrailer t) e l =
+        by (λ (p : Opened). p ≡ NotOpened n → In n (21 ∷ 22 ∷ 23 ∷ [])) (eqb (lengthOf t) (length s)) (Tape t) (NotOpened 23) (λ _ z. let q : n ≡ 21 = cc in inl q) (λ _ z. let q : n ≡ 23 = cc in inr (inr (inl q)))
+
+-- the order of a tape that opens is read where it is in form, else 1
+read-order : (s : List ℕ) → 64 ≤ length s → (r : ReadOrder) → readOrder s ≡ r → (r ≡ NoOrder 1) ⊎ ((r ≡ GotOrder (orderOf s)) × (orderFormed (orderOf s) ≡ true))
+unfolding readOrder
+read-order s h r =
+    rw (le-ltb (length s) 64 h)
+    (by (λ (x : ReadOrder). x ≡ r → (r ≡ NoOrder 1) ⊎ ((r ≡ GotOrder (orderOf s)) × (orderFormed (orderOf s) ≡ true))) (orderSpare s && orderFormed (orderOf s)) (GotOrder (orderOf s)) (NoOrder 1)
+    (λ f z. inr (sym z, and-right (orderSpare s) (orderFormed (orderOf s)) f))
+    (λ _ z. inl (sym z)))
+
+order-read : (s : List ℕ) (t : Trailer) → openTape s ≡ Tape t → (r : ReadOrder) → orderIn s t ≡ r → (r ≡ NoOrder 1) ⊎ ((r ≡ GotOrder (orderOf (drop (t .order) s))) × (orderFormed (orderOf (drop (t .order) s)) ≡ true))
+unfolding orderIn
+order-read s t h r = read-order (drop (t .order) s) (omega (arith, length-drop (t .order) s, holds s t h .order)) r
+
+-- a buy in form is not refused by 1
+abbrev Not1 : ℕ → Type 0
+Not1 n = n ≡ 1 → ⊥
+
+other : (n : ℕ) → 1 < n → Not1 n
+other n h z = omega arith
+
+range-not : (b : Order) → Not1 (rangeRefusal b)
+unfolding rangeRefusal
+range-not b =
+    by Not1 (ltb (b .limit) (firstBound b)) _ _ (λ _. other 10 (omega arith)) (λ _.
+    by Not1 (ltb (initiatingOf b) (b .stop)) _ _ (λ _. other 11 (omega arith)) (λ _.
+    by Not1 (ltb (b .size) 50 && eqb (b .nbo) (b .nbb + 1) && not (eqb (b .nbo) (guaranteedOf b + 1))) _ _ (λ _. other 12 (omega arith)) (λ _ z. omega arith)))
+
+buy-not : (b : Order) → Not1 (buyRefusal b)
+unfolding buyRefusal
+buy-not b =
+    by Not1 (ltb (b .nbb) (b .bb) || ltb (b .bo) (b .nbo)) _ _ (λ _. other 2 (omega arith)) (λ _.
+    by Not1 (eqb (b .size) 0) _ _ (λ _. other 3 (omega arith)) (λ _.
+    by Not1 (ltb (b .time) (b .opens)) _ _ (λ _. other 4 (omega arith)) (λ _.
+    by Not1 (leb (b .closes) (b .time + 1000)) _ _ (λ _. other 5 (omega arith)) (λ _.
+    by Not1 (bitAt (b .marks) 0) _ _ (λ _. other 6 (omega arith)) (λ _.
+    by Not1 (bitAt (b .marks) 1) _ _ (λ _. other 7 (omega arith)) (λ _.
+    by Not1 (leb (b .nbo) (b .nbb)) _ _ (λ _. other 8 (omega arith)) (λ _.
+    by Not1 (ltb (b .size) 50 && eqb (b .bo) (b .bb + 1)) _ _ (λ _. other 9 (omega arith)) (λ _. range-not b))))))))
+
+formed-not : (o : Order) (n : ℕ) → orderFormed o ≡ true → acceptOf o .answer ≡ NotAccepted n → Not1 n
+unfolding acceptOf orderRefusal
+formed-not o n f =
+    by (λ (p : Opening). p .answer ≡ NotAccepted n → Not1 n) (eqb (orderRefusal o) 0) _ _
+    (λ _ z. never cc)
+    (λ _ z. let q : orderRefusal o ≡ n = cc in let k : orderRefusal o ≡ buyRefusal (buyOrder o) = rw f in λ m. buy-not (buyOrder o) (sym k ∙ q ∙ m))
+
+order-number : (o : Order) (n : ℕ) → orderFormed o ≡ true → acceptOf o .answer ≡ NotAccepted n → In n (2 ∷ 3 ∷ 4 ∷ 5 ∷ 6 ∷ 7 ∷ 8 ∷ 9 ∷ 10 ∷ 11 ∷ 12 ∷ [])
+order-number o n f h = let b = keeps .order-numbers o n h in numbers-in n 2 11 (omega (arith, b .0, formed-not o n f h)) (omega (arith, b .1))
+
+-- ---- its run
+
+opened-run : (s : List ℕ) (p : Opened) → openTape s ≡ p → runOf s ≡ runTape s p
+unfolding runOf
+opened-run s p e = ap (runTape s) e
+
+ordered-run : (s : List ℕ) (t : Trailer) (r : ReadOrder) → openTape s ≡ Tape t → orderIn s t ≡ r → runOf s ≡ runOrder (recordsOf s t) r
+ordered-run s t r h e = opened-run s (Tape t) h ∙ ap (runOrder (recordsOf s t)) e
+
+pub run-carries : (s : List ℕ) (o : Order) (es : List Event) → Carries s (GotOrder o) es → runOf s ≡ runEntry es (acceptOf o .auction) (acceptOf o .answer)
+run-carries s o es c = ordered-run s (c .trailer) (GotOrder o) (c .opens) (c .order) ∙ ap (λ (fs : List Event). runEntry fs (acceptOf o .auction) (acceptOf o .answer)) (c .records)
+
+lines-run : (s : List ℕ) → listingOf s ≡ linesOf (runOf s)
+unfolding listingOf
+lines-run s = refl
+
+pub answered : (s : List ℕ) → Answered s
+answered s = open-by (openTape s) refl
+  where
+    entry-by : (t : Trailer) (o : Order) → openTape s ≡ Tape t → orderIn s t ≡ GotOrder o → orderFormed o ≡ true → (x : Entry) → acceptOf o .answer ≡ x → Answered s
+    entry-by t o h e f Accepted z =
+        let c : Carries s (GotOrder o) (recordsOf s t) = record { trailer = t; opens = h; order = e; records = refl } in
+        auction o (recordsOf s t) c (ap entryIs z) (lines-run s ∙ ap linesOf (run-carries s o (recordsOf s t) c ∙ ap (runEntry (recordsOf s t) (acceptOf o .auction)) z))
+    entry-by t o h e f (NotAccepted n) z =
+        let c : Carries s (GotOrder o) (recordsOf s t) = record { trailer = t; opens = h; order = e; records = refl } in
+        not-accepted o (recordsOf s t) n c (ap entryIs z) (order-number o n f z) (lines-run s ∙ ap linesOf (run-carries s o (recordsOf s t) c ∙ ap (runEntry (recordsOf s t) (acceptOf o .auction)) z))
+
+    order-by : (t : Trailer) → openTape s ≡ Tape t → (r : ReadOrder) → orderIn s t ≡ r → (r ≡ NoOrder 1) ⊎ ((r ≡ GotOrder (orderOf (drop (t .order) s))) × (orderFormed (orderOf (drop (t .order) s)) ≡ true)) → Answered s
+    order-by t h r e (inl z) = no-order t h (ap orderIs (e ∙ z)) (lines-run s ∙ ap linesOf (ordered-run s t (NoOrder 1) h (e ∙ z)))
+    order-by t h r e (inr (z, f)) = entry-by t (orderOf (drop (t .order) s)) h (e ∙ z) f (acceptOf (orderOf (drop (t .order) s)) .answer) refl
+
+    open-by : (p : Opened) → openTape s ≡ p → Answered s
+    open-by (NotOpened n) e = no-tape n (ap openedIs e) (tape-number s n e) (lines-run s ∙ ap linesOf (opened-run s (NotOpened n) e))
+    open-by (Tape t) e = order-by t e (orderIn s t) refl (order-read s t e (orderIn s t) refl)
+
+-- ---- the room
+
+pub roomed : (s out : List ℕ) → Roomed s out
+unfolding listedOf
+roomed s out =
+    record {
+      small = λ h. (ap (λ (b : Bool). listedIs (cond b (NoAuction 24 0) (answerOf (length (listingOf s)) (runOf s)))) (lt-ltb (length out) roomOf h), demands .kept s out h);
+      stands = λ h.
+          (ap (λ (b : Bool). lengthIn (cond b (NoAuction 24 0) (answerOf (length (listingOf s)) (runOf s)))) (le-ltb (length out) roomOf h) ∙ length-answer (length (listingOf s)) (runOf s), demands .stands s out h);
+      fits = demands .fits s;
+    }
+
+-- ---- the fills
+
+pub filling : (a : Auction) (xs : List ℕ) (start : ℕ) → Filling a xs start
+unfolding fillAnswer fillWords
+filling a xs start = record { refused = λ n. refuses n (hasEnded (a .head)) (roomy xs start); counted = λ n. counts n (hasEnded (a .head)) (roomy xs start) }
+  where
+    fs : ℕ
+    fs = length (auctionFills a)
+
+    wrote : List ℕ
+    wrote = take start xs ++ (words (auctionFills a) ++ drop (start + 3 * fs) xs)
+
+    refuses : (n : ℕ) (e r : Bool) → filledIs (cond e (cond r (Count fs) (NotFilled 39)) (NotFilled 40)) ≡ no n → In n (39 ∷ 40 ∷ []) × (cond (e && r) wrote xs ≡ xs)
+    refuses n true true z = let q : n ≡ 39 = cc in (inl q, cc)
+    refuses n true false z = let q : n ≡ 39 = cc in (inl q, refl)
+    refuses n false r z = let q : n ≡ 40 = cc in (inr (inl q), refl)
+
+    counts : (n : ℕ) (e r : Bool) → filledIs (cond e (cond r (Count fs) (NotFilled 39)) (NotFilled 40)) ≡ yes n → (n ≡ fs) × (cond (e && r) wrote xs ≡ take start xs ++ (words (auctionFills a) ++ drop (start + 3 * n) xs))
+    counts n true true z = let q : n ≡ fs = cc in (q, ap (λ (k : ℕ). take start xs ++ (words (auctionFills a) ++ drop (start + 3 * k) xs)) (sym q))
+    counts n true false z = (cc, cc)
+    counts n false r z = (cc, cc)
+
+-- ---- events
+
+answer-number : (x : Answer) (n : ℕ) → answerIs x ≡ no n → x ≡ Refused n
+answer-number Taken n z = cc
+answer-number Ended n z = cc
+answer-number Late n z = cc
+answer-number (Refused k) n z = cc
+
+pub event-numbers : (a : Auction) (es : List Event) → Every EventNumber (heard a es)
+event-numbers a [] = tt
+event-numbers a (e ∷ es) = (λ n z. let b = keeps .event-numbers (sightOf (a .board) e) a e n (answer-number (stepOf a e .answer) n z) in numbers-in n 31 8 (b .0) (omega (arith, b .1)), event-numbers (stepOf a e .auction) es)
+
+-- ---- a refusal changes nothing
+
+refused-stays : (a : Auction) (e : Event) → isRefused (stepOf a e .answer) ≡ true → stepOf a e .auction ≡ a
+refused-stays a e z = go (stepOf a e .answer) refl z
+  where
+    go : (x : Answer) → stepOf a e .answer ≡ x → isRefused x ≡ true → stepOf a e .auction ≡ a
+    go Taken q r = never (sym r)
+    go Ended q r = never (sym r)
+    go Late q r = never (sym r)
+    go (Refused n) q r = keeps .refused (sightOf (a .board) e) a e n q
+
+without : (es : List Event) (a : Auction) → run a (notRefused a es) ≡ run a es
+without [] a = refl
+without (e ∷ es) a = go (isRefused (stepOf a e .answer)) refl (without es (stepOf a e .auction))
+  where
+    b : Auction
+    b = stepOf a e .auction
+
+    go : (r : Bool) → isRefused (stepOf a e .answer) ≡ r → run b (notRefused b es) ≡ run b es → run a (keep (not r) e (notRefused b es)) ≡ run b es
+    go true z ih = ap (λ (c : Auction). run c (notRefused b es)) (sym (refused-stays a e z)) ∙ ih
+    go false z ih = ih
+
+-- two tapes of one order, whose records make the same auction, end alike
+pub ends-alike : (s t : List ℕ) (o : Order) (es fs : List Event) → Carries s (GotOrder o) es → Carries t (GotOrder o) fs → run (acceptOf o .auction) fs ≡ run (acceptOf o .auction) es → endOf t ≡ endOf s
+ends-alike s t o es fs c d z = ap endIn (run-carries t o fs d) ∙ go (acceptOf o .answer) ∙ sym (ap endIn (run-carries s o es c))
+  where
+    go : (x : Entry) → endIn (runEntry fs (acceptOf o .auction) x) ≡ endIn (runEntry es (acceptOf o .auction) x)
+    go Accepted = ap (λ (a : Auction). endLines (closed a)) z
+    go (NotAccepted n) = refl
+
+pub without-refused : (s t : List ℕ) (o : Order) (es : List Event) → Carries s (GotOrder o) es → Carries t (GotOrder o) (notRefused (acceptOf o .auction) es) → endOf t ≡ endOf s
+without-refused s t o es c d = ends-alike s t o es (notRefused (acceptOf o .auction) es) c d (without es (acceptOf o .auction))
