@@ -4,18 +4,20 @@ use mathlib.Core.Bool.{Bool, true, false, cond, not, _&&_, _||_}
 use mathlib.Core.List.{List, [], _∷_, _++_}
 use mathlib.Core.Logic.{_⊎_, inl, inr, ⊎-elim}
 use Prim.Native.Nat.{ℕ, zero, suc, _+_, _-_, _*_, _≤_, _<_}
+use Prim.Native.String.{String}
 use native.Mathlib.Omega.{arith}
 use lib.Dec.{leb, ltb, eqb}
 use lib.ListN.{length, take, drop, length-drop}
-use borrow.Author.Tests.{lt-ltb, le-ltb, ltb-false}
+use borrow.Author.Tests.{lt-ltb, le-ltb, ltb-false, le-leb, lt-leb, leb-true}
 use Rattle.base.specs.Lists.{In, Every, keep}
-use Rattle.base.proofs.Bools.{by, no as never, and-right, or-left}
+use Rattle.base.proofs.Bools.{by, no as never, and-both, and-right, or-left}
 use Rattle.base.proofs.Numbers.{eq-or}
 use Rattle.words.specs.rules.Bits.{bitAt}
 use Rattle.words.specs.rules.Bytes.{wordAt}
-use Rattle.share.specs.rules.Fills.{words}
 use Rattle.tape.specs.declared.order.Order.{Order}
+use Rattle.tape.specs.declared.Written.the-variants.{Done, Refused as NotWritten}
 use Rattle.tape.specs.declared.event.Event.{Event}
+use Rattle.tape.specs.declared.event.ReadEvent.the-variants.{Event as GotEvent, Refused as NoEvent}
 use Rattle.tape.specs.declared.order.ReadOrder.{ReadOrder}
 use Rattle.tape.specs.declared.order.ReadOrder.the-variants.{Order as GotOrder, Refused as NoOrder}
 use Rattle.tape.specs.declared.trailer.Trailer.{Trailer}
@@ -23,14 +25,18 @@ use Rattle.tape.specs.declared.trailer.ReadTrailer.{ReadTrailer}
 use Rattle.tape.specs.declared.trailer.ReadTrailer.the-variants.{Trailer as GotTrailer, Refused as NoTrailer}
 use Rattle.tape.specs.declared.trailer.Opened.{Opened}
 use Rattle.tape.specs.declared.trailer.Opened.the-variants.{Tape, Refused as NotOpened}
-use Rattle.tape.specs.rules.Form.{orderFormed}
-use Rattle.tape.specs.rules.Records.{cubt, orderOf, orderSpare, readOrder, trailerOf, readTrailer}
+use Rattle.tape.specs.rules.Form.{orderFormed, eventFormed}
+use Rattle.tape.specs.rules.Records.{cubt, orderWords, orderOf, orderSpare, readOrder, orderAnswer, eventWords, eventOf, eventSpare, readEvent, eventAnswer, trailerWords, trailerOf, readTrailer, trailerAnswer}
 use Rattle.tape.specs.rules.Tape.{lengthOf, openedWith, openTape, orderIn, recordsOf}
 use Rattle.tape.proofs.HoldsLaws.{holds}
 use Rattle.mirror.specs.rules.Mirror.{buyOrder}
-use Rattle.trade.specs.declared.Filled.the-variants.{Count, Refused as NotFilled}
-use Rattle.trade.specs.rules.Write.{roomy, fillAnswer, fillWords}
+use Rattle.trade.specs.rules.Trade.{offers, fills}
+use Rattle.trade.specs.rules.Write.{roomy, fillsOf, fillAnswer, fillWords}
+use Rattle.trade.proofs.LevelLaws.{reported-length}
+use Rattle.demand.proofs.Theorems.{few}
 use Rattle.auction.specs.declared.Auction.{Auction}
+use Rattle.auction.specs.declared.Ending.{Ending}
+use Rattle.auction.specs.declared.Ending.the-variants.{Open, Time, Same, Opposite, Improve}
 use Rattle.auction.specs.declared.Opening.{Opening}
 use Rattle.auction.specs.declared.Entry.{Entry}
 use Rattle.auction.specs.declared.Entry.the-variants.{Accepted, Refused as NotAccepted}
@@ -38,15 +44,17 @@ use Rattle.auction.specs.rules.Accept.{initiatingOf, firstBound, guaranteedOf, 
 use Rattle.events.specs.declared.Answer.{Answer}
 use Rattle.events.specs.declared.Answer.the-variants.{Taken, Ended, Late, Refused}
 use Rattle.events.specs.rules.Step.{sightOf, stepOf}
-use Rattle.fills.specs.rules.Fills.{hasEnded, auctionFills}
-use Rattle.run.specs.rules.Run.{run, closed, heard, runEntry, runOrder, runTape, runOf}
+use Rattle.fills.specs.rules.Fills.{dealOf}
+use Rattle.run.specs.rules.Run.{Run, refused, ended, run, closed, heard, runEntry, runOrder, runTape, runOf}
 use Rattle.run.proofs.Resend.{keeps}
-use Rattle.listing.specs.rules.Listing.{endLines, linesOf, listingOf, roomOf, listedOf, lengthIn, answerOf}
+use Rattle.listing.specs.rules.Text.{text, newline}
+use Rattle.listing.specs.rules.Listing.{field, answerText, endText, endLines, linesOf, listingOf, roomOf, listedOf, lengthIn, answerOf}
+use Rattle.listing.specs.declared.Listed.{Listed}
 use Rattle.listing.specs.declared.Listed.the-variants.{Refused as NoAuction}
 use Rattle.listing.proofs.Theorems.{length-answer, demands}
-use Rattle.promise.specs.rules.Answers.{no, yes, openedIs, orderIs, entryIs, answerIs, filledIs, listedIs}
+use Rattle.promise.specs.rules.Answers.{no, yes, openedIs, orderIs, eventIs, trailerIs, writtenIs, entryIs, answerIs, endingIs, runIs, listedIs}
 use Rattle.promise.specs.rules.Tapes.{Carries, endIn, endOf, isRefused, notRefused}
-use Rattle.promise.specs.promises.Parts.{Answered, Roomed, Filling, EventNumber}
+use Rattle.promise.specs.promises.Parts.{Answered, Roomed, Filling, Numbered, EventNumber}
 use Rattle.promise.specs.promises.Parts.Answered.{no-tape, no-order, not-accepted, auction}
 
 -- ---- numbers one after the other
@@ -168,37 +176,110 @@ answered s = open-by (openTape s) refl
 
 -- ---- the room
 
+is-run : (n : ℕ) (u : Run) → listedIs (answerOf n u) ≡ runIs u
+is-run n (refused number) = refl
+is-run n (ended first said last) = refl
+
 pub roomed : (s out : List ℕ) → Roomed s out
 unfolding listedOf
 roomed s out =
     record {
-      small = λ h. (ap (λ (b : Bool). listedIs (cond b (NoAuction 24 0) (answerOf (length (listingOf s)) (runOf s)))) (lt-ltb (length out) roomOf h), demands .kept s out h);
-      stands = λ h.
-          (ap (λ (b : Bool). lengthIn (cond b (NoAuction 24 0) (answerOf (length (listingOf s)) (runOf s)))) (le-ltb (length out) roomOf h) ∙ length-answer (length (listingOf s)) (runOf s), demands .stands s out h);
+      small = λ h. (listed-by true (lt-ltb (length out) roomOf h), length-by true (lt-ltb (length out) roomOf h), demands .kept s out h);
+      answers = λ h.
+          (listed-by false (le-ltb (length out) roomOf h) ∙ is-run (length (listingOf s)) (runOf s),
+          length-by false (le-ltb (length out) roomOf h) ∙ length-answer (length (listingOf s)) (runOf s));
+      stands = demands .stands s out;
       fits = demands .fits s;
     }
+  where
+    listed : Bool → Listed
+    listed b = cond b (NoAuction 24 0) (answerOf (length (listingOf s)) (runOf s))
+
+    listed-by : (b : Bool) → ltb (length out) roomOf ≡ b → listedIs (listed (ltb (length out) roomOf)) ≡ listedIs (listed b)
+    listed-by b z = ap (λ (t : Bool). listedIs (listed t)) z
+
+    length-by : (b : Bool) → ltb (length out) roomOf ≡ b → lengthIn (listed (ltb (length out) roomOf)) ≡ lengthIn (listed b)
+    length-by b z = ap (λ (t : Bool). lengthIn (listed t)) z
 
 -- ---- the fills
 
-pub filling : (a : Auction) (xs : List ℕ) (start : ℕ) → Filling a xs start
-unfolding fillAnswer fillWords
-filling a xs start = record { refused = λ n. refuses n (hasEnded (a .head)) (roomy xs start); counted = λ n. counts n (hasEnded (a .head)) (roomy xs start) }
+not-roomy : (xs : List ℕ) (start : ℕ) → length xs < start + 390 → roomy xs start ≡ false
+unfolding roomy
+not-roomy xs start h = go (leb start (length xs)) refl
   where
-    fs : ℕ
-    fs = length (auctionFills a)
+    go : (b : Bool) → leb start (length xs) ≡ b → (b && leb 390 (length xs - start)) ≡ false
+    go true z = let k : start ≤ length xs = leb-true _ _ z in lt-leb 390 (length xs - start) (omega (arith, k))
+    go false z = refl
 
-    wrote : List ℕ
-    wrote = take start xs ++ (words (auctionFills a) ++ drop (start + 3 * fs) xs)
+is-roomy : (xs : List ℕ) (start : ℕ) → start + 390 ≤ length xs → roomy xs start ≡ true
+unfolding roomy
+is-roomy xs start h = and-both (le-leb start (length xs) (omega arith)) (le-leb 390 (length xs - start) (omega arith))
 
-    refuses : (n : ℕ) (e r : Bool) → filledIs (cond e (cond r (Count fs) (NotFilled 39)) (NotFilled 40)) ≡ no n → In n (39 ∷ 40 ∷ []) × (cond (e && r) wrote xs ≡ xs)
-    refuses n true true z = let q : n ≡ 39 = cc in (inl q, cc)
-    refuses n true false z = let q : n ≡ 39 = cc in (inl q, refl)
-    refuses n false r z = let q : n ≡ 40 = cc in (inr (inl q), refl)
+pub filling : (a : Auction) (xs : List ℕ) (start : ℕ) → Filling a xs start
+unfolding fillAnswer fillWords fillsOf
+filling a xs start =
+    record {
+      early = λ z. rw z (refl, refl);
+      small = λ z h. rw (z, not-roomy xs start h) (refl, refl);
+      counted = λ z h. rw (z, is-roomy xs start h) (refl, refl);
+      room = λ g. omega (arith, reported-length (a .head .terms .sell) (fills (dealOf (a .head)) (offers (a .board))), few (dealOf (a .head)) (a .board) g);
+    }
 
-    counts : (n : ℕ) (e r : Bool) → filledIs (cond e (cond r (Count fs) (NotFilled 39)) (NotFilled 40)) ≡ yes n → (n ≡ fs) × (cond (e && r) wrote xs ≡ take start xs ++ (words (auctionFills a) ++ drop (start + 3 * n) xs))
-    counts n true true z = let q : n ≡ fs = cc in (q, ap (λ (k : ℕ). take start xs ++ (words (auctionFills a) ++ drop (start + 3 * k) xs)) (sym q))
-    counts n true false z = (cc, cc)
-    counts n false r z = (cc, cc)
+-- ---- the numbers of readers and writers, and the words of the lines
+
+pub numbered : Numbered
+unfolding readOrder readEvent readTrailer orderAnswer eventAnswer trailerAnswer orderWords eventWords trailerWords answerText endText
+numbered =
+    record {
+      reads-order = λ s. order-by (ltb (length s) 64) (orderSpare s && orderFormed (orderOf s)) (orderOf s);
+      reads-event = λ s. event-by (ltb (length s) 32) (eventSpare s && eventFormed (eventOf s)) (eventOf s);
+      reads-trailer = λ s. trailer-by (ltb (length s) 16) (eqb (wordAt s 0) cubt && eqb (wordAt s 12) 0) (trailerOf s);
+      writes-order = λ o out. written-by (orderFormed o) (ltb (length out) 64) 1;
+      writes-event = λ e out. written-by (eventFormed e) (ltb (length out) 32) 32;
+      writes-trailer = λ t out. written-by true (ltb (length out) 16) 24;
+      event-words = said-by;
+      event-number = number-by;
+      end-words = end-by;
+    }
+  where
+    order-by : (a b : Bool) (o : Order) → orderIs (cond a (NoOrder 24) (cond b (GotOrder o) (NoOrder 1))) ≡ cond a (no 24) (cond b (yes o) (no 1))
+    order-by true b o = refl
+    order-by false true o = refl
+    order-by false false o = refl
+
+    event-by : (a b : Bool) (e : Event) → eventIs (cond a (NoEvent 24) (cond b (GotEvent e) (NoEvent 32))) ≡ cond a (no 24) (cond b (yes e) (no 32))
+    event-by true b e = refl
+    event-by false true e = refl
+    event-by false false e = refl
+
+    trailer-by : (a b : Bool) (t : Trailer) → trailerIs (cond a (NoTrailer 24) (cond b (GotTrailer t) (NoTrailer 22))) ≡ cond a (no 24) (cond b (yes t) (no 22))
+    trailer-by true b t = refl
+    trailer-by false true t = refl
+    trailer-by false false t = refl
+
+    written-by : (formed short : Bool) (n : ℕ) → writtenIs (cond formed (cond short (NotWritten 24) Done) (NotWritten n)) ≡ cond formed (cond short (no 24) (yes tt)) (no n)
+    written-by true true n = refl
+    written-by true false n = refl
+    written-by false short n = refl
+
+    said-by : (a : Answer) (w : String) → answerIs a ≡ yes w → answerText a ≡ text " " ++ (text w ++ newline)
+    said-by Taken w z = let q : w ≡ "taken" = cc in ap (λ (v : String). text " " ++ (text v ++ newline)) (sym q)
+    said-by Ended w z = let q : w ≡ "ended" = cc in ap (λ (v : String). text " " ++ (text v ++ newline)) (sym q)
+    said-by Late w z = let q : w ≡ "late" = cc in ap (λ (v : String). text " " ++ (text v ++ newline)) (sym q)
+    said-by (Refused n) w z = cc
+
+    number-by : (a : Answer) (n : ℕ) → answerIs a ≡ no n → answerText a ≡ field " refused " n ++ newline
+    number-by Taken n z = cc
+    number-by Ended n z = cc
+    number-by Late n z = cc
+    number-by (Refused k) n z = let q : k ≡ n = cc in ap (λ (m : ℕ). field " refused " m ++ newline) q
+
+    end-by : (g : Ending) → endText g ≡ text "END " ++ text (endingIs g)
+    end-by Open = refl
+    end-by Time = refl
+    end-by Same = refl
+    end-by Opposite = refl
+    end-by Improve = refl
 
 -- ---- events
 
