@@ -1,6 +1,5 @@
 -- A whole tape by its bytes: any records make a tape, and a tape is made of its records. Assumes nothing.
 use mathlib.Core.Path.{_≡_, refl, ap, sym, _∙_}
-use mathlib.Core.Bool.{true}
 use mathlib.Core.List.{List, [], _∷_, _++_, map, append-assoc, append-nil}
 use Prim.Native.Nat.{ℕ, zero, suc, _+_, _*_, _-_, _≤_}
 use native.Mathlib.Nat.{zero-mul, suc-mul}
@@ -17,7 +16,7 @@ use Rattle.tape.specs.declared.trailer.ReadTrailer.the-variants.{Trailer as Got
 use Rattle.tape.specs.declared.trailer.Opened.the-variants.{Tape}
 use Rattle.tape.specs.rules.Records.{trailerWords, readOrder, recordAt, readTrailer}
 use Rattle.tape.specs.rules.Tape.{lengthOf, openTape, eventPlace, orderIn, recordIn, recordsFrom, recordsOf, trailerFor}
-use Rattle.roundtrip.specs.rules.Whole.{together, parts, tapeWith, ownBytes, orderBytes, recordsBytes}
+use Rattle.roundtrip.specs.rules.Whole.{together, parts, inPlace, tapeWith, ownBytes, orderBytes, recordsBytes}
 use Rattle.roundtrip.specs.promises.Demands.{Fitting, AnyRecords, MadeOf}
 use Rattle.tape.proofs.RecordLaws.{order-alone, record-alone}
 use Rattle.tape.proofs.HoldsLaws.{records-none, records-more, tape-took}
@@ -69,6 +68,38 @@ module _ (long : ℕ) where
   parts-bytes s zero b = tt
   parts-bytes s (suc n) b = (bytes-take long s b, parts-bytes (drop long s) n (bytes-drop long s b))
 
+  -- a tape's parts in their places, whatever its trailer is
+  module _ (own order : List ℕ) (rs : List (List ℕ)) (trailer : List ℕ) (n : length order ≡ 64) (e : Long rs) where
+    pub placed-long : length (inPlace own order rs trailer) ≡ length own + 64 + length rs * long + length trailer
+    placed-long = omega (arith, length-append own (order ++ (together rs ++ trailer)), length-append order (together rs ++ trailer), length-append (together rs) trailer, together-long rs e, n)
+
+    pub placed-order : take 64 (drop (length own) (inPlace own order rs trailer)) ≡ order
+    placed-order = ap (take 64) (drop-at own (order ++ (together rs ++ trailer)) (length own) refl) ∙ take-at order (together rs ++ trailer) 64 n
+
+    after-order : drop (length own + 64) (inPlace own order rs trailer) ≡ together rs ++ trailer
+    after-order =
+        let rest : List ℕ = order ++ (together rs ++ trailer) in
+        sym (drop-drop 64 (length own) (own ++ rest)) ∙ ap (drop 64) (drop-at own rest (length own) refl) ∙ drop-at order (together rs ++ trailer) 64 n
+
+    pub placed-records : parts long (drop (length own + 64) (inPlace own order rs trailer)) (length rs) ≡ rs
+    placed-records = ap (λ (l : List ℕ). parts long l (length rs)) after-order ∙ parts-together rs trailer e
+
+    pub placed-trailer : drop (length own + 64 + length rs * long) (inPlace own order rs trailer) ≡ trailer
+    placed-trailer =
+        sym (drop-drop (length rs * long) (length own + 64) (inPlace own order rs trailer))
+        ∙ ap (drop (length rs * long)) after-order
+        ∙ drop-at (together rs) trailer (length rs * long) (together-long rs e)
+
+  -- any bytes are the parts that stand in their places, for an order at `at` and n records
+  pub placed-back : (s : List ℕ) (at n : ℕ) → inPlace (take at s) (take 64 (drop at s)) (parts long (drop (at + 64) s) n) (drop (at + 64 + n * long) s) ≡ s
+  placed-back s at n =
+      let rest : List ℕ = drop at s in
+      ap (λ (l : List ℕ). take at s ++ (take 64 rest ++ (together (parts long (drop (at + 64) s) n) ++ l))) (sym (drop-drop (n * long) (at + 64) s))
+      ∙ ap (λ (l : List ℕ). take at s ++ (take 64 rest ++ l)) (together-parts (drop (at + 64) s) n)
+      ∙ ap (λ (l : List ℕ). take at s ++ (take 64 rest ++ l)) (sym (drop-drop 64 at s))
+      ∙ ap (λ (l : List ℕ). take at s ++ l) (take-append-drop 64 rest)
+      ∙ take-append-drop at s
+
 together-bytes : (rs : List (List ℕ)) → Every AllBytes rs → AllBytes (together rs)
 together-bytes [] b = bytes-words []
 together-bytes (r ∷ rs) b = bytes-append r (together rs) (b .0) (together-bytes rs (b .1))
@@ -109,31 +140,19 @@ trailer-bytes t = length-wordBytes (trailerWords t) ∙ ap (λ (n : ℕ). n * 4)
 module _ (own order : List ℕ) (rs : List (List ℕ)) (n : length order ≡ 64) (e : Long 32 rs) where
   pub tape-long : length (tapeWith own order rs) ≡ lengthOf (trailerFor own rs)
   unfolding tapeWith
-  tape-long =
-      let end : List ℕ = wordBytes (trailerWords (trailerFor own rs)) in
-      omega (arith, length-append own (order ++ (together rs ++ end)), length-append order (together rs ++ end), length-append (together rs) end, together-long 32 rs e, trailer-bytes (trailerFor own rs), n)
-
-  trailer-last : drop (length (tapeWith own order rs) - 16) (tapeWith own order rs) ≡ wordBytes (trailerWords (trailerFor own rs))
-  unfolding tapeWith
-  trailer-last =
-      let end : List ℕ = wordBytes (trailerWords (trailerFor own rs)) in
-      let front : List ℕ = own ++ (order ++ together rs) in
-      let same : tapeWith own order rs ≡ front ++ end = simp append-assoc in
-      let k : length front ≡ length (tapeWith own order rs) - 16 = omega (arith, tape-long, length-append own (order ++ together rs), length-append order (together rs), together-long 32 rs e, n) in
-      ap (drop (length (tapeWith own order rs) - 16)) same ∙ drop-at front end (length (tapeWith own order rs) - 16) k
+  tape-long = let t : Trailer = trailerFor own rs in omega (arith, placed-long 32 own order rs (wordBytes (trailerWords t)) n e, trailer-bytes t)
 
   order-with : orderBytes (tapeWith own order rs) (trailerFor own rs) ≡ order
   unfolding tapeWith orderBytes
-  order-with =
-      let body : List ℕ = together rs ++ wordBytes (trailerWords (trailerFor own rs)) in
-      ap (take 64) (drop-at own (order ++ body) (length own) refl) ∙ take-at order body 64 n
+  order-with = placed-order 32 own order rs (wordBytes (trailerWords (trailerFor own rs))) n e
 
   records-with : recordsBytes (tapeWith own order rs) (trailerFor own rs) ≡ rs
   unfolding tapeWith recordsBytes
-  records-with =
-      let body : List ℕ = together rs ++ wordBytes (trailerWords (trailerFor own rs)) in
-      let past : drop (length own + 64) (own ++ (order ++ body)) ≡ body = sym (drop-drop 64 (length own) (own ++ (order ++ body))) ∙ ap (drop 64) (drop-at own (order ++ body) (length own) refl) ∙ drop-at order body 64 n in
-      ap (λ (l : List ℕ). parts 32 l (length rs)) past ∙ parts-together 32 rs (wordBytes (trailerWords (trailerFor own rs))) e
+  records-with = placed-records 32 own order rs (wordBytes (trailerWords (trailerFor own rs))) n e
+
+  trailer-with : drop (eventPlace (length own) (length rs)) (tapeWith own order rs) ≡ wordBytes (trailerWords (trailerFor own rs))
+  unfolding tapeWith
+  trailer-with = placed-trailer 32 own order rs (wordBytes (trailerWords (trailerFor own rs))) n e
 
   tape-opens : length (tapeWith own order rs) ≤ 65536 → openTape (tapeWith own order rs) ≡ Tape (trailerFor own rs)
   unfolding openTape
@@ -141,7 +160,9 @@ module _ (own order : List ℕ) (rs : List (List ℕ)) (n : length order ≡ 64)
       let s : List ℕ = tapeWith own order rs in
       let t : Trailer = trailerFor own rs in
       let l : length s ≡ lengthOf t = tape-long in
-      let got : readTrailer (drop (length s - 16) s) ≡ GotTrailer t = ap readTrailer (trailer-last ∙ sym (append-nil (wordBytes (trailerWords t)))) ∙ trailer-written t [] (omega arith) (omega arith) in
+      let place : length s - 16 ≡ eventPlace (length own) (length rs) = omega arith in
+      let last : drop (length s - 16) s ≡ wordBytes (trailerWords t) ++ [] = ap (λ (k : ℕ). drop k s) place ∙ trailer-with ∙ sym (append-nil (wordBytes (trailerWords t))) in
+      let got : readTrailer (drop (length s - 16) s) ≡ GotTrailer t = ap readTrailer last ∙ trailer-written t [] (omega arith) (omega arith) in
       simp (le-ltb (length s) 16 (omega arith), le-ltb 65536 (length s) fits, got, eq-eqb (lengthOf t) (length s) (sym l))
 
 pub any-records : (own order : List ℕ) (rs : List (List ℕ)) → Fitting own order rs → AnyRecords own order rs
@@ -194,36 +215,16 @@ module _ (s : List ℕ) (t : Trailer) (h : openTape s ≡ Tape t) where
       let b : length (parts 32 (drop (t .order + 64) s) (t .events)) ≡ t .events = parts-count 32 (drop (t .order + 64) s) (t .events) in
       simp (a, b)
 
-  trailer-rest : AllBytes s → wordBytes (trailerWords t) ≡ drop (t .events * 32) (drop (t .order + 64) s)
-  trailer-rest b =
+  whole : AllBytes s → tapeWith (ownBytes s t) (orderBytes s t) (recordsBytes s t) ≡ s
+  unfolding tapeWith ownBytes orderBytes recordsBytes
+  whole b =
       let l : lengthOf t ≡ length s = tape-took s t h .1 in
       let last : List ℕ = drop (length s - 16) s in
       let all : take 16 last ≡ last = take-all 16 last (omega (arith, length-drop (length s - 16) s)) in
-      let place : length s - 16 ≡ t .order + 64 + t .events * 32 = omega arith in
-      trailer-read last t (bytes-drop (length s - 16) s b) (tape-took s t h .2) ∙ all ∙ ap (λ (k : ℕ). drop k s) place ∙ sym (drop-drop (t .events * 32) (t .order + 64) s)
-
-  records-rest : together (recordsBytes s t) ++ drop (t .events * 32) (drop (t .order + 64) s) ≡ drop (t .order + 64) s
-  unfolding recordsBytes
-  records-rest = together-parts 32 (drop (t .order + 64) s) (t .events)
-
-  order-rest : ownBytes s t ++ (orderBytes s t ++ drop (t .order + 64) s) ≡ s
-  unfolding ownBytes orderBytes
-  order-rest =
-      let rest : List ℕ = drop (t .order) s in
-      ap (λ (l : List ℕ). take (t .order) s ++ (take 64 rest ++ l)) (sym (drop-drop 64 (t .order) s))
-      ∙ ap (λ (l : List ℕ). take (t .order) s ++ l) (take-append-drop 64 rest)
-      ∙ take-append-drop (t .order) s
-
-  whole : AllBytes s → tapeWith (ownBytes s t) (orderBytes s t) (recordsBytes s t) ≡ s
-  unfolding tapeWith
-  whole b =
-      let own : List ℕ = ownBytes s t in
-      let order : List ℕ = orderBytes s t in
-      let rs : List (List ℕ) = recordsBytes s t in
-      ap (λ (x : Trailer). own ++ (order ++ (together rs ++ wordBytes (trailerWords x)))) same-trailer
-      ∙ ap (λ (x : List ℕ). own ++ (order ++ (together rs ++ x))) (trailer-rest b)
-      ∙ ap (λ (x : List ℕ). own ++ (order ++ x)) records-rest
-      ∙ order-rest
+      let place : length s - 16 ≡ eventPlace (t .order) (t .events) = omega arith in
+      let trailer : wordBytes (trailerWords t) ≡ drop (eventPlace (t .order) (t .events)) s = trailer-read last t (bytes-drop (length s - 16) s b) (tape-took s t h .2) ∙ all ∙ ap (λ (k : ℕ). drop k s) place in
+      ap (inPlace (ownBytes s t) (orderBytes s t) (recordsBytes s t)) (ap (λ (x : Trailer). wordBytes (trailerWords x)) same-trailer ∙ trailer)
+      ∙ placed-back 32 s (t .order) (t .events)
 
   pub made-of : MadeOf s t
   made-of =

@@ -17,9 +17,13 @@ abbrev pub parts : ℕ → List ℕ → ℕ → List (List ℕ)
 parts long s zero = []
 parts long s (suc n) = take long s ∷ parts long (drop long s) n
 
--- a tape of any records as they are: the recorder's own bytes, the order's, each record's, and the trailer for them
+-- a tape's parts in their places: the recorder's own bytes, the order's, each record's, the trailer's
+abbrev pub inPlace : List ℕ → List ℕ → List (List ℕ) → List ℕ → List ℕ
+inPlace own order rs trailer = own ++ (order ++ (together rs ++ trailer))
+
+-- a tape of any records as they are
 unfoldable pub tapeWith : List ℕ → List ℕ → List (List ℕ) → List ℕ
-tapeWith own order rs = own ++ (order ++ (together rs ++ wordBytes (trailerWords (trailerFor own rs))))
+tapeWith own order rs = inPlace own order rs (wordBytes (trailerWords (trailerFor own rs)))
 
 -- ---- what a tape is made of, by its trailer
 
