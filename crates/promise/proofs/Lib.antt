@@ -1,9 +1,11 @@
 -- The proofs of the promise.
 pub mod Below
 pub mod Answered
-pub mod Resent
+pub mod Tapes
+pub mod Opening
 pub mod RealLaws
 pub mod Real
 pub mod SharedFigures
 pub mod BuyShares
 pub mod Shared
+pub mod Resent
