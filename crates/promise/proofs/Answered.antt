@@ -185,9 +185,10 @@ unfolding listedOf
 roomed s out =
     record {
       small = λ h. (listed-by true (lt-ltb (length out) roomOf h), length-by true (lt-ltb (length out) roomOf h), demands .kept s out h);
-      answers = λ h.
-          (listed-by false (le-ltb (length out) roomOf h) ∙ is-run (length (listingOf s)) (runOf s),
-          length-by false (le-ltb (length out) roomOf h) ∙ length-answer (length (listingOf s)) (runOf s));
+      answers = λ h. (
+        listed-by false (le-ltb (length out) roomOf h) ∙ is-run (length (listingOf s)) (runOf s),
+        length-by false (le-ltb (length out) roomOf h) ∙ length-answer (length (listingOf s)) (runOf s),
+      );
       stands = demands .stands s out;
       fits = demands .fits s;
     }
@@ -222,7 +223,7 @@ filling a xs start =
       early = λ z. rw z (refl, refl);
       small = λ z h. rw (z, not-roomy xs start h) (refl, refl);
       counted = λ z h. rw (z, is-roomy xs start h) (refl, refl);
-      room = λ g. omega (arith, reported-length (a .head .terms .sell) (fills (dealOf (a .head)) (offers (a .board))), few (dealOf (a .head)) (a .board) g);
+      room = λ g. omega (arith, reported-length (dealOf (a .head) .sell) (fills (dealOf (a .head)) (offers (a .board))), few (dealOf (a .head)) (a .board) g);
     }
 
 -- ---- the numbers of readers and writers, and the words of the lines

@@ -18,8 +18,28 @@ use Rattle.auction.specs.rules.Range.{word, boundNow, rangeOf}
 use Rattle.run.proofs.Accepted.{Opened, opened}
 use Rattle.promise.specs.rules.Sides.{isSell, buyRange, sellRange}
 
-range-is : (p q r s : ℕ) → p ≡ r → q ≡ s → record { low = p; high = q } ≡ (the Range (record { low = r; high = s }))
-range-is p q r s e f = ap (λ (x : ℕ). the Range (record { low = x; high = q })) e ∙ ap (λ (x : ℕ). the Range (record { low = r; high = x })) f
+abbrev from : ℕ → ℕ → Range
+from low high = record { low = low; high = high }
+
+range-is : (p q r s : ℕ) → p ≡ r → q ≡ s → from p q ≡ from r s
+range-is p q r s e f = ap (λ (x : ℕ). from x q) e ∙ ap (λ (x : ℕ). from r x) f
+
+-- the lower of two mirrored prices is the mirror of the higher
+mirror-lower : (x y : ℕ) → 1000000 - min x y ≡ max (1000000 - x) (1000000 - y)
+mirror-lower x y = omega arith
+
+back-lower : (x y : ℕ) → x ≤ 999999 → y ≤ 999999 → 1000000 - min (1000000 - x) (1000000 - y) ≡ max x y
+back-lower x y h k = omega arith
+
+-- the mirror of the higher of a mirrored price and another number
+mirror-higher : (x y : ℕ) → x ≤ 999999 → y ≤ 1000001 → 1000000 - word (max (1000000 - x) y) ≡ min x (1000000 - y)
+mirror-higher x y h k = ap (λ (z : ℕ). 1000000 - z) small ∙ higher
+  where
+    small : word (max (1000000 - x) y) ≡ max (1000000 - x) y
+    small = omega arith
+
+    higher : 1000000 - max (1000000 - x) y ≡ min x (1000000 - y)
+    higher = omega arith
 
 module _ (o : Order) (k : OrderBounds o) where
   buy : rangeOf (openedBy false o .head) ≡ buyRange o
@@ -34,26 +54,41 @@ module _ (o : Order) (k : OrderBounds o) where
       high true = refl
       high false = omega arith
 
+  -- the end of a sell's range, with the added cent or without
+  abbrev highBy : Bool → ℕ
+  highBy b = 1000000 - word (max (1000000 - o .nbo) (1000000 - o .bo + cond b 1 0))
+
   sell : rangeOf (openedBy true (mirroredOrder o) .head) ≡ sellRange o
   unfolding rangeOf boundNow openedBy termsOf quotesOf initiatingOf boundOf tickOf mirroredOrder mirrored
   sell = range-is _ _ _ _ (low (ltb (o .size) 50)) (ap (λ (m : Bool). highBy (ltb (o .size) 50 || m)) (records-mirror .marks (o .marks) .two) ∙ high (ltb (o .size) 50 || offerMark (o .marks)))
     where
-      low : (b : Bool) → 1000000 - cond b (min (min (1000000 - o .limit) (1000000 - o .nbb)) (1000000 - o .bb - 1)) (min (1000000 - o .limit) (1000000 - o .nbb)) ≡ max (max (o .limit) (o .nbb)) (cond b (o .bb + 1) (o .limit))
-      low true = omega (arith, k .limit, k .nbb, k .bb)
-      low false = omega (arith, k .limit, k .nbb)
+      above : (x : ℕ) → x ≤ 999999 → 1000000 - (1000000 - x - 1) ≡ x + 1
+      above x h = omega arith
 
-      highBy : Bool → ℕ
-      highBy b = 1000000 - word (max (1000000 - o .nbo) (1000000 - o .bo + cond b 1 0))
+      again : (x y : ℕ) → max x y ≡ max (max x y) x
+      again x y = omega arith
+
+      low : (b : Bool) → 1000000 - cond b (min (min (1000000 - o .limit) (1000000 - o .nbb)) (1000000 - o .bb - 1)) (min (1000000 - o .limit) (1000000 - o .nbb)) ≡ max (max (o .limit) (o .nbb)) (cond b (o .bb + 1) (o .limit))
+      low true =
+          mirror-lower (min (1000000 - o .limit) (1000000 - o .nbb)) (1000000 - o .bb - 1)
+          ∙ ap (λ (x : ℕ). max x (1000000 - (1000000 - o .bb - 1))) (back-lower (o .limit) (o .nbb) (k .limit) (k .nbb))
+          ∙ ap (max (max (o .limit) (o .nbb))) (above (o .bb) (k .bb))
+      low false = back-lower (o .limit) (o .nbb) (k .limit) (k .nbb) ∙ again (o .limit) (o .nbb)
+
+      below : (x : ℕ) → x ≤ 1000000 → 1000000 - (1000000 - x + 1) ≡ x - 1
+      below x h = omega arith
+
+      itself : (x : ℕ) → x ≤ 1000000 → 1000000 - (1000000 - x + 0) ≡ x - 0
+      itself x h = omega arith
 
       high : (b : Bool) → highBy b ≡ min (o .nbo) (o .bo - cond b 1 0)
-      unfolding highBy
-      high true = omega (arith, k .nbo, k .bo, k .some-bo)
-      high false = omega (arith, k .nbo, k .bo)
+      high true = mirror-higher (o .nbo) (1000000 - o .bo + 1) (k .nbo) (omega arith) ∙ ap (min (o .nbo)) (below (o .bo) (k .bo))
+      high false = mirror-higher (o .nbo) (1000000 - o .bo + 0) (k .nbo) (omega arith) ∙ ap (min (o .nbo)) (itself (o .bo) (k .bo))
 
 pub opens : (o : Order) → acceptOf o .answer ≡ Accepted → rangeOf (acceptOf o .auction .head) ≡ cond (isSell o) (sellRange o) (buyRange o)
+unfolding buyOrder
 opens o h = let m = opened o h in ap (λ (a : Auction). rangeOf (a .head)) (m .auction) ∙ go (eqb (o .side) 2) refl (order-bounds o (m .formed))
   where
     go : (b : Bool) → eqb (o .side) 2 ≡ b → OrderBounds o → rangeOf (openedBy (eqb (o .side) 2) (buyOrder o) .head) ≡ cond b (sellRange o) (buyRange o)
-    unfolding buyOrder
     go true z k = rw z (sell o k)
     go false z k = rw z (buy o k)

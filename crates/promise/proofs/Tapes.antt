@@ -115,19 +115,20 @@ module _ (s : List ℕ) (t : Trailer) (h : openTape s ≡ Tape t) (order : List 
       let is = tape-long (ownBytes s t) order (st .records) n (st .long) in
       any-records (ownBytes s t) order (st .records) (record { order-long = n; each-long = st .long; fits = omega (arith, was, is, st .count, m .fitting .fits) })
 
-  remake : (o : ReadOrder) (fs : List Event) → readOrder order ≡ o → es ≡ fs → SomeTape o fs
-  remake o fs eo ee =
-      record {
-        bytes = remade;
-        carries = record { trailer = trailerFor (ownBytes s t) (st .records); opens = remade-any .opens; order = remade-any .ordered ∙ eo; records = remade-any .records ∙ st .stand ∙ ee };
-      }
-
   remade-bytes : AllBytes s → AllBytes order → AllBytes remade
   remade-bytes b c = tape-bytes (ownBytes s t) order (st .records) (own-bytes s t b) c (st .bytes (records-bytes s t b))
 
--- ---- what is promised, and that the new tape is one of bytes where the old one is
+  remake : (o : ReadOrder) (fs : List Event) → AllBytes s → AllBytes order → readOrder order ≡ o → es ≡ fs → SomeTape o fs
+  remake o fs b c eo ee =
+      record {
+        bytes = remade;
+        all-bytes = remade-bytes b c;
+        carries = record { trailer = trailerFor (ownBytes s t) (st .records); opens = remade-any .opens; order = remade-any .ordered ∙ eo; records = remade-any .records ∙ st .stand ∙ ee };
+      }
 
-module _ (s : List ℕ) (o : Order) (es : List Event) (c : Carries s (GotOrder o) es) where
+-- ---- what is promised
+
+module _ (s : List ℕ) (o : Order) (es : List Event) (b : AllBytes s) (c : Carries s (GotOrder o) es) where
   made : MadeOf s (c .trailer)
   made = made-of s (c .trailer) (c .opens)
 
@@ -143,11 +144,7 @@ module _ (s : List ℕ) (o : Order) (es : List Event) (c : Carries s (GotOrder o
   pub can-lack : SomeTape (GotOrder o) (notRefused (acceptOf o .auction) es)
   can-lack =
       remake s (c .trailer) (c .opens) (orderBytes s (c .trailer)) (made .fitting .order-long) lacks (GotOrder o) (notRefused (acceptOf o .auction) es)
-      (sym (made .ordered) ∙ c .order) (ap (notRefused (acceptOf o .auction)) there)
-
-  pub lack-bytes : AllBytes s → AllBytes (can-lack .bytes)
-  unfolding can-lack remake
-  lack-bytes b = remade-bytes s (c .trailer) (c .opens) (orderBytes s (c .trailer)) (made .fitting .order-long) lacks b (order-bytes s (c .trailer) b)
+      b (order-bytes s (c .trailer) b) (sym (made .ordered) ∙ c .order) (ap (notRefused (acceptOf o .auction)) there)
 
   formed : orderFormed o ≡ true
   formed = order-formed (orderBytes s (c .trailer)) o (sym (made .ordered) ∙ c .order)
@@ -155,8 +152,4 @@ module _ (s : List ℕ) (o : Order) (es : List Event) (c : Carries s (GotOrder o
   pub can-mirror : SomeTape (GotOrder (mirroredOrder o)) (mirroredRecords es)
   can-mirror =
       remake s (c .trailer) (c .opens) (wordBytes (orderWords (mirroredOrder o))) (order-64 (mirroredOrder o)) mirrors (GotOrder (mirroredOrder o)) (mirroredRecords es)
-      (order-stands (mirroredOrder o) (order-form o formed)) (ap mirroredRecords there)
-
-  pub mirror-bytes : AllBytes s → AllBytes (can-mirror .bytes)
-  unfolding can-mirror remake
-  mirror-bytes b = remade-bytes s (c .trailer) (c .opens) (wordBytes (orderWords (mirroredOrder o))) (order-64 (mirroredOrder o)) mirrors b (bytes-words (orderWords (mirroredOrder o)))
+      b (bytes-words (orderWords (mirroredOrder o))) (order-stands (mirroredOrder o) (order-form o formed)) (ap mirroredRecords there)
