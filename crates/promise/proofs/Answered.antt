@@ -296,7 +296,7 @@ event-numbers a (e ∷ es) = (λ n z. let b = keeps .event-numbers (sightOf (a .
 
 -- ---- a refusal changes nothing
 
-refused-stays : (a : Auction) (e : Event) → isRefused (stepOf a e .answer) ≡ true → stepOf a e .auction ≡ a
+pub refused-stays : (a : Auction) (e : Event) → isRefused (stepOf a e .answer) ≡ true → stepOf a e .auction ≡ a
 refused-stays a e z = go (stepOf a e .answer) refl z
   where
     go : (x : Answer) → stepOf a e .answer ≡ x → isRefused x ≡ true → stepOf a e .auction ≡ a
@@ -305,7 +305,7 @@ refused-stays a e z = go (stepOf a e .answer) refl z
     go Late q r = never (sym r)
     go (Refused n) q r = keeps .refused (sightOf (a .board) e) a e n q
 
-without : (es : List Event) (a : Auction) → run a (notRefused a es) ≡ run a es
+pub without : (es : List Event) (a : Auction) → run a (notRefused a es) ≡ run a es
 without [] a = refl
 without (e ∷ es) a = go (isRefused (stepOf a e .answer)) refl (without es (stepOf a e .auction))
   where

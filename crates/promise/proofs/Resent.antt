@@ -1,6 +1,6 @@
 -- A response that stands on the board is never counted twice, and the market order that ended an auction is one of its records. Assumes nothing.
 use mathlib.Core.Path.{_≡_, refl, sym, ap, subst, _∙_}
-use mathlib.Core.Bool.{Bool, true, false, cond}
+use mathlib.Core.Bool.{Bool, true, false, cond, not}
 use mathlib.Core.List.{List, [], _∷_, _++_, map}
 use mathlib.Core.Logic.{_⊎_, inl, inr, _≢_}
 use Prim.Native.Nat.{ℕ, _≤_, _<_, min}
@@ -8,7 +8,7 @@ use native.Mathlib.Nat.{le-trans}
 use native.Mathlib.Omega.{arith}
 use lib.Dec.{leb, ltb, eqb}
 use borrow.Author.Tests.{eq-eqb, ne-eqb, ltb-true}
-use Rattle.base.specs.Lists.{In, Every, keep, Inserts}
+use Rattle.base.specs.Lists.{In, Every, keep, filter, Inserts}
 use Rattle.base.specs.Lists.Inserts.{here, there}
 use Rattle.base.specs.Price.{mirrored}
 use Rattle.base.proofs.Bools.{by, no}
@@ -44,19 +44,19 @@ use Rattle.events.specs.declared.Outcome.{Outcome}
 use Rattle.events.specs.declared.Stepped.{Stepped}
 use Rattle.events.specs.rules.Decide.{isCustomer, cancelOutcome, outcomeOf}
 use Rattle.events.specs.rules.Step.{sightOf, eventRefusal, boardAfter, endedByTime, carried, turnOf, closeTurn, gives, stepOf}
-use Rattle.run.specs.rules.Run.{run, closed, isTaken, takenOf}
+use Rattle.run.specs.rules.Run.{Said, said, run, heard, closed, isTaken, takenOf}
 use Rattle.run.specs.promises.Demands.{madeBy, ComesFrom, MarketFrom, Stands, Sound}
 use Rattle.run.proofs.StepLaws.{Outcomes, Ordinary, cases}
-use Rattle.run.proofs.Resend.{rises, taken-is, old-refused, run-rises}
+use Rattle.run.proofs.Resend.{rises, taken-is, old-refused, run-rises, keeps}
 use Rattle.run.proofs.BoardSteps.{sees, seat-every, clear-every}
 use Rattle.run.proofs.Accepted.{opened}
 use Rattle.run.proofs.SoundLaws.{sound-opened, sound-step, sound-run, demanded}
 use Rattle.run.proofs.ComesFrom.{run-terms, resend}
-use Rattle.promise.specs.rules.Tapes.{Carries, endOf, Resends}
-use Rattle.promise.specs.rules.Tapes.Resends.{none, more}
+use Rattle.promise.specs.rules.Tapes.{Carries, endOf, isRefused, notRefused, notRefusedSaid, Resends}
+use Rattle.promise.specs.rules.Tapes.Resends.{none, more, late}
 use Rattle.promise.specs.rules.Sides.{isSell, sent, responses, taken, last, market}
 use Rattle.promise.specs.promises.Parts.{Ended, OneRecord, Resent, after}
-use Rattle.promise.proofs.Answered.{ends-alike}
+use Rattle.promise.proofs.Answered.{refused-stays, without, ends-alike}
 
 -- ---- the records taken
 
@@ -94,14 +94,35 @@ run-append : (es fs : List Event) (a : Auction) → run a (es ++ fs) ≡ run (ru
 run-append [] fs a = refl
 run-append (e ∷ es) fs a = run-append es fs (stepOf a e .auction)
 
-resent-run : (a : Auction) (es fs : List Event) → Resends a es fs → run a fs ≡ run a es
-resent-run a es fs none = refl
-resent-run a es fs (more before e f rest i h r) =
-    let same : stepOf (run a before) f .auction ≡ run a before = ap (λ (p : Stepped). p .auction) (refused a before e f i h) in
-    run-append before (f ∷ rest) a ∙ ap (λ (b : Auction). run b rest) same ∙ sym (run-append before rest a) ∙ resent-run a es (before ++ rest) r
+-- a record that is refused where it is put in is not among those that are not
+refused-out : (before : List Event) (f : Event) (rest : List Event) (a : Auction) (n : ℕ) → stepOf (run a before) f ≡ gives (Refused n) (run a before) → notRefused a (before ++ (f ∷ rest)) ≡ notRefused a (before ++ rest)
+refused-out [] f rest a n z = ap (λ (p : Stepped). keep (not (isRefused (p .answer))) f (notRefused (p .auction) rest)) z
+refused-out (e ∷ before) f rest a n z = ap (keep (not (isRefused (stepOf a e .answer))) e) (refused-out before f rest (stepOf a e .auction) n z)
 
+pub same-records : (a : Auction) (es fs : List Event) → Resends a es fs → notRefused a fs ≡ notRefused a es
+same-records a es fs none = refl
+same-records a es fs (more before e f rest i h r) = refused-out before f rest a _ (refused a before e f i h) ∙ same-records a es (before ++ rest) r
+same-records a es fs (late before f rest z r) = refused-out before f rest a 31 (keeps .ended (sightOf (run a before .board) f) (run a before) f z) ∙ same-records a es (before ++ rest) r
+
+-- so the auction comes out the same
 pub resends : (s t : List ℕ) (o : Order) (es fs : List Event) → Carries s (GotOrder o) es → Carries t (GotOrder o) fs → Resends (acceptOf o .auction) es fs → endOf t ≡ endOf s
-resends s t o es fs c d r = ends-alike s t o es fs c d (resent-run (acceptOf o .auction) es fs r)
+resends s t o es fs c d r =
+    let a : Auction = acceptOf o .auction in
+    ends-alike s t o es fs c d (sym (without fs a) ∙ ap (run a) (same-records a es fs r) ∙ without es a)
+
+-- the records that are not refused are answered as they were among the others
+pub answered-alike : (a : Auction) (es : List Event) → heard a (notRefused a es) ≡ notRefusedSaid (heard a es)
+unfolding filter
+answered-alike a [] = refl
+answered-alike a (e ∷ es) = go (isRefused (stepOf a e .answer)) refl (answered-alike (stepOf a e .auction) es)
+  where
+    b : Auction
+    b = stepOf a e .auction
+
+    go : (r : Bool) → isRefused (stepOf a e .answer) ≡ r → heard b (notRefused b es) ≡ notRefusedSaid (heard b es)
+        → heard a (keep (not r) e (notRefused b es)) ≡ keep (not r) (said (e .sequence) (stepOf a e .answer)) (notRefusedSaid (heard b es))
+    go true z ih = ap (λ (c : Auction). heard c (notRefused b es)) (sym (refused-stays a e z)) ∙ ih
+    go false z ih = ap {B = List Said} (λ xs. said (e .sequence) (stepOf a e .answer) ∷ xs) ih
 
 -- ---- a record as it was sent
 
@@ -143,6 +164,10 @@ made-price t e = by (λ (r : Response). r .price ≡ priceOf (buyEvent (t .sell)
 
 made-customer : (t : Terms) (e : Event) → madeBy t e .customer ≡ isCustomer (buyEvent (t .sell) e)
 made-customer t e = by (λ (r : Response). r .customer ≡ isCustomer (buyEvent (t .sell) e)) (eqb (e .kind) 1) _ _ (λ _. refl) (λ _. refl)
+
+gtx-by : (b : Bool) (x y : Response) → x .gtx ≡ true → y .gtx ≡ false → cond b x y .gtx ≡ b
+gtx-by true x y p q = p
+gtx-by false x y p q = q
 
 size-by : (b : Bool) (x y : Response) → cond b x y .size ≡ cond b (x .size) (y .size)
 size-by true x y = refl
@@ -192,6 +217,7 @@ module _ (o : Order) (es : List Event) (h : acceptOf o .answer ≡ Accepted) whe
                   ap (λ (x : Response). reportedPrice (isSell o) (x .price)) (c .made) ∙ ap (reportedPrice (isSell o)) (made-price terms e)
                   ∙ ap (λ (s : Bool). reportedPrice (isSell o) (priceOf (buyEvent s e))) sell ∙ sent-price (isSell o) e (c .kind) f;
               customer = ap (λ (x : Response). x .customer) (c .made) ∙ made-customer terms e ∙ sent-customer (terms .sell) e (c .kind);
+              gtx = ap (λ (x : Response). x .gtx) (c .made) ∙ gtx-by (eqb (e .kind) 1) _ _ refl refl;
               size =
                   ap (λ (x : Response). x .size) (c .made) ∙ made-size terms e
                   ∙ ap (λ (n : ℕ). cond (eqb (e .kind) 1) (min n (terms .size)) n) (sent-size (terms .sell) e (c .kind))
@@ -212,6 +238,14 @@ one-record o es h =
     subst (λ (s : Bool). Every (OneRecord o es) (map (sent s) live)) (sym sell)
     (every-sent (OneRecord o es) (isSell o) live
     (every-map (ComesFrom (acceptOf o .auction .head .terms) (takenOf (acceptOf o .auction) es)) (λ r. OneRecord o es (sent (isSell o) r)) live (sends o es h) (resend .comes-from o es h)))
+
+-- sent, they bear the sequences that they have
+distinct-sent : (sell : Bool) (rs : List Response) → Distinct rs → Distinct (map (sent sell) rs)
+distinct-sent sell [] d = tt
+distinct-sent sell (r ∷ rs) d = (every-sent (λ x. x .sequence ≢ r .sequence) sell rs (d .0), distinct-sent sell rs (d .1))
+
+apart : (o : Order) (es : List Event) → acceptOf o .answer ≡ Accepted → Distinct (responses (after o es))
+apart o es h = distinct-sent (after o es .head .terms .sell) (liveOf (after o es .board)) (resend .apart o es h)
 
 -- ---- a cancelled response
 
@@ -298,7 +332,7 @@ never-back o before e es h k z =
     (run-gone (nameOf e) es (stepOf a e .auction) (sound-step a e s) (cancelled a e s k z) .1)
 
 pub resent : (o : Order) → Resent o
-resent o = record { refused = refused (acceptOf o .auction); one-record = one-record o; never-back = never-back o }
+resent o = record { refused = refused (acceptOf o .auction); one-record = one-record o; apart = apart o; never-back = never-back o }
 
 -- ---- the market order that ended an auction
 
