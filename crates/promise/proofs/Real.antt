@@ -108,7 +108,7 @@ module _ (o : Order) (es : List Event) (h : acceptOf o .answer ≡ Accepted) whe
       let i : last o es .head .terms .initiating ≡ initiatingOf (buyOrder o) = ap (λ (t : Terms). t .initiating) (terms-are o es h) in
       omega (arith, i, below-limit (buyOrder o), buy-limit o)
 
-  stop-is : o .mode ≢ 2 → deal o es h .stop ≡ reportedPrice (isSell o) (o .stop)
+  pub stop-is : o .mode ≢ 2 → deal o es h .stop ≡ reportedPrice (isSell o) (o .stop)
   unfolding dealOf termsOf
   stop-is n = ap (λ (t : Terms). t .stop) (terms-are o es h) ∙ buy-stop o n
 

@@ -1,16 +1,20 @@
 -- What the others at a price share, in real prices. Assumes nothing.
 use mathlib.Core.Path.{_≡_, refl, sym, ap, _∙_, subst}
 use mathlib.Core.Bool.{Bool, true, false, _&&_}
-use mathlib.Core.List.{List, map}
-use Prim.Native.Nat.{ℕ, _-_, _≤_, _<_, min}
+use mathlib.Core.List.{List, [], _∷_, map}
+use mathlib.Core.Logic.{_≢_}
+use Prim.Native.Nat.{ℕ, _-_, _≤_, _<_, min, max}
 use native.Mathlib.Omega.{arith}
 use lib.Dec.{ltb, eqb}
 use lib.ListN.{length, length-map}
+use borrow.Author.Tests.{ltb-false, eqb-false}
 use Rattle.base.specs.Lists.{In, Every, filter, sum}
 use Rattle.base.proofs.ListLaws.{every-any, every-map, every-filter, shuffles-length}
 use Rattle.board.specs.declared.Response.{Response}
 use Rattle.board.specs.declared.Board.{Board}
 use Rattle.board.specs.rules.Board.{liveOf, inSequence}
+use Rattle.base.proofs.Bools.{by}
+use Rattle.board.proofs.Theorems.{ordering}
 use Rattle.board.proofs.SequenceLaws.{sequence-filter, sequence-shuffles}
 use Rattle.share.specs.promises.Share.{Near}
 use Rattle.share.specs.rules.Fills.{Fill, sizes}
@@ -19,17 +23,20 @@ use Rattle.tape.specs.declared.event.Event.{Event}
 use Rattle.trade.specs.declared.Deal.{Deal}
 use Rattle.trade.specs.rules.Plan.{Plan, planOf}
 use Rattle.trade.specs.rules.Trade as trade
-use Rattle.trade.specs.rules.Trade.{fromCustomer, fromOther, offers, offersAt, working, workingStop, guaranteeOf}
+use Rattle.trade.specs.rules.Trade.{fromCustomer, fromOther, offers, offersAt, working, workingStop, entry, guaranteeOf}
 use Rattle.trade.specs.rules.Write.{reportedPrice}
 use Rattle.trade.proofs.WriteLaws.{sizes-sequence}
 use Rattle.demand.specs.promises.Demands as demands
-use Rattle.demand.specs.promises.Demands.{Tradable, got, gotBelow, soldAt, soldBelow}
+use Rattle.demand.specs.promises.Demands.{Tradable, tally, got, gots, gotBelow, soldAt, soldBelow, soldAbove}
 use Rattle.auction.specs.rules.Accept.{acceptOf}
 use Rattle.auction.specs.declared.Entry.the-variants.{Accepted}
 use Rattle.fills.specs.rules.Fills.{dealOf}
+use Rattle.tape.proofs.FormLaws.{order-bounds}
+use Rattle.run.proofs.Accepted.{opened}
 use Rattle.run.proofs.SoundLaws.{sound-deal}
 use Rattle.promise.specs.rules.Sides.{isSell, better, sent, soldBetter, gotBetter, last, written, there, walked, worksAt, allAt, customersAt, othersAt, guarantee, leftAt, planAt, leftToOthers}
-use Rattle.promise.proofs.RealLaws.{better-shown, same-shown, shown-twice, tally-shown, sold-shown, filter-sent, sizes-sent, deal, dealt, sound, mode-is, size-is, written-is, there-is, initiating-fits, prices-fit, working-fits, works-is, walked-is, got-is, was-live}
+use Rattle.promise.proofs.RealLaws.{better-shown, same-shown, shown-twice, tally-shown, sold-shown, filter-sent, sizes-sent, deal, dealt, sound, demand, mode-is, size-is, written-is, there-is, initiating-fits, stop-fits, prices-fit, working-fits, works-is, walked-is, got-is, was-live}
+use Rattle.promise.proofs.Real.{stop-is}
 use Rattle.promise.proofs.BuyShares as buy
 
 -- a plan by equal numbers, and what is left by them
@@ -38,6 +45,25 @@ same-plan w i e1 e2 e3 e4 e5 e6 = rw (e1, e2, e3, e4, e5, e6)
 
 same-left : {l j c k w v : ℕ} → l ≡ j → c ≡ k → w ≡ v → (l - c) - min (l - c) w ≡ (j - k) - min (j - k) v
 same-left e1 e2 e3 = rw (e1, e2, e3)
+
+-- what responses trade, as they were sent, and in order of sequence
+gots-sent : (s : Bool) (fs gs : List Fill) → ((k : ℕ) → got k fs ≡ got k gs) → (rs : List Response) → gots fs (map (sent s) rs) ≡ gots gs rs
+gots-sent s fs gs e [] = refl
+gots-sent s fs gs e (r ∷ rs) = ap (λ (n : ℕ). n ∷ gots fs (map (sent s) rs)) (e (r .sequence)) ∙ ap (λ (ns : List ℕ). got (r .sequence) gs ∷ ns) (gots-sent s fs gs e rs)
+
+gots-map : (fs : List Fill) (rs : List Response) → gots fs rs ≡ map (λ r. got (r .sequence) fs) rs
+gots-map fs [] = refl
+gots-map fs (r ∷ rs) = ap (λ (ns : List ℕ). got (r .sequence) fs ∷ ns) (gots-map fs rs)
+
+gots-sequence : (fs : List Fill) (rs : List Response) → sum (gots fs (inSequence rs)) ≡ sum (gots fs rs)
+gots-sequence fs rs = ap sum (gots-map fs (inSequence rs)) ∙ ordering .sums-stay (λ r. got (r .sequence) fs) rs ∙ ap sum (sym (gots-map fs rs))
+
+none-tally : (t : Fill → Bool) (fs : List Fill) → Every (λ f. t f ≡ false) fs → tally t fs ≡ 0
+none-tally t [] n = refl
+none-tally t (f ∷ fs) n = rw (n .0) (omega (arith, none-tally t fs (n .1)))
+
+max-right : (a b : ℕ) → b ≤ max a b
+max-right a b = omega arith
 
 module _ (o : Order) (es : List Event) (h : acceptOf o .answer ≡ Accepted) where
   abbrev sell : Bool
@@ -129,6 +155,35 @@ module _ (o : Order) (es : List Event) (h : acceptOf o .answer ≡ Accepted) whe
     others-are : sum (sizes (othersAt o es real)) ≡ sum (sizes (demands.othersAt d (offers board) q))
     others-are = some-sizes fromOther (λ r. refl)
 
+    -- what the others trade together
+    together-are : sum (gots (written o es) (othersAt o es real)) ≡ sum (gots (dealt o es h) (demands.othersAt d (offers board) q))
+    together-are =
+        ap (λ (rs : List Response). sum (gots (written o es) (filter fromOther rs))) all-is
+        ∙ ap (λ (rs : List Response). sum (gots (written o es) rs)) (filter-sent sell fromOther fromOther here (every-any (λ r. fromOther (sent sell r) ≡ fromOther r) here (λ r. refl)))
+        ∙ ap sum (gots-sent sell (written o es) (dealt o es h) (got-is o es h) (filter fromOther here))
+        ∙ sym (ap (λ (rs : List Response). sum (gots (dealt o es h) (filter fromOther rs))) offers-are ∙ ap (λ (rs : List Response). sum (gots (dealt o es h) rs)) (sequence-filter fromOther here) ∙ gots-sequence (dealt o es h) (filter fromOther here))
+
+    -- nothing trades at a higher price of the buy where nothing trades at a worse real one
+    none-above : Every (λ f. better sell real (f .price) ≡ false) (written o es) → soldAbove q (dealt o es h) ≡ 0
+    none-above n =
+        sym (tally-shown sell (λ f. better sell real (f .price)) (λ f. ltb q (f .price)) (dealt o es h)
+        (every-map (λ f. f .price ≤ 1000000) (λ f. better sell real (reportedPrice sell (f .price)) ≡ ltb q (f .price)) (dealt o es h) (λ f z. better-shown sell q (f .price) fits z) (prices-fit o es h)))
+        ∙ sym (ap (tally (λ f. better sell real (f .price))) (written-is o es h))
+        ∙ none-tally (λ f. better sell real (f .price)) (written o es) n
+
+    -- the Contra Order takes part from the stop or limit on
+    from-entry : d .bound ≤ q → (o .mode ≢ 2 → better sell real (o .stop) ≡ false) → entry d ≤ q
+    unfolding entry dealOf
+    from-entry b s =
+        by (λ (n : ℕ). n ≤ q) (eqb (last o es .head .terms .mode) 2) _ _ (λ _. omega arith)
+        (λ z. let m : o .mode ≢ 2 = λ e. eqb-false _ _ z (mode-is o es h ∙ e) in omega (arith, b, stop-below m (s m)))
+      where
+        stop-below : o .mode ≢ 2 → better sell real (o .stop) ≡ false → d .stop ≤ q
+        stop-below m n =
+            let k : o .stop ≤ 1000000 = omega (arith, order-bounds o (opened o h .formed) .stop) in
+            let e : o .stop ≡ reportedPrice sell (d .stop) = sym (shown-twice sell (o .stop) k) ∙ ap (reportedPrice sell) (sym (stop-is o es h m)) in
+            ltb-false q (d .stop) (sym (better-shown sell q (d .stop) fits (omega (arith, stop-fits o es h, initiating-fits o es h))) ∙ sym (ap (better sell real) e) ∙ n)
+
     -- the plan, and what it leaves
     plan-is : planAt o es real ≡ buy.planAt d board q
     unfolding dealOf
@@ -175,4 +230,34 @@ module _ (o : Order) (es : List Event) (h : acceptOf o .answer ≡ Accepted) whe
       as-sent Guaranteed
       (λ x m c z f t.
       let g = buy.guaranteed-at d board can-trade x m c (sym (ap (λ (y : Plan). y .final) (plan-is (working d x) z)) ∙ f) (subst (λ (n : ℕ). 0 < n) (got-is o es h (x .sequence)) t) in
+      omega (arith, g, guarantee-is, got-is o es h 0))
+
+  -- ---- whatever the plan
+
+  abbrev Shares : Response → ℕ → Type 0
+  Shares r p = Near (sum (gots (written o es) (othersAt o es p))) (sum (sizes (othersAt o es p))) (r .size) (got (r .sequence) (written o es))
+
+  abbrev Covered : Response → ℕ → Type 0
+  Covered r p = got (r .sequence) (written o es) < r .size → got 0 (written o es) ≤ max (guarantee o es) (gotBetter sell 0 p (written o es))
+
+  abbrev Last : Response → ℕ → Type 0
+  Last r p = (o .mode ≢ 2 → better sell p (o .stop) ≡ false) → Every (λ f. better sell p (f .price) ≡ false) (written o es) → 0 < got (r .sequence) (written o es) → guarantee o es ≤ got 0 (written o es)
+
+  pub share : (r : Response) → In r (there o es) → r .customer ≡ false → Shares r (worksAt o es r)
+  share =
+      as-sent Shares
+      (λ x m c z. buy.near (x .size) (sym (together-are (working d x) z)) (sym (others-are (working d x) z)) (sym (got-is o es h (x .sequence))) (demand o es h .share x m c))
+
+  pub covered : (r : Response) → In r (there o es) → r .customer ≡ false → Covered r (worksAt o es r)
+  covered =
+      as-sent Covered
+      (λ x m c z t.
+      let g = demand o es h .covered x m c (subst (λ (n : ℕ). n < x .size) (got-is o es h (x .sequence)) t) in
+      omega (arith, g, guarantee-is, held-is (working d x) z, got-is o es h 0))
+
+  pub guaranteed-last : (r : Response) → In r (there o es) → r .customer ≡ false → Last r (worksAt o es r)
+  guaranteed-last =
+      as-sent Last
+      (λ x m c z s n t.
+      let g = demand o es h .guaranteed x m c (from-entry (working d x) z (max-right (x .price) (d .bound)) s) (none-above (working d x) z n) (subst (λ (n : ℕ). 0 < n) (got-is o es h (x .sequence)) t) in
       omega (arith, g, guarantee-is, got-is o es h 0))

@@ -3,7 +3,7 @@ use mathlib.Core.Path.{_≡_}
 use mathlib.Core.Bool.{Bool, true, false, cond, _&&_}
 use mathlib.Core.List.{List, [], _∷_, _++_}
 use mathlib.Core.Logic.{_⊎_, _≢_}
-use Prim.Native.Nat.{ℕ, _+_, _*_, _≤_, _<_, min}
+use Prim.Native.Nat.{ℕ, _+_, _*_, _≤_, _<_, min, max}
 use Prim.Native.String.{String}
 use lib.Dec.{ltb, eqb}
 use lib.ListN.{length, take, drop}
@@ -25,7 +25,7 @@ use Rattle.tape.specs.rules.Fields.{sizeOf, priceOf, nameOf}
 use Rattle.tape.specs.rules.Tape.{openTape, orderIn}
 use Rattle.trade.specs.rules.Trade.{offers, fills, traded}
 use Rattle.trade.specs.rules.Write.{reported}
-use Rattle.demand.specs.promises.Demands.{Absent, Distinct, got, soldAt}
+use Rattle.demand.specs.promises.Demands.{Absent, Distinct, got, gots, soldAt}
 use Rattle.auction.specs.rules.Accept.{acceptOf}
 use Rattle.auction.specs.rules.Range.{isOpen}
 use Rattle.auction.specs.declared.Auction.{Auction}
@@ -43,7 +43,7 @@ use Rattle.listing.specs.rules.Text.{text, newline}
 use Rattle.listing.specs.rules.Listing.{field, answerText, endText, refusedLine, auctionLine, eventLines, endLines, listingOf, roomOf, listedOf, lengthIn, bytesOf}
 use Rattle.promise.specs.rules.Answers.{Paper, no, yes, openedIs, orderIs, eventIs, trailerIs, writtenIs, entryIs, answerIs, endingIs, filledIs, runIs, listedIs}
 use Rattle.promise.specs.rules.Tapes.{Carries}
-use Rattle.promise.specs.rules.Sides.{isSell, otherSide, better, responses, taken, last, range, written, there, market, walked, worksAt, othersAt, guarantee, planAt, leftToOthers, standingOf}
+use Rattle.promise.specs.rules.Sides.{isSell, otherSide, better, gotBetter, responses, taken, last, range, written, there, market, walked, worksAt, othersAt, guarantee, planAt, leftToOthers, standingOf}
 
 -- ---- 1. every tape is answered
 
@@ -160,8 +160,16 @@ module _ (o : Order) (es : List Event) where
     pub short : (r : Response) → In r (there o es) → r .customer ≡ false → 0 < soldAt (worksAt o es r) (walked o es)
         → leftToOthers o es (worksAt o es r) < sum (sizes (othersAt o es (worksAt o es r)))
         → Near (leftToOthers o es (worksAt o es r)) (sum (sizes (othersAt o es (worksAt o es r)))) (r .size) (got (r .sequence) (written o es))
+    -- of what the others at a price trade together, each trades the whole part of its share, or one more; where one is not filled, the Contra Order has no more than its guarantee, or than it has at better prices
+    pub share : (r : Response) → In r (there o es) → r .customer ≡ false
+        → Near (sum (gots (written o es) (othersAt o es (worksAt o es r)))) (sum (sizes (othersAt o es (worksAt o es r)))) (r .size) (got (r .sequence) (written o es))
+    pub covered : (r : Response) → In r (there o es) → r .customer ≡ false → got (r .sequence) (written o es) < r .size
+        → got 0 (written o es) ≤ max (guarantee o es) (gotBetter (isSell o) 0 (worksAt o es r) (written o es))
     -- where one of them trades at the guarantee price the Contra Order has its guarantee
     pub guaranteed : (r : Response) → In r (there o es) → r .customer ≡ false → planAt o es (worksAt o es r) .final ≡ true → 0 < got (r .sequence) (written o es) → guarantee o es ≤ got 0 (written o es)
+    -- which is where nothing trades at a worse price, from the stop or limit on
+    pub guaranteed-last : (r : Response) → In r (there o es) → r .customer ≡ false → (o .mode ≢ 2 → better (isSell o) (worksAt o es r) (o .stop) ≡ false)
+        → Every (λ f. better (isSell o) (worksAt o es r) (f .price) ≡ false) (written o es) → 0 < got (r .sequence) (written o es) → guarantee o es ≤ got 0 (written o es)
 
 -- ---- 4. a response that stands on the board is never counted twice
 
