@@ -6,7 +6,7 @@ use mathlib.Core.Logic.{_⊎_, inl, inr}
 use Prim.Native.Nat.{ℕ, _≤_, _<_, min}
 use lib.Dec.{eqb}
 use native.Mathlib.Omega.{arith}
-use borrow.Author.Tests.{eq-eqb, ne-eqb, eqb-false}
+use borrow.Author.Tests.{eq-eqb, ne-eqb, eqb-true, eqb-false}
 use Rattle.base.specs.Lists.{In, Every, keep}
 use Rattle.base.proofs.Bools.{by, no}
 use Rattle.base.proofs.ListLaws.{every-map}
@@ -35,7 +35,7 @@ use Rattle.events.specs.declared.Stepped.{Stepped}
 use Rattle.events.specs.declared.Sight.{Sight}
 use Rattle.events.specs.declared.Turn.{Turn}
 use Rattle.auction.specs.declared.Entry.the-variants.{Accepted}
-use Rattle.run.proofs.StepLaws.{Outcomes, Ordinary, Cases, cases}
+use Rattle.run.proofs.StepLaws.{Leaves, Outcomes, Ordinary, Cases, cases}
 use Rattle.mirror.proofs.EventLaws.{buy-sequence, buy-kind, mirror-four}
 use Rattle.mirror.proofs.MirrorForm.{event-form}
 use Rattle.run.proofs.BoardSteps.{sees, seat-every, clear-every}
@@ -52,23 +52,26 @@ record From (Q : Event → Type 0) (t : Terms) (r : Response) : Type 0 where
   made : r ≡ madeBy t event
   named : r .sequence ≡ event .sequence
 
--- an event in form that has a side, and not side 1, is of side 2
-side-two : (e : Event) → shapeOf (e .kind) .side ≡ sides → eventFormed e ≡ true → eqb (e .side) 1 ≡ false → e .side ≡ 2
+-- an event in form that has a side is of side 1 or 2
+pub side-in : (e : Event) → shapeOf (e .kind) .side ≡ sides → eventFormed e ≡ true → (1 ≤ e .side) × (e .side ≤ 2)
 unfolding eventFormed shapeTests
+side-in e s f = let h : within (e .side) 1 2 ≡ true = rw s at (each (shapeTests (shapeOf (e .kind)) e) true f 3) in (within-ge (e .side) 1 2 h, within-le (e .side) 1 2 h)
+
+side-two : (e : Event) → shapeOf (e .kind) .side ≡ sides → eventFormed e ≡ true → eqb (e .side) 1 ≡ false → e .side ≡ 2
 side-two e s f n =
-    let h : within (e .side) 1 2 ≡ true = rw s at (each (shapeTests (shapeOf (e .kind)) e) true f 3) in
+    let h = side-in e s f in
     let k : e .side ≡ 1 → ⊥ = eqb-false (e .side) 1 n in
-    omega (arith, within-ge (e .side) 1 2 h, within-le (e .side) 1 2 h, k)
+    omega (arith, h .0, h .1, k)
 
 -- the kinds that have sides
-sided : (k : ℕ) → (k ≡ 1) ⊎ ((k ≡ 3) ⊎ (k ≡ 4)) → shapeOf k .side ≡ sides
+pub sided : (k : ℕ) → (k ≡ 1) ⊎ ((k ≡ 3) ⊎ (k ≡ 4)) → shapeOf k .side ≡ sides
 unfolding shapeOf
 sided k (inl z) = ap (λ (n : ℕ). shapeOf n .side) z
 sided k (inr (inl z)) = ap (λ (n : ℕ). shapeOf n .side) z
 sided k (inr (inr z)) = ap (λ (n : ℕ). shapeOf n .side) z
 
 -- what the engine works with is in form
-buy-form : (s : Bool) (e : Event) → eventFormed e ≡ true → eventFormed (buyEvent s e) ≡ true
+pub buy-form : (s : Bool) (e : Event) → eventFormed e ≡ true → eventFormed (buyEvent s e) ≡ true
 unfolding buyEvent
 buy-form true e f = event-form e f
 buy-form false e f = f
@@ -85,15 +88,22 @@ pub run-terms : (es : List Event) (a : Auction) → run a es .head .terms ≡ a 
 run-terms [] a = refl
 run-terms (e ∷ es) a = run-terms es (stepOf a e .auction) ∙ terms-stay a e
 
+-- a step that takes no event leaves the board
+pub untaken : (a : Auction) (e : Event) → isTaken (stepOf a e .answer) ≡ false → stepOf a e .auction .board ≡ a .board
+untaken a e =
+    cases (a .head) e (sightOf (a .board) e) (λ t. isTaken (t .answer) ≡ false → boardAfter (a .board) (t .change) ≡ a .board)
+    (record { refused = λ _ _ _. refl; late = λ _ _. refl; does = λ _. any-change _ _ _ _ _ (λ _ _ _. refl) (λ c g z. no (sym (taken-any (isOpen g)) ∙ z)) })
+
+-- the response of a GTX, and of a limit order
+pub made-gtx : (t : Terms) (e : Event) → e .kind ≡ 1 → responseOf true (min (sizeOf (buyEvent (t .sell) e)) (t .size)) (buyEvent (t .sell) e) ≡ madeBy t e
+made-gtx t e k = simp (eq-eqb _ _ k)
+
+pub made-limit : (t : Terms) (e : Event) → e .kind ≡ 3 → responseOf false (sizeOf (buyEvent (t .sell) e)) (buyEvent (t .sell) e) ≡ madeBy t e
+made-limit t e k = let n : e .kind ≡ 1 → ⊥ = λ z. omega arith in simp (ne-eqb _ _ n)
+
 module _ (Q : Event → Type 0) (a : Auction) (e : Event) (s : Sound a) where
   abbrev view : Sight
   view = sightOf (a .board) e
-
-  made-gtx : e .kind ≡ 1 → responseOf true (min (sizeOf (buyEvent (a .head .terms .sell) e)) (a .head .terms .size)) (buyEvent (a .head .terms .sell) e) ≡ madeBy (a .head .terms) e
-  made-gtx k = simp (eq-eqb _ _ k)
-
-  made-limit : e .kind ≡ 3 → responseOf false (sizeOf (buyEvent (a .head .terms .sell) e)) (buyEvent (a .head .terms .sell) e) ≡ madeBy (a .head .terms) e
-  made-limit k = let n : e .kind ≡ 1 → ⊥ = λ z. omega arith in simp (ne-eqb _ _ n)
 
   does-from : (Q e) → eventFormed e ≡ true → Every (From Q (a .head .terms)) (liveOf (a .board))
       → Outcomes (a .head .terms) (a .head .quotes) view (buyEvent (a .head .terms .sell) e) (λ u. Every (From Q (a .head .terms)) (liveOf (seatedOn (a .board) (carried (a .head) e u) .auction .board)))
@@ -101,30 +111,24 @@ module _ (Q : Event → Type 0) (a : Auction) (e : Event) (s : Sound a) where
       let free = sees (a .board) e (s .board) .free in
       record {
         refuses = λ n _. h;
-        nothing = λ g. h;
+        nothing = λ g _. h;
         gtx = λ k d f p.
             seat-every (a .board) (s .board) (From Q (a .head .terms)) (view .at) (responseOf true (min (sizeOf (buyEvent (a .head .terms .sell) e)) (a .head .terms .size)) (buyEvent (a .head .terms .sell) e)) f (free f)
-            (record { event = e; holds = q; kind = inl (sym (buy-kind e (a .head .terms .sell)) ∙ k); side = other-side (a .head .terms .sell) e (inl k) formed d; made = made-gtx (sym (buy-kind e (a .head .terms .sell)) ∙ k); named = buy-sequence e (a .head .terms .sell) }) h;
+            (record { event = e; holds = q; kind = inl (sym (buy-kind e (a .head .terms .sell)) ∙ k); side = other-side (a .head .terms .sell) e (inl k) formed d; made = made-gtx (a .head .terms) e (sym (buy-kind e (a .head .terms .sell)) ∙ k); named = buy-sequence e (a .head .terms .sell) }) h;
         limit = λ g k d f p.
             seat-every (a .board) (s .board) (From Q (a .head .terms)) (view .at) (responseOf false (sizeOf (buyEvent (a .head .terms .sell) e)) (buyEvent (a .head .terms .sell) e)) f (free f)
-            (record { event = e; holds = q; kind = inr (sym (buy-kind e (a .head .terms .sell)) ∙ k); side = other-side (a .head .terms .sell) e (inr (inl k)) formed d; made = made-limit (sym (buy-kind e (a .head .terms .sell)) ∙ k); named = buy-sequence e (a .head .terms .sell) }) h;
+            (record { event = e; holds = q; kind = inr (sym (buy-kind e (a .head .terms .sell)) ∙ k); side = other-side (a .head .terms .sell) e (inr (inl k)) formed d; made = made-limit (a .head .terms) e (sym (buy-kind e (a .head .terms .sell)) ∙ k); named = buy-sequence e (a .head .terms .sell) }) h;
         clear = λ k f. clear-every (a .board) (s .board) (From Q (a .head .terms)) (view .found) h;
-        quote = λ n f. h;
+        quote = λ n f _. h;
         sell = λ _ _. h;
       }
-
-  -- a step that takes no event leaves the board
-  untaken : isTaken (stepOf a e .answer) ≡ false → stepOf a e .auction .board ≡ a .board
-  untaken =
-      cases (a .head) e view (λ t. isTaken (t .answer) ≡ false → boardAfter (a .board) (t .change) ≡ a .board)
-      (record { refused = λ _ _ _. refl; late = λ _ _. refl; does = λ _. any-change _ _ _ _ _ (λ _ _ _. refl) (λ c g z. no (sym (taken-any (isOpen g)) ∙ z)) })
 
   step-from : (isTaken (stepOf a e .answer) ≡ true → Q e) → Every (From Q (a .head .terms)) (liveOf (a .board)) → Every (From Q (a .head .terms)) (liveOf (stepOf a e .auction .board))
   step-from q h = go (isTaken (stepOf a e .answer)) refl
     where
       go : (b : Bool) → isTaken (stepOf a e .answer) ≡ b → Every (From Q (a .head .terms)) (liveOf (stepOf a e .auction .board))
       go true z = cases (a .head) e view (λ t. Every (From Q (a .head .terms)) (liveOf (boardAfter (a .board) (t .change)))) (record { refused = λ _ _. h; late = λ _. h; does = λ o. does-from (q z) (o .formed) h })
-      go false z = subst (λ b. Every (From Q (a .head .terms)) (liveOf b)) (sym (untaken z)) h
+      go false z = subst (λ b. Every (From Q (a .head .terms)) (liveOf b)) (sym (untaken a e z)) h
 
 -- what is taken later is taken
 in-later : (t : Bool) (e f : Event) (es : List Event) → In f es → In f (keep t e es)
@@ -160,41 +164,56 @@ comes-from o es h =
 
 -- ---- the market order
 
--- the event e ended the auction a as a market order, and b is the auction then
-record Sold (a : Auction) (e : Event) (b : Auction) : Type 0 where
-  kind : e .kind ≡ 4
-  side : buyEvent (a .head .terms .sell) e .side ≡ 2
-  sequence : b .head .market .sequence ≡ e .sequence
-  size : b .head .market .size ≡ sizeOf e
-  ending : b .head .ending ≡ Opposite
-  latest : b .head .sequence ≡ e .sequence
+-- the event e ended an auction as a market order, and b is the auction then
+pub record Sold (sell : Bool) (e : Event) (b : Auction) : Type 0 where
+  pub kind : e .kind ≡ 4
+  pub side : buyEvent sell e .side ≡ 2
+  pub sequence : b .head .market .sequence ≡ e .sequence
+  pub size : b .head .market .size ≡ sizeOf e
+  pub ending : b .head .ending ≡ Opposite
+  pub latest : b .head .sequence ≡ e .sequence
 
 market-size : (s : Bool) (e : Event) → e .kind ≡ 4 → sizeOf (buyEvent s e) ≡ sizeOf e
 unfolding buyEvent mirroredMarket
 market-size true e k = ap (λ (x : Event). sizeOf x) (mirror-four e k)
 market-size false e k = refl
 
--- the market order stays as it was, or the event is it
-market-step : (a : Auction) (e : Event) → (stepOf a e .auction .head .market ≡ a .head .market) ⊎ ((isTaken (stepOf a e .answer) ≡ true) × Sold a e (stepOf a e .auction))
+-- the event is a market order of the other side
+abbrev pub Sells : Bool → Event → Type 0
+Sells sell e = (e .kind ≡ 4) × (buyEvent sell e .side ≡ 2)
+
+-- the market order stays as it was, and the event is none that was taken; or the event is it
+pub data MarketStep (a : Auction) (e : Event) (p : Stepped) : Type 0 where
+  stays : p .auction .head .market ≡ a .head .market → (isTaken (p .answer) ≡ true → Sells (a .head .terms .sell) e → ⊥) → MarketStep a e p
+  sold : isTaken (p .answer) ≡ true → Sold (a .head .terms .sell) e (p .auction) → MarketStep a e p
+
+pub market-step : (a : Auction) (e : Event) → MarketStep a e (stepOf a e)
 unfolding headAfter endedByTime
 market-step a e =
-    cases (a .head) e (sightOf (a .board) e)
-    (λ t. (t .head .market ≡ a .head .market) ⊎ ((isTaken (t .answer) ≡ true) × Sold a e (seatedOn (a .board) t .auction)))
+    cases (a .head) e (sightOf (a .board) e) (λ t. MarketStep a e (seatedOn (a .board) t))
     (record {
-      refused = λ _ _. inl refl;
-      late = λ _. inl refl;
+      refused = λ _ _. stays refl (λ z _. no (sym z));
+      late = λ _. stays refl (λ z _. no (sym z));
       does = λ o. record {
-        refuses = λ _ _. inl refl;
-        nothing = λ _. inl refl;
-        gtx = λ _ _ _ _. inl refl;
-        limit = λ _ _ _ _ _. inl refl;
-        clear = λ _ _. inl refl;
-        quote = λ _ _. inl refl;
+        refuses = λ _ _. stays refl (λ z _. no (sym z));
+        nothing = λ _ l. stays refl (λ _ z. leaves l z);
+        gtx = λ k _ _ _. stays refl (λ _ z. omega (arith, z .0, buy-kind e sell));
+        limit = λ _ k _ _ _. stays refl (λ _ z. omega (arith, z .0, buy-kind e sell));
+        clear = λ k _. stays refl (λ _ z. omega (arith, z .0, buy-kind e sell));
+        quote = λ _ _ l. stays refl (λ _ z. leaves l z);
         sell = λ k d.
-            let k4 : e .kind ≡ 4 = sym (buy-kind e (a .head .terms .sell)) ∙ k in
-            inr (refl, record { kind = k4; side = other-side (a .head .terms .sell) e (inr (inr k)) (o .formed) d; sequence = buy-sequence e (a .head .terms .sell); size = market-size (a .head .terms .sell) e k4; ending = refl; latest = refl });
+            let k4 : e .kind ≡ 4 = sym (buy-kind e sell) ∙ k in
+            sold refl (record { kind = k4; side = other-side sell e (inr (inr k)) (o .formed) d; sequence = buy-sequence e sell; size = market-size sell e k4; ending = refl; latest = refl });
       };
     })
+  where
+    sell : Bool
+    sell = a .head .terms .sell
+
+    leaves : Leaves (a .head .terms) (buyEvent sell e) → Sells sell e → ⊥
+    leaves l z =
+        let one : buyEvent sell e .side ≡ 1 = eqb-true (buyEvent sell e .side) 1 (l .no-sell (eq-eqb (buyEvent sell e .kind) 4 (buy-kind e sell ∙ z .0))) in
+        omega (arith, one, z .1)
 
 -- an auction that has ended stays
 pub ended-run : (es : List Event) (a : Auction) → isOpen (a .head .ending) ≡ false → run a es ≡ a
@@ -210,8 +229,8 @@ market-run (e ∷ es) a z h = go (market-step a e) (market-run es (stepOf a e .a
     b : Auction
     b = stepOf a e .auction
 
-    go : (b .head .market ≡ a .head .market) ⊎ ((isTaken (stepOf a e .answer) ≡ true) × Sold a e b) → (b .head .market .size ≡ 0 → 0 < run b es .head .market .size → MarketFrom b es (run b es)) → MarketFrom a (e ∷ es) (run b es)
-    go (inl s) ih =
+    go : MarketStep a e (stepOf a e) → (b .head .market .size ≡ 0 → 0 < run b es .head .market .size → MarketFrom b es (run b es)) → MarketFrom a (e ∷ es) (run b es)
+    go (stays s _) ih =
         let m : MarketFrom b es (run b es) = ih (ap (λ (x : Market). x .size) s ∙ z) h in
         record {
           event = m .event;
@@ -223,7 +242,7 @@ market-run (e ∷ es) a z h = go (market-step a e) (market-run es (stepOf a e .a
           ending = m .ending;
           latest = m .latest;
         }
-    go (inr (t, s)) ih =
+    go (sold t s) ih =
         let stay : run b es ≡ b = ended-run es b (ap isOpen (s .ending)) in
         subst (MarketFrom a (e ∷ es)) (sym stay)
         (record {
@@ -236,6 +255,26 @@ market-run (e ∷ es) a z h = go (market-step a e) (market-run es (stepOf a e .a
           ending = s .ending;
           latest = s .latest;
         })
+
+-- a market order of the other side that was taken ended the auction
+pub market-taken : (es : List Event) (a : Auction) (e : Event) → In e (takenOf a es) → Sells (a .head .terms .sell) e → Sold (a .head .terms .sell) e (run a es)
+market-taken [] a e i z = absurd i
+market-taken (x ∷ es) a e i z = go (isTaken (stepOf a x .answer)) refl i (λ j. subst (λ (t : Terms). Sold (t .sell) e (run b es)) (terms-stay a x) (market-taken es b e j (subst (λ (t : Terms). Sells (t .sell) e) (sym (terms-stay a x)) z)))
+  where
+    b : Auction
+    b = stepOf a x .auction
+
+    sell : Bool
+    sell = a .head .terms .sell
+
+    ends : isTaken (stepOf a x .answer) ≡ true → Sells sell x → MarketStep a x (stepOf a x) → Sold sell x (run b es)
+    ends t y (stays _ n) = absurd (n t y)
+    ends t y (sold _ s) = subst (Sold sell x) (sym (ended-run es b (ap isOpen (s .ending)))) s
+
+    go : (t : Bool) → isTaken (stepOf a x .answer) ≡ t → In e (keep t x (takenOf b es)) → (In e (takenOf b es) → Sold sell e (run b es)) → Sold sell e (run b es)
+    go true t (inl q) ih = subst (λ (y : Event). Sold sell y (run b es)) (sym q) (ends t (subst (Sells sell) q z) (market-step a x))
+    go true t (inr j) ih = ih j
+    go false t j ih = ih j
 
 none-opened : (s : Bool) (b : Order) → openedBy s b .head .market .size ≡ 0
 unfolding openedBy

@@ -43,11 +43,11 @@ pub any-change : (t : Terms) (q : Quotes) (s : Sight) (m : Event) (P : Outcome �
 any-change t q s m P r d =
     record {
       refuses = r;
-      nothing = λ g. d Nothing g;
+      nothing = λ g _. d Nothing g;
       gtx = λ _ _ _ _. d (Seat _ _) _;
       limit = λ g _ _ _ _. d (Seat _ _) g;
       clear = λ _ _. d (Free _) _;
-      quote = λ n _. d (Quote n) _;
+      quote = λ n _ _. d (Quote n) _;
       sell = λ _ _. d (Sell _) _;
     }
 

@@ -149,7 +149,7 @@ module _ (v : Sight) (a : Auction) (e : Event) (fits : Fits (a .board) v) (s : S
       let sell = a .head .terms .sell in
       record {
         refuses = λ n _. s;
-        nothing = λ g. after-sound a e Nothing g s (s .bound-below) (s .board) stand (s .distinct) (λ _. no-size) no-more;
+        nothing = λ g _. after-sound a e Nothing g s (s .bound-below) (s .board) stand (s .distinct) (λ _. no-size) no-more;
         gtx = λ k _ f p.
             let k1 : e .kind ≡ 1 = sym (buy-kind e sell) ∙ k in
             seated-sound (responseOf true (min (sizeOf (buyEvent sell e)) (a .head .terms .size)) (buyEvent sell e)) Open f (buy-sequence e sell)
@@ -163,7 +163,7 @@ module _ (v : Sight) (a : Auction) (e : Event) (fits : Fits (a .board) v) (s : S
             (clear-every (a .board) (s .board) (Stands (e .sequence) (a .head .terms .initiating)) (v .found) stand)
             (clear-distinct (a .board) (s .board) (v .found) (s .distinct))
             (λ _. no-size) no-more;
-        quote = λ n f. after-sound a e (Quote n) Open s (f (s .bound-below)) (s .board) stand (s .distinct) (λ _. no-size) no-more;
+        quote = λ n f _. after-sound a e (Quote n) Open s (f (s .bound-below)) (s .board) stand (s .distinct) (λ _. no-size) no-more;
         sell = λ _ _.
             after-sound a e (Sell (record { sequence = buyEvent sell e .sequence; size = sizeOf (buyEvent sell e) })) Opposite s (s .bound-below) (s .board) stand (s .distinct)
             (λ z. no (sym z))

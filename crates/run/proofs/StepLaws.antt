@@ -4,8 +4,8 @@ use mathlib.Core.Bool.{Bool, true, false, cond, not, _&&_, _||_}
 use Prim.Native.Nat.{ℕ, _+_, _≤_, _<_, min, max}
 use native.Mathlib.Omega.{arith}
 use lib.Dec.{leb, ltb, eqb}
-use borrow.Author.Tests.{ltb-true, ltb-false, leb-true, leb-false, eqb-true, not-false}
-use Rattle.base.proofs.Bools.{by, no}
+use borrow.Author.Tests.{ltb-true, ltb-false, leb-true, leb-false, eqb-true, ne-eqb, not-false}
+use Rattle.base.proofs.Bools.{by, no, and-no-right}
 use Rattle.tape.specs.declared.event.Event.{Event}
 use Rattle.tape.specs.rules.Form.{eventFormed}
 use Rattle.mirror.specs.rules.Mirror.{buyEvent}
@@ -50,17 +50,34 @@ bid-still t q p c h = go (ltb (q .bb) p) (eqb p (q .bb)) c (q .bidmark) refl ref
 abbrev pub EventNumber : ℕ → Type 0
 EventNumber n = (31 ≤ n) × (n ≤ 38)
 
+-- an event that takes no place and frees none, and is no sell at the market
+pub record Leaves (t : Terms) (m : Event) : Type 0 where
+  pub no-gtx : eqb (m .kind) 1 ≡ false
+  pub no-cancel : eqb (m .kind) 2 ≡ false
+  pub no-place : eqb (m .kind) 3 ≡ true → (not (eqb (m .side) 1) && leb (priceOf m) (t .initiating)) ≡ false
+  pub no-sell : eqb (m .kind) 4 ≡ true → eqb (m .side) 1 ≡ true
+
 -- what is known of each outcome of an event m
 pub record Outcomes (t : Terms) (q : Quotes) (s : Sight) (m : Event) (P : Outcome → Type 0) : Type 0 where
   pub refuses : (n : ℕ) → EventNumber n → P (Refuses n)
-  pub nothing : (g : Ending) → P (Does Nothing g)
+  pub nothing : (g : Ending) → Leaves t m → P (Does Nothing g)
   pub gtx : m .kind ≡ 1 → eqb (m .side) 1 ≡ false → s .at < 64 → priceOf m ≤ t .initiating → P (Does (Seat (s .at) (responseOf true (min (sizeOf m) (t .size)) m)) Open)
   pub limit : (g : Ending) → m .kind ≡ 3 → eqb (m .side) 1 ≡ false → s .at < 64 → priceOf m ≤ t .initiating → P (Does (Seat (s .at) (responseOf false (sizeOf m) m)) g)
   pub clear : m .kind ≡ 2 → s .found < 64 → P (Does (Free (s .found)) Open)
-  pub quote : (n : Quotes) → (boundBy t q ≤ t .initiating → boundBy t n ≤ t .initiating) → P (Does (Quote n) Open)
+  pub quote : (n : Quotes) → (boundBy t q ≤ t .initiating → boundBy t n ≤ t .initiating) → Leaves t m → P (Does (Quote n) Open)
   pub sell : m .kind ≡ 4 → eqb (m .side) 1 ≡ false → P (Does (Sell (record { sequence = m .sequence; size = sizeOf m })) Opposite)
 
 module _ (t : Terms) (q : Quotes) (s : Sight) (m : Event) (P : Outcome → Type 0) (k : Outcomes t q s m P) where
+  -- a limit order that does not take a place, a buy at the market, and what is of no kind up to 4
+  limit-leaves : m .kind ≡ 3 → (not (eqb (m .side) 1) && leb (priceOf m) (t .initiating)) ≡ false → Leaves t m
+  limit-leaves e h = record { no-gtx = ne-eqb (m .kind) 1 (λ z. omega arith); no-cancel = ne-eqb (m .kind) 2 (λ z. omega arith); no-place = λ _. h; no-sell = λ z. absurd (omega (arith, eqb-true (m .kind) 4 z)) }
+
+  market-leaves : m .kind ≡ 4 → eqb (m .side) 1 ≡ true → Leaves t m
+  market-leaves e h = record { no-gtx = ne-eqb (m .kind) 1 (λ z. omega arith); no-cancel = ne-eqb (m .kind) 2 (λ z. omega arith); no-place = λ z. absurd (omega (arith, eqb-true (m .kind) 3 z)); no-sell = λ _. h }
+
+  rest-leaves : eqb (m .kind) 1 ≡ false → eqb (m .kind) 2 ≡ false → eqb (m .kind) 3 ≡ false → eqb (m .kind) 4 ≡ false → Leaves t m
+  rest-leaves a b c d = record { no-gtx = a; no-cancel = b; no-place = λ z. no (sym z ∙ c); no-sell = λ z. no (sym z ∙ d) }
+
   gtx-case : m .kind ≡ 1 → P (gtxOutcome t s m)
   unfolding gtxOutcome
   gtx-case e =
@@ -77,14 +94,14 @@ module _ (t : Terms) (q : Quotes) (s : Sight) (m : Event) (P : Outcome → Type 
   sell-limit-case e d =
       by P (leb (priceOf m) (t .initiating)) _ _
       (λ p. by P (ltb (s .at) 64) _ _ (λ f. k .limit (cond (leb (priceOf m) (cond (isNonRoutable m) (q .bb) (q .nbb))) Opposite Open) e d (ltb-true _ _ f) (leb-true _ _ p)) (λ _. k .refuses 38 (omega arith, omega arith)))
-      (λ _. k .nothing (cond (leb (priceOf m) (cond (isNonRoutable m) (q .bb) (q .nbb))) Opposite Open))
+      (λ p. k .nothing (cond (leb (priceOf m) (cond (isNonRoutable m) (q .bb) (q .nbb))) Opposite Open) (limit-leaves e (and-no-right (not (eqb (m .side) 1)) p)))
 
-  buy-limit-case : P (buyLimitOutcome t q m)
+  buy-limit-case : Leaves t m → P (buyLimitOutcome t q m)
   unfolding buyLimitOutcome
-  buy-limit-case =
-      by P (leb (cond (isNonRoutable m) (q .bo) (q .nbo)) (priceOf m)) _ _ (λ _. k .nothing Same) (λ _.
-      by P (moves q (priceOf m) (isCustomer m) && ltb (t .initiating) (boundBy t (bidQuotes q (priceOf m) (isCustomer m)))) _ _ (λ _. k .nothing Improve) (λ h.
-      k .quote (bidQuotes q (priceOf m) (isCustomer m)) (kept (moves q (priceOf m) (isCustomer m)) (ltb (t .initiating) (boundBy t (bidQuotes q (priceOf m) (isCustomer m)))) refl refl h)))
+  buy-limit-case l =
+      by P (leb (cond (isNonRoutable m) (q .bo) (q .nbo)) (priceOf m)) _ _ (λ _. k .nothing Same l) (λ _.
+      by P (moves q (priceOf m) (isCustomer m) && ltb (t .initiating) (boundBy t (bidQuotes q (priceOf m) (isCustomer m)))) _ _ (λ _. k .nothing Improve l) (λ h.
+      k .quote (bidQuotes q (priceOf m) (isCustomer m)) (kept (moves q (priceOf m) (isCustomer m)) (ltb (t .initiating) (boundBy t (bidQuotes q (priceOf m) (isCustomer m)))) refl refl h) l))
     where
       kept : (x y : Bool) → moves q (priceOf m) (isCustomer m) ≡ x → ltb (t .initiating) (boundBy t (bidQuotes q (priceOf m) (isCustomer m))) ≡ y → (x && y) ≡ false
           → boundBy t q ≤ t .initiating → boundBy t (bidQuotes q (priceOf m) (isCustomer m)) ≤ t .initiating
@@ -94,23 +111,23 @@ module _ (t : Terms) (q : Quotes) (s : Sight) (m : Event) (P : Outcome → Type 
 
   limit-case : m .kind ≡ 3 → P (limitOutcome t q s m)
   unfolding limitOutcome
-  limit-case e = by P (eqb (m .side) 1) _ _ (λ _. buy-limit-case) (λ d. sell-limit-case e d)
+  limit-case e = by P (eqb (m .side) 1) _ _ (λ d. buy-limit-case (limit-leaves e (ap (λ (b : Bool). not b && leb (priceOf m) (t .initiating)) d))) (λ d. sell-limit-case e d)
 
   market-case : m .kind ≡ 4 → P (marketOutcome m)
   unfolding marketOutcome
-  market-case e = by P (eqb (m .side) 1) _ _ (λ _. k .nothing Same) (λ d. k .sell e d)
+  market-case e = by P (eqb (m .side) 1) _ _ (λ d. k .nothing Same (market-leaves e d)) (λ d. k .sell e d)
 
-  quotes-case : P (quotesOutcome t m)
+  quotes-case : Leaves t m → P (quotesOutcome t m)
   unfolding quotesOutcome
-  quotes-case = by P (ltb (t .initiating) (boundBy t (newQuotes m))) _ _ (λ _. k .nothing Improve) (λ h. k .quote (newQuotes m) (λ _. ltb-false _ _ h))
+  quotes-case l = by P (ltb (t .initiating) (boundBy t (newQuotes m))) _ _ (λ _. k .nothing Improve l) (λ h. k .quote (newQuotes m) (λ _. ltb-false _ _ h) l)
 
   pub outcomes : P (outcomeOf t q s m)
   unfolding outcomeOf
   outcomes =
-      by P (eqb (m .kind) 1) _ _ (λ e. gtx-case (eqb-true _ _ e)) (λ _.
-      by P (eqb (m .kind) 2) _ _ (λ e. cancel-case (eqb-true _ _ e)) (λ _.
-      by P (eqb (m .kind) 3) _ _ (λ e. limit-case (eqb-true _ _ e)) (λ _.
-      by P (eqb (m .kind) 4) _ _ (λ e. market-case (eqb-true _ _ e)) (λ _. quotes-case))))
+      by P (eqb (m .kind) 1) _ _ (λ e. gtx-case (eqb-true _ _ e)) (λ a.
+      by P (eqb (m .kind) 2) _ _ (λ e. cancel-case (eqb-true _ _ e)) (λ b.
+      by P (eqb (m .kind) 3) _ _ (λ e. limit-case (eqb-true _ _ e)) (λ c.
+      by P (eqb (m .kind) 4) _ _ (λ e. market-case (eqb-true _ _ e)) (λ d. quotes-case (rest-leaves a b c d)))))
 
 -- ---- the turn
 
