@@ -5,6 +5,7 @@ pub mod Tapes
 pub mod Opening
 pub mod RealLaws
 pub mod Real
+pub mod Standing
 pub mod SharedFigures
 pub mod BuyShares
 pub mod Shared

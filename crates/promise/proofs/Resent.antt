@@ -6,8 +6,8 @@ use mathlib.Core.Logic.{_⊎_, inl, inr, _≢_}
 use Prim.Native.Nat.{ℕ, _≤_, _<_, min}
 use native.Mathlib.Nat.{le-trans}
 use native.Mathlib.Omega.{arith}
-use lib.Dec.{leb, ltb, eqb}
-use borrow.Author.Tests.{eq-eqb, ne-eqb, ltb-true}
+use lib.Dec.{eqb}
+use borrow.Author.Tests.{eq-eqb}
 use Rattle.base.specs.Lists.{In, Every, keep, filter, Inserts}
 use Rattle.base.specs.Lists.Inserts.{here, there}
 use Rattle.base.specs.Price.{mirrored}
@@ -40,10 +40,9 @@ use Rattle.events.specs.declared.Answer.the-variants.{Taken, Refused}
 use Rattle.events.specs.declared.Sight.{Sight}
 use Rattle.events.specs.declared.Turn.{Turn}
 use Rattle.events.specs.declared.Change.the-variants.{Free}
-use Rattle.events.specs.declared.Outcome.{Outcome}
 use Rattle.events.specs.declared.Stepped.{Stepped}
-use Rattle.events.specs.rules.Decide.{isCustomer, cancelOutcome, outcomeOf}
-use Rattle.events.specs.rules.Step.{sightOf, eventRefusal, boardAfter, endedByTime, carried, turnOf, closeTurn, gives, stepOf}
+use Rattle.events.specs.rules.Decide.{isCustomer}
+use Rattle.events.specs.rules.Step.{sightOf, boardAfter, endedByTime, carried, turnOf, closeTurn, gives, stepOf}
 use Rattle.run.specs.rules.Run.{Said, said, run, heard, closed, isTaken, takenOf}
 use Rattle.run.specs.promises.Demands.{madeBy, ComesFrom, MarketFrom, Stands, Sound}
 use Rattle.run.proofs.StepLaws.{Outcomes, Ordinary, cases}
@@ -51,11 +50,11 @@ use Rattle.run.proofs.Resend.{rises, taken-is, old-refused, run-rises, keeps}
 use Rattle.run.proofs.BoardSteps.{sees, seat-every, clear-every}
 use Rattle.run.proofs.Accepted.{opened}
 use Rattle.run.proofs.SoundLaws.{sound-opened, sound-step, sound-run, demanded}
-use Rattle.run.proofs.ComesFrom.{run-terms, resend}
+use Rattle.run.proofs.ComesFrom.{Sold, run-terms, market-taken, resend}
 use Rattle.promise.specs.rules.Tapes.{Carries, endOf, isRefused, notRefused, notRefusedSaid, Resends}
 use Rattle.promise.specs.rules.Tapes.Resends.{none, more, late}
-use Rattle.promise.specs.rules.Sides.{isSell, sent, responses, taken, last, market}
-use Rattle.promise.specs.promises.Parts.{Ended, OneRecord, Resent, after}
+use Rattle.promise.specs.rules.Sides.{isSell, otherSide, sent, responses, sentBy, taken, last, market}
+use Rattle.promise.specs.promises.Parts.{Ends, Ended, OneRecord, Resent, after}
 use Rattle.promise.proofs.Answered.{refused-stays, without, ends-alike}
 
 -- ---- the records taken
@@ -131,11 +130,11 @@ unfolding buyOrder mirroredOrder
 buy-size o = by (λ (b : Order). b .size ≡ o .size) (eqb (o .side) 2) _ _ (λ _. refl) (λ _. refl)
 
 -- the side and the size of an accepted order are those of its auction
-terms-sell : (o : Order) → acceptOf o .answer ≡ Accepted → acceptOf o .auction .head .terms .sell ≡ isSell o
+pub terms-sell : (o : Order) → acceptOf o .answer ≡ Accepted → acceptOf o .auction .head .terms .sell ≡ isSell o
 unfolding openedBy termsOf
 terms-sell o h = ap (λ (a : Auction). a .head .terms .sell) (opened o h .auction)
 
-terms-size : (o : Order) → acceptOf o .answer ≡ Accepted → acceptOf o .auction .head .terms .size ≡ o .size
+pub terms-size : (o : Order) → acceptOf o .answer ≡ Accepted → acceptOf o .auction .head .terms .size ≡ o .size
 unfolding openedBy termsOf
 terms-size o h = ap (λ (a : Auction). a .head .terms .size) (opened o h .auction) ∙ buy-size o
 
@@ -158,7 +157,15 @@ unfolding buyEvent mirroredMarket
 market-side true e k h = side-back (e .side) (ap (λ (x : Event). x .side) (sym (mirror-four e k)) ∙ h)
 market-side false e k h = h
 
+side-market : (sell : Bool) (e : Event) → e .kind ≡ 4 → e .side ≡ cond sell 1 2 → buyEvent sell e .side ≡ 2
+unfolding buyEvent mirroredMarket mirroredSide
+side-market true e k h = ap (λ (x : Event). x .side) (mirror-four e k) ∙ ap mirroredSide h
+side-market false e k h = h
+
 -- what a response of it is, for the engine
+made-sequence : (t : Terms) (e : Event) → madeBy t e .sequence ≡ e .sequence
+made-sequence t e = by (λ (r : Response). r .sequence ≡ e .sequence) (eqb (e .kind) 1) _ _ (λ _. buy-sequence e (t .sell)) (λ _. buy-sequence e (t .sell))
+
 made-price : (t : Terms) (e : Event) → madeBy t e .price ≡ priceOf (buyEvent (t .sell) e)
 made-price t e = by (λ (r : Response). r .price ≡ priceOf (buyEvent (t .sell) e)) (eqb (e .kind) 1) _ _ (λ _. refl) (λ _. refl)
 
@@ -177,7 +184,7 @@ made-size : (t : Terms) (e : Event) → madeBy t e .size ≡ cond (eqb (e .kind)
 made-size t e = size-by (eqb (e .kind) 1) _ _
 
 -- its price comes back, its mark and its size stay
-sent-price : (sell : Bool) (e : Event) → (e .kind ≡ 1) ⊎ (e .kind ≡ 3) → eventFormed e ≡ true → reportedPrice sell (priceOf (buyEvent sell e)) ≡ priceOf e
+pub sent-price : (sell : Bool) (e : Event) → (e .kind ≡ 1) ⊎ (e .kind ≡ 3) → eventFormed e ≡ true → reportedPrice sell (priceOf (buyEvent sell e)) ≡ priceOf e
 unfolding buyEvent mirroredPriced
 sent-price true e k f = ap (λ (x : Event). mirrored (priceOf x)) (priced e k) ∙ mirror-twice (priceOf e) (omega (arith, event-bounds e f .price))
 sent-price false e k f = refl
@@ -192,6 +199,25 @@ unfolding buyEvent mirroredPriced
 sent-size true e k = ap (λ (x : Event). sizeOf x) (priced e k)
 sent-size false e k = refl
 
+-- a response is what its fields are
+response-is : (r x : Response) → r .sequence ≡ x .sequence → r .size ≡ x .size → r .price ≡ x .price → r .customer ≡ x .customer → r .gtx ≡ x .gtx → r ≡ x
+response-is r x p q s t u =
+    ap (λ (n : ℕ). of n (r .size) (r .price) (r .customer) (r .gtx)) p ∙ ap (λ (n : ℕ). of (x .sequence) n (r .price) (r .customer) (r .gtx)) q
+    ∙ ap (λ (n : ℕ). of (x .sequence) (x .size) n (r .customer) (r .gtx)) s ∙ ap (λ (b : Bool). of (x .sequence) (x .size) (x .price) b (r .gtx)) t ∙ ap (of (x .sequence) (x .size) (x .price) (x .customer)) u
+  where
+    of : ℕ → ℕ → ℕ → Bool → Bool → Response
+    of sequence size price customer gtx = record { sequence = sequence; size = size; price = price; customer = customer; gtx = gtx }
+
+-- the response of a record, for an auction with the order's side and size, is as the record sent it
+pub sent-is : (o : Order) (t : Terms) (e : Event) → t .sell ≡ isSell o → t .size ≡ o .size → (e .kind ≡ 1) ⊎ (e .kind ≡ 3) → eventFormed e ≡ true → sent (isSell o) (madeBy t e) ≡ sentBy o e
+sent-is o t e sell size k f =
+    response-is (sent (isSell o) (madeBy t e)) (sentBy o e)
+    (made-sequence t e)
+    (made-size t e ∙ ap (λ (n : ℕ). cond (eqb (e .kind) 1) (min n (t .size)) n) (sent-size (t .sell) e k) ∙ ap (λ (n : ℕ). cond (eqb (e .kind) 1) (min (sizeOf e) n) (sizeOf e)) size)
+    (ap (reportedPrice (isSell o)) (made-price t e) ∙ ap (λ (s : Bool). reportedPrice (isSell o) (priceOf (buyEvent s e))) sell ∙ sent-price (isSell o) e k f)
+    (made-customer t e ∙ sent-customer (t .sell) e k)
+    (gtx-by (eqb (e .kind) 1) _ _ refl refl)
+
 module _ (o : Order) (es : List Event) (h : acceptOf o .answer ≡ Accepted) where
   abbrev first : Auction
   first = acceptOf o .auction
@@ -204,26 +230,21 @@ module _ (o : Order) (es : List Event) (h : acceptOf o .answer ≡ Accepted) whe
   sends r c =
       let e : Event = c .event in
       let f : eventFormed e ≡ true = every-in (λ x. eventFormed x ≡ true) (takenOf first es) e (taken-formed es first) (c .taken) in
-      let sell : terms .sell ≡ isSell o = terms-sell o h in
+      let z : sent (isSell o) r ≡ sentBy o e = ap (sent (isSell o)) (c .made) ∙ sent-is o terms e (terms-sell o h) (terms-size o h) (c .kind) f in
       record {
         record-of = e;
         sends =
             record {
               taken = c .taken;
-              side = priced-side (isSell o) e (c .kind) (ap (λ (s : Bool). buyEvent s e .side) (sym sell) ∙ c .side);
+              side = priced-side (isSell o) e (c .kind) (ap (λ (s : Bool). buyEvent s e .side) (sym (terms-sell o h)) ∙ c .side);
               kind = c .kind;
               sequence = c .named;
-              price =
-                  ap (λ (x : Response). reportedPrice (isSell o) (x .price)) (c .made) ∙ ap (reportedPrice (isSell o)) (made-price terms e)
-                  ∙ ap (λ (s : Bool). reportedPrice (isSell o) (priceOf (buyEvent s e))) sell ∙ sent-price (isSell o) e (c .kind) f;
-              customer = ap (λ (x : Response). x .customer) (c .made) ∙ made-customer terms e ∙ sent-customer (terms .sell) e (c .kind);
-              gtx = ap (λ (x : Response). x .gtx) (c .made) ∙ gtx-by (eqb (e .kind) 1) _ _ refl refl;
-              size =
-                  ap (λ (x : Response). x .size) (c .made) ∙ made-size terms e
-                  ∙ ap (λ (n : ℕ). cond (eqb (e .kind) 1) (min n (terms .size)) n) (sent-size (terms .sell) e (c .kind))
-                  ∙ ap (λ (n : ℕ). cond (eqb (e .kind) 1) (min (sizeOf e) n) (sizeOf e)) (terms-size o h);
+              price = ap (λ (x : Response). x .price) z;
+              customer = ap (λ (x : Response). x .customer) z;
+              gtx = ap (λ (x : Response). x .gtx) z;
+              size = ap (λ (x : Response). x .size) z;
             };
-        only = λ g i z. resend .one first es g e i (c .taken) (z ∙ c .named);
+        only = λ g i q. resend .one first es g e i (c .taken) (q ∙ c .named);
       }
 
 -- what holds of each as it was sent
@@ -254,33 +275,36 @@ abbrev Gone : ℕ → Auction → Type 0
 Gone k a = (k ≤ a .head .sequence) × Absent k (liveOf (a .board))
 
 -- of one with a sequence of its own, the others don't bear it
-others-apart : {r : Response} {xs ys : List Response} → Inserts r xs ys → Distinct ys → Absent (r .sequence) xs
+pub others-apart : {r : Response} {xs ys : List Response} → Inserts r xs ys → Distinct ys → Absent (r .sequence) xs
 others-apart here d = d .0
 others-apart {r} (there {x} i) d = (λ z. every-inserts (λ y. y .sequence ≢ x .sequence) i (d .0) .0 (sym z), others-apart i (d .1))
 
--- a cancel is decided by what it found
-cancel-is : (h : Head) (s : Sight) (m : Event) → m .kind ≡ 2 → outcomeOf (h .terms) (h .quotes) s m ≡ cancelOutcome s
-unfolding outcomeOf
-cancel-is h s m k = simp (ne-eqb (m .kind) 1 (λ z. omega arith), eq-eqb (m .kind) 2 k)
-
 -- a cancel that was taken frees the place found
 cancel-frees : (h : Head) (s : Sight) (e : Event) → e .kind ≡ 2 → turnOf h s e .answer ≡ Taken → (s .found < 64) × (turnOf h s e .change ≡ Free (s .found))
-unfolding turnOf cancelOutcome
 cancel-frees h s e k =
-    by P (eqb (eventRefusal h e) 0) _ _
-    (λ _. by P (leb (h .terms .interval) (e .time)) _ _ (λ _ z. no cc) (λ _.
-    subst (λ (u : Outcome). P (carried h e u)) (sym (cancel-is h s m (buy-kind e (h .terms .sell) ∙ k)))
-    (by (λ (u : Outcome). P (carried h e u)) (ltb (s .found) 64) _ _ (λ f _. (ltb-true _ _ f, refl)) (λ _ z. no cc))))
-    (λ _ z. no cc)
+    cases h e s (λ t. t .answer ≡ Taken → (s .found < 64) × (t .change ≡ Free (s .found)))
+    (record {
+      refused = λ _ _ z. no cc;
+      late = λ _ z. no cc;
+      does = λ _. record {
+        refuses = λ _ _ z. no cc;
+        nothing = λ _ l _. no (sym is-cancel ∙ l .no-cancel);
+        gtx = λ g _ _ _ _. absurd (omega (arith, g, m2));
+        limit = λ _ g _ _ _ _. absurd (omega (arith, g, m2));
+        clear = λ _ f _. (f, refl);
+        quote = λ _ _ l _. no (sym is-cancel ∙ l .no-cancel);
+        sell = λ g _ _. absurd (omega (arith, g, m2));
+      };
+    })
   where
-    m : Event
-    m = buyEvent (h .terms .sell) e
+    m2 : buyEvent (h .terms .sell) e .kind ≡ 2
+    m2 = buy-kind e (h .terms .sell) ∙ k
 
-    P : Turn → Type 0
-    P t = t .answer ≡ Taken → (s .found < 64) × (t .change ≡ Free (s .found))
+    is-cancel : eqb (buyEvent (h .terms .sell) e .kind) 2 ≡ true
+    is-cancel = eq-eqb _ _ m2
 
 -- what a cancel finds
-found-is : (b : Board) (e : Event) → e .kind ≡ 2 → sightOf b e .found ≡ findGtx b (nameOf e)
+pub found-is : (b : Board) (e : Event) → e .kind ≡ 2 → sightOf b e .found ≡ findGtx b (nameOf e)
 unfolding sightOf
 found-is b e k = simp (eq-eqb (e .kind) 2 k)
 
@@ -311,11 +335,11 @@ stays-gone k a e s (l, g) = (omega (arith, rises v a e), cases (a .head) e v (λ
         let fresh : buyEvent sell e .sequence ≢ k = λ z. omega (arith, o .newer, buy-sequence e sell) in
         record {
           refuses = λ _ _. g;
-          nothing = λ _. g;
+          nothing = λ _ _. g;
           gtx = λ _ _ f _. seat-every (a .board) (s .board) (λ r. r .sequence ≢ k) (v .at) _ f (sees (a .board) e (s .board) .free f) fresh g;
           limit = λ _ _ _ f _. seat-every (a .board) (s .board) (λ r. r .sequence ≢ k) (v .at) _ f (sees (a .board) e (s .board) .free f) fresh g;
           clear = λ _ _. clear-every (a .board) (s .board) (λ r. r .sequence ≢ k) (v .found) g;
-          quote = λ _ _. g;
+          quote = λ _ _ _. g;
           sell = λ _ _. g;
         }
 
@@ -340,23 +364,31 @@ closed-market : (a : Auction) → closed a .head .market ≡ a .head .market
 unfolding closeTurn endedByTime
 closed-market a = by (λ (t : Turn). t .head .market ≡ a .head .market) (isOpen (a .head .ending)) _ _ (λ _. refl) (λ _. refl)
 
+-- a record that ended the auction as a market order
+ends-by : (o : Order) (es : List Event) → acceptOf o .answer ≡ Accepted → (e : Event) → In e (taken o es) → Sold (isSell o) e (run (acceptOf o .auction) es) → Ends o es e
+ends-by o es h e i s =
+    let same : run (acceptOf o .auction) es ≡ last o es = sym (demanded .by-event o es (ap isOpen (s .ending))) in
+    record {
+      taken = i;
+      side = market-side (isSell o) e (s .kind) (s .side);
+      kind = s .kind;
+      sequence = ap (λ (b : Auction). b .head .market .sequence) (sym same) ∙ s .sequence;
+      size = ap (λ (b : Auction). b .head .market .size) (sym same) ∙ s .size;
+      ending = ap (λ (b : Auction). b .head .ending) (sym same) ∙ s .ending;
+      latest = ap (λ (b : Auction). b .head .sequence) (sym same) ∙ s .latest;
+    }
+
 pub ended-by : (o : Order) (es : List Event) → acceptOf o .answer ≡ Accepted → 0 < market o es .size → Ended o es
 ended-by o es h n =
     let a : Auction = run (acceptOf o .auction) es in
     let size : market o es .size ≡ a .head .market .size = ap (λ (m : Market). m .size) (closed-market a) in
     let f : MarketFrom (acceptOf o .auction) es a = resend .market-from o es h (omega (arith, size, n)) in
-    let same : a ≡ last o es = sym (demanded .by-event o es (ap isOpen (f .ending))) in
-    let e : Event = f .event in
-    record {
-      record-of = e;
-      ends =
-          record {
-            taken = f .taken;
-            side = market-side (isSell o) e (f .kind) (ap (λ (s : Bool). buyEvent s e .side) (sym (terms-sell o h)) ∙ f .side);
-            kind = f .kind;
-            sequence = ap (λ (b : Auction). b .head .market .sequence) (sym same) ∙ f .sequence;
-            size = size ∙ f .size;
-            ending = ap (λ (b : Auction). b .head .ending) (sym same) ∙ f .ending;
-            latest = ap (λ (b : Auction). b .head .sequence) (sym same) ∙ f .latest;
-          };
-    }
+    let side : buyEvent (isSell o) (f .event) .side ≡ 2 = ap (λ (s : Bool). buyEvent s (f .event) .side) (sym (terms-sell o h)) ∙ f .side in
+    record { record-of = f .event; ends = ends-by o es h (f .event) (f .taken) (record { kind = f .kind; side = side; sequence = f .sequence; size = f .size; ending = f .ending; latest = f .latest }) }
+
+-- every market order of the other side that was taken ended it
+pub market-ends : (o : Order) (es : List Event) → acceptOf o .answer ≡ Accepted → (e : Event) → In e (taken o es) → e .kind ≡ 4 → e .side ≡ otherSide o → Ends o es e
+market-ends o es h e i k d =
+    let a : Auction = acceptOf o .auction in
+    let side : buyEvent (a .head .terms .sell) e .side ≡ 2 = ap (λ (s : Bool). buyEvent s e .side) (terms-sell o h) ∙ side-market (isSell o) e k d in
+    ends-by o es h e i (subst (λ (s : Bool). Sold s e (run a es)) (terms-sell o h) (market-taken es a e i (k, side)))
