@@ -6,6 +6,7 @@ pub mod Opening
 pub mod RealLaws
 pub mod Real
 pub mod Standing
+pub mod MarketTrades
 pub mod SharedFigures
 pub mod BuyShares
 pub mod Shared

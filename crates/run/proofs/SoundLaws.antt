@@ -2,7 +2,7 @@
 use mathlib.Core.Path.{_≡_, refl, sym, ap, subst, _∙_}
 use mathlib.Core.Bool.{Bool, true, false, cond, not}
 use mathlib.Core.List.{List, [], _∷_}
-use mathlib.Core.Logic.{_≢_}
+use mathlib.Core.Logic.{_⊎_, inl, inr, _≢_}
 use Prim.Native.Nat.{ℕ, _+_, _-_, _≤_, _<_, min, max}
 use native.Mathlib.Nat.{le-refl, le-of-lt}
 use native.Mathlib.Omega.{arith}
@@ -83,18 +83,20 @@ sound-opened o h = let k = opened o h in subst Sound (sym (k .auction)) (opened-
 
 -- ---- a step
 
--- the size of a GTX response or a limit order in form
+-- the size of a GTX response, a limit order or a market order in form
 size-some : (e : Event) → eventFormed e ≡ true → shapeOf (e .kind) .f12 .low ≤ sizeOf e
 unfolding eventFormed shapeTests
 size-some e h = within-ge (sizeOf e) (shapeOf (e .kind) .f12 .low) (shapeOf (e .kind) .f12 .high) (each (shapeTests (shapeOf (e .kind)) e) true h 4)
 
-size-one : (e : Event) → e .kind ≡ 1 → eventFormed e ≡ true → 1 ≤ sizeOf e
+-- the kinds that have a size
+sized : (k : ℕ) → (k ≡ 1) ⊎ ((k ≡ 3) ⊎ (k ≡ 4)) → shapeOf k .f12 .low ≡ 1
 unfolding shapeOf
-size-one e k h = let z : shapeOf (e .kind) .f12 .low ≡ 1 = ap (λ (n : ℕ). shapeOf n .f12 .low) k in omega (arith, size-some e h, z)
+sized k (inl z) = ap (λ (n : ℕ). shapeOf n .f12 .low) z
+sized k (inr (inl z)) = ap (λ (n : ℕ). shapeOf n .f12 .low) z
+sized k (inr (inr z)) = ap (λ (n : ℕ). shapeOf n .f12 .low) z
 
-size-three : (e : Event) → e .kind ≡ 3 → eventFormed e ≡ true → 1 ≤ sizeOf e
-unfolding shapeOf
-size-three e k h = let z : shapeOf (e .kind) .f12 .low ≡ 1 = ap (λ (n : ℕ). shapeOf n .f12 .low) k in omega (arith, size-some e h, z)
+pub size-least : (e : Event) → (e .kind ≡ 1) ⊎ ((e .kind ≡ 3) ⊎ (e .kind ≡ 4)) → eventFormed e ≡ true → 1 ≤ sizeOf e
+size-least e k h = omega (arith, size-some e h, sized (e .kind) k)
 
 -- the auction after an event that changed it
 abbrev after : Auction → Event → Change → Ending → Auction
@@ -153,11 +155,11 @@ module _ (v : Sight) (a : Auction) (e : Event) (fits : Fits (a .board) v) (s : S
         gtx = λ k _ f p.
             let k1 : e .kind ≡ 1 = sym (buy-kind e sell) ∙ k in
             seated-sound (responseOf true (min (sizeOf (buyEvent sell e)) (a .head .terms .size)) (buyEvent sell e)) Open f (buy-sequence e sell)
-            (omega (arith, priced-size e sell (mirror-one e k1), size-one e k1 (o .formed), s .size)) p;
+            (omega (arith, priced-size e sell (mirror-one e k1), size-least e (inl k1) (o .formed), s .size)) p;
         limit = λ g k _ f p.
             let k3 : e .kind ≡ 3 = sym (buy-kind e sell) ∙ k in
             seated-sound (responseOf false (sizeOf (buyEvent sell e)) (buyEvent sell e)) g f (buy-sequence e sell)
-            (omega (arith, priced-size e sell (mirror-three e k3), size-three e k3 (o .formed))) p;
+            (omega (arith, priced-size e sell (mirror-three e k3), size-least e (inr (inl k3)) (o .formed))) p;
         clear = λ k f.
             after-sound a e (Free (v .found)) Open s (s .bound-below) (cleared-good (a .board) (v .found) (s .board))
             (clear-every (a .board) (s .board) (Stands (e .sequence) (a .head .terms .initiating)) (v .found) stand)
