@@ -1,13 +1,14 @@
 -- The proofs of the promise.
 pub mod Below
 pub mod Answered
+pub mod Resent
 pub mod Tapes
 pub mod Opening
 pub mod RealLaws
 pub mod Real
-pub mod Standing
-pub mod MarketTrades
-pub mod SharedFigures
 pub mod BuyShares
 pub mod Shared
-pub mod Resent
+pub mod SharedFigures
+pub mod Standing
+pub mod MarketTrades
+pub mod Traded

@@ -18,7 +18,7 @@ use Rattle.tape.specs.declared.order.Order.{Order}
 use Rattle.tape.specs.declared.event.Event.{Event}
 use Rattle.tape.specs.rules.Fields.{sizeOf}
 use Rattle.tape.proofs.FormLaws.{order-bounds}
-use Rattle.trade.specs.rules.Trade.{traded, working, entry}
+use Rattle.trade.specs.rules.Trade.{working, entry}
 use Rattle.trade.specs.rules.Write.{reportedPrice}
 use Rattle.demand.specs.promises.Demands.{got, soldAt}
 use Rattle.demand.specs.promises.Demands as demands
@@ -28,13 +28,12 @@ use Rattle.auction.specs.rules.Accept.{initiatingOf, termsOf, acceptOf}
 use Rattle.auction.specs.declared.Terms.{Terms}
 use Rattle.auction.specs.declared.Entry.the-variants.{Accepted}
 use Rattle.fills.specs.rules.Fills.{dealOf}
-use Rattle.run.specs.promises.Demands.{Within, Trades}
 use Rattle.run.proofs.Accepted.{opened, below-limit}
-use Rattle.run.proofs.Resend.{one}
-use Rattle.promise.specs.rules.Sides.{isSell, better, sent, responses, taken, last, range, written, there, market, worksAt}
+use Rattle.promise.specs.rules.Sides.{isSell, better, sent, last, written, there, market, worksAt}
 use Rattle.promise.specs.promises.Parts.{Ended, Party, OneRecord, after}
 use Rattle.promise.specs.promises.Parts.Party.{theContra, aResponse, theMarket}
-use Rattle.promise.proofs.RealLaws.{better-shown, shown, Shows, in-shown, sent-in, close-terms, close-board, deal, live, dealt, ended-well, demand, terms-are, mode-is, size-is, written-is, there-is, sent-fits, initiating-fits, price-fits, working-fits, works-is, got-is, was-live, every-written}
+use Rattle.promise.proofs.RealLaws.{better-shown, shown, Shows, in-shown, sent-in, close-terms, close-board, deal, live, dealt, demand, terms-are, mode-is, written-is, there-is, sent-fits, initiating-fits, price-fits, working-fits, works-is, got-is, was-live, every-written}
+use Rattle.promise.proofs.Resent.{one-record, ended-by}
 
 -- ---- a price against a field of the order
 
@@ -81,21 +80,7 @@ capped : (b : Bool) (n m k : ℕ) → k ≡ cond b (min n m) n → k ≤ n
 capped true n m k e = omega (arith, e)
 capped false n m k e = omega (arith, e)
 
--- ---- the half of demand 3 that needs no level of the walk
-
-module _ (o : Order) (es : List Event) where
-  pub record Real : Type 0 where
-    pub adds-up : traded (written o es) ≡ o .size
-    pub in-range : Every (Within (range o es)) (written o es)
-    pub own-limit : Every (λ f. better (isSell o) (o .limit) (f .price) ≡ false) (written o es)
-    pub some : Every (λ f. 1 ≤ f .quantity) (written o es)
-    pub parties : Every (Party o es) (written o es)
-    pub one-record : (e f : Event) → In e (taken o es) → In f (taken o es) → e .sequence ≡ f .sequence → e ≡ f
-    pub contra-limit : o .mode ≢ 2 → Every (λ f. f .party ≡ 0 → better (isSell o) (f .price) (o .stop) ≡ false) (written o es)
-    pub works : (r : Response) → In r (there o es) → Every (λ f. f .party ≡ r .sequence → f .price ≡ worksAt o es r) (written o es)
-    pub fits : (r : Response) → In r (there o es) → got (r .sequence) (written o es) ≤ r .size
-    pub priority : (r : Response) → In r (there o es) → (f : Fill) → In f (written o es) → better (isSell o) (worksAt o es r) (f .price) ≡ true → got (r .sequence) (written o es) ≡ r .size
-    pub clauses : Trades (last o es)
+-- ---- what needs no level of the walk
 
 module _ (o : Order) (es : List Event) (h : acceptOf o .answer ≡ Accepted) where
   abbrev dealing : demands.Demand3 (deal o es h) (last o es .board) (dealt o es h)
@@ -119,15 +104,15 @@ module _ (o : Order) (es : List Event) (h : acceptOf o .answer ≡ Accepted) whe
       let e : entry (deal o es h) ≡ max (deal o es h .stop) (deal o es h .bound) = simp m in
       omega (arith, e, stop-is n)
 
-  own-limit : Every (λ f. better (isSell o) (o .limit) (f .price) ≡ false) (written o es)
+  pub own-limit : Every (λ f. better (isSell o) (o .limit) (f .price) ≡ false) (written o es)
   own-limit =
       every-written o es h (demands.InRange (deal o es h)) (λ f. better (isSell o) (o .limit) (f .price) ≡ false)
       (λ f _ k. not-below (isSell o) (o .limit) (f .price) (omega (arith, order-bounds o (opened o h .formed) .limit)) (omega (arith, k .high, in-limit))) (dealing .in-range)
 
-  some : Every (λ f. 1 ≤ f .quantity) (written o es)
+  pub some : Every (λ f. 1 ≤ f .quantity) (written o es)
   some = every-written o es h (demands.InRange (deal o es h)) (λ f. 1 ≤ f .quantity) (λ f _ k. k .some) (dealing .in-range)
 
-  contra-limit : o .mode ≢ 2 → Every (λ f. f .party ≡ 0 → better (isSell o) (f .price) (o .stop) ≡ false) (written o es)
+  pub contra-limit : o .mode ≢ 2 → Every (λ f. f .party ≡ 0 → better (isSell o) (f .price) (o .stop) ≡ false) (written o es)
   contra-limit n =
       every-written o es h (λ f. f .party ≡ 0 → entry (deal o es h) ≤ f .price) (λ f. f .party ≡ 0 → better (isSell o) (f .price) (o .stop) ≡ false)
       (λ f _ k z. not-beyond (isSell o) (o .stop) (f .price) (omega (arith, k z, from-stop n))) (dealing .contra-limit)
@@ -138,16 +123,16 @@ module _ (o : Order) (es : List Event) (h : acceptOf o .answer ≡ Accepted) whe
   each-there : (P : Response → Type 0) → ((r : Response) → In r (live o es h) → P (sent (isSell o) r)) → (r : Response) → In r (there o es) → P r
   each-there P g r i = let k = was-live o es h r i in subst P (sym (k .is)) (g (k .response) (k .live))
 
-  works : (r : Response) → In r (there o es) → Every (λ f. f .party ≡ r .sequence → f .price ≡ worksAt o es r) (written o es)
+  pub works : (r : Response) → In r (there o es) → Every (λ f. f .party ≡ r .sequence → f .price ≡ worksAt o es r) (written o es)
   works =
       each-there (λ r. Every (λ f. f .party ≡ r .sequence → f .price ≡ worksAt o es r) (written o es))
       (λ r i. every-written o es h (λ f. f .party ≡ r .sequence → f .price ≡ working (deal o es h) r) (λ f. f .party ≡ r .sequence → f .price ≡ worksAt o es (sent (isSell o) r))
       (λ f _ k z. ap (reportedPrice (isSell o)) (k z) ∙ sym (works-is o es h r)) (dealing .works-at r i))
 
-  fits : (r : Response) → In r (there o es) → got (r .sequence) (written o es) ≤ r .size
+  pub fits : (r : Response) → In r (there o es) → got (r .sequence) (written o es) ≤ r .size
   fits = each-there (λ r. got (r .sequence) (written o es) ≤ r .size) (λ r i. omega (arith, got-is o es h (r .sequence), dealing .response-fits r i))
 
-  priority : (r : Response) → In r (there o es) → (f : Fill) → In f (written o es) → better (isSell o) (worksAt o es r) (f .price) ≡ true → got (r .sequence) (written o es) ≡ r .size
+  pub priority : (r : Response) → In r (there o es) → (f : Fill) → In f (written o es) → better (isSell o) (worksAt o es r) (f .price) ≡ true → got (r .sequence) (written o es) ≡ r .size
   priority =
       each-there (λ r. (f : Fill) → In f (written o es) → better (isSell o) (worksAt o es r) (f .price) ≡ true → got (r .sequence) (written o es) ≡ r .size)
       (λ r i f j z.
@@ -162,51 +147,34 @@ module _ (o : Order) (es : List Event) (h : acceptOf o .answer ≡ Accepted) whe
 
   -- ---- who trades
 
-  module _ (h1 : Every (OneRecord o es) (responses (after o es))) (h2 : 0 < market o es .size → Ended o es) where
-    -- the records of the responses live at the ending
-    still : Every (OneRecord o es) (there o es)
-    still =
-        subst (λ (rs : List Response). Every (OneRecord o es) rs)
-        (sym (ap (λ (s : Bool). map (sent s) (liveOf (last o es .board))) (ap (λ (t : Terms). t .sell) (close-terms (after o es)))
-        ∙ ap (λ (b : Board). map (sent (after o es .head .terms .sell)) (liveOf b)) (close-board (after o es)))) h1
+  -- the records of the responses live at the ending
+  still : Every (OneRecord o es) (there o es)
+  still =
+      subst (λ (rs : List Response). Every (OneRecord o es) rs)
+      (sym (ap (λ (s : Bool). map (sent s) (liveOf (last o es .board))) (ap (λ (t : Terms). t .sell) (close-terms (after o es)))
+      ∙ ap (λ (b : Board). map (sent (after o es .head .terms .sell)) (liveOf b)) (close-board (after o es)))) (one-record o es h)
 
-    party-of : (f : Fill) → In f (dealt o es h) → demands.Party (deal o es h) (last o es .board) (f .party) → Party o es (shown (isSell o) f)
-    unfolding dealOf
-    party-of f i (isContra z) = theContra z
-    party-of f i (isMarket z n) =
-        let k = h2 n in
-        let e : Event = k .record-of in
-        let s : market o es .sequence ≡ e .sequence = k .ends .sequence in
-        let g : got (e .sequence) (written o es) ≡ got (market o es .sequence) (dealt o es h) = ap (λ (m : ℕ). got m (written o es)) (sym s) ∙ got-is o es h (market o es .sequence) in
-        theMarket e (k .ends) (z ∙ s) (omega (arith, g, dealing .market-fits n, k .ends .size))
-    party-of f i (isResponse r j z) =
-        let t : In (sent (isSell o) r) (there o es) = subst (In (sent (isSell o) r)) (sym (there-is o es h)) (sent-in (isSell o) (live o es h) r j) in
-        let k : OneRecord o es (sent (isSell o) r) = every-in (OneRecord o es) (there o es) (sent (isSell o) r) still t in
-        let e : Event = k .record-of in
-        let s : r .sequence ≡ e .sequence = k .sends .sequence in
-        let g : got (e .sequence) (written o es) ≡ got (r .sequence) (dealt o es h) = ap (λ (m : ℕ). got m (written o es)) (sym s) ∙ got-is o es h (r .sequence) in
-        let p : r .price ≤ f .price = every-in (λ x. x .party ≡ r .sequence → r .price ≤ x .price) (dealt o es h) f (dealing .own-limit r j) i (sym z) in
-        let b : better (isSell o) (reportedPrice (isSell o) (f .price)) (reportedPrice (isSell o) (r .price)) ≡ false =
-        better-shown (isSell o) (f .price) (r .price) (omega (arith, price-fits o es h f i)) (omega (arith, sent-fits o es h r j, initiating-fits o es h)) ∙ le-ltb _ _ p in
-        aResponse e (sent (isSell o) r) t (k .sends) (sym z ∙ s)
-        (omega (arith, g, dealing .response-fits r j, capped (eqb (e .kind) 1) (sizeOf e) (o .size) (r .size) (k .sends .size)))
-        (sym (ap (λ (q : ℕ). better (isSell o) (reportedPrice (isSell o) (f .price)) q) (k .sends .price)) ∙ b)
+  party-of : (f : Fill) → In f (dealt o es h) → demands.Party (deal o es h) (last o es .board) (f .party) → Party o es (shown (isSell o) f)
+  unfolding dealOf
+  party-of f i (isContra z) = theContra z
+  party-of f i (isMarket z n) =
+      let k : Ended o es = ended-by o es h n in
+      let e : Event = k .record-of in
+      let s : market o es .sequence ≡ e .sequence = k .ends .sequence in
+      let g : got (e .sequence) (written o es) ≡ got (market o es .sequence) (dealt o es h) = ap (λ (m : ℕ). got m (written o es)) (sym s) ∙ got-is o es h (market o es .sequence) in
+      theMarket e (k .ends) (z ∙ s) (omega (arith, g, dealing .market-fits n, k .ends .size))
+  party-of f i (isResponse r j z) =
+      let t : In (sent (isSell o) r) (there o es) = subst (In (sent (isSell o) r)) (sym (there-is o es h)) (sent-in (isSell o) (live o es h) r j) in
+      let k : OneRecord o es (sent (isSell o) r) = every-in (OneRecord o es) (there o es) (sent (isSell o) r) still t in
+      let e : Event = k .record-of in
+      let s : r .sequence ≡ e .sequence = k .sends .sequence in
+      let g : got (e .sequence) (written o es) ≡ got (r .sequence) (dealt o es h) = ap (λ (m : ℕ). got m (written o es)) (sym s) ∙ got-is o es h (r .sequence) in
+      let p : r .price ≤ f .price = every-in (λ x. x .party ≡ r .sequence → r .price ≤ x .price) (dealt o es h) f (dealing .own-limit r j) i (sym z) in
+      let b : better (isSell o) (reportedPrice (isSell o) (f .price)) (reportedPrice (isSell o) (r .price)) ≡ false =
+      better-shown (isSell o) (f .price) (r .price) (omega (arith, price-fits o es h f i)) (omega (arith, sent-fits o es h r j, initiating-fits o es h)) ∙ le-ltb _ _ p in
+      aResponse e (sent (isSell o) r) t (k .sends) (sym z ∙ s)
+      (omega (arith, g, dealing .response-fits r j, capped (eqb (e .kind) 1) (sizeOf e) (o .size) (r .size) (k .sends .size)))
+      (sym (ap (λ (q : ℕ). better (isSell o) (reportedPrice (isSell o) (f .price)) q) (k .sends .price)) ∙ b)
 
-    parties : Every (Party o es) (written o es)
-    parties = every-written o es h (λ f. demands.Party (deal o es h) (last o es .board) (f .party)) (Party o es) party-of (dealing .nobody-else)
-
-    pub real : Real o es
-    real =
-        record {
-          adds-up = ended-well o es h .adds-up ∙ size-is o es h;
-          in-range = ended-well o es h .in-range;
-          own-limit = own-limit;
-          some = some;
-          parties = parties;
-          one-record = one (acceptOf o .auction) es;
-          contra-limit = contra-limit;
-          works = works;
-          fits = fits;
-          priority = priority;
-          clauses = ended-well o es h;
-        }
+  pub parties : Every (Party o es) (written o es)
+  parties = every-written o es h (λ f. demands.Party (deal o es h) (last o es .board) (f .party)) (Party o es) party-of (dealing .nobody-else)

@@ -27,14 +27,14 @@ use Rattle.auction.specs.declared.Auction.{Auction}
 use Rattle.auction.specs.declared.Terms.{Terms}
 use Rattle.auction.specs.declared.Range.{Range}
 use Rattle.auction.specs.declared.Entry.the-variants.{Accepted}
-use Rattle.events.specs.rules.Step.{stepOf, closeOf, closeTurn, endedByTime, boardAfter}
+use Rattle.events.specs.rules.Step.{closeOf, closeTurn, endedByTime, boardAfter}
 use Rattle.events.specs.declared.Turn.{Turn}
 use Rattle.fills.specs.rules.Fills.{dealOf}
 use Rattle.run.specs.rules.Run.{run}
 use Rattle.run.specs.promises.Demands.{Stands, Sound, Trades}
 use Rattle.demand.specs.promises.Demands as demands
 use Rattle.run.proofs.Accepted.{opened}
-use Rattle.run.proofs.ComesFrom.{terms-stay}
+use Rattle.run.proofs.ComesFrom.{run-terms}
 use Rattle.run.proofs.SoundLaws.{sound-opened, sound-run, sound-close, demanded}
 use Rattle.promise.specs.rules.Sides.{isSell, better, sent, responses, last, range, written, there, market, walked, worksAt}
 
@@ -138,11 +138,7 @@ pub sizes-sent : (s : Bool) (rs : List Response) → sizes (map (sent s) rs) ≡
 sizes-sent s [] = refl
 sizes-sent s (r ∷ rs) = ap {B = List ℕ} (λ zs. r .size ∷ zs) (sizes-sent s rs)
 
--- ---- the terms never change, and closing by hand leaves the board
-
-run-terms : (es : List Event) (a : Auction) → run a es .head .terms ≡ a .head .terms
-run-terms [] a = refl
-run-terms (e ∷ es) a = run-terms es (stepOf a e .auction) ∙ terms-stay a e
+-- ---- closing by hand leaves the terms and the board
 
 pub close-terms : (a : Auction) → closeOf a .auction .head .terms ≡ a .head .terms
 unfolding closeTurn endedByTime

@@ -1,0 +1,36 @@
+-- Demand 3 of every accepted order and every list of records, in real prices: its parts put together. Assumes nothing.
+use mathlib.Core.Path.{_≡_, _∙_}
+use mathlib.Core.List.{List}
+use Rattle.tape.specs.declared.order.Order.{Order}
+use Rattle.tape.specs.declared.event.Event.{Event}
+use Rattle.auction.specs.rules.Accept.{acceptOf}
+use Rattle.auction.specs.declared.Entry.the-variants.{Accepted}
+use Rattle.run.proofs.Resend.{one}
+use Rattle.promise.specs.promises.Parts.{Traded}
+use Rattle.promise.proofs.RealLaws.{ended-well, size-is, written-is}
+use Rattle.promise.proofs.Real.{own-limit, some, parties, contra-limit, works, fits, priority}
+use Rattle.promise.proofs.Standing.{stand}
+use Rattle.promise.proofs.MarketTrades.{market-trades}
+use Rattle.promise.proofs.Shared.{filled, short, guaranteed}
+
+pub trades : (o : Order) (es : List Event) → acceptOf o .answer ≡ Accepted → Traded o es
+trades o es h =
+    record {
+      adds-up = ended-well o es h .adds-up ∙ size-is o es h;
+      in-range = ended-well o es h .in-range;
+      own-limit = own-limit o es h;
+      some = some o es h;
+      clauses = ended-well o es h;
+      link = written-is o es h;
+      stand = stand o es h;
+      parties = parties o es h;
+      one-record = one (acceptOf o .auction) es;
+      market-trades = market-trades o es h;
+      contra-limit = contra-limit o es h;
+      works = works o es h;
+      fits = fits o es h;
+      priority = priority o es h;
+      filled = filled o es h;
+      short = short o es h;
+      guaranteed = guaranteed o es h;
+    }
