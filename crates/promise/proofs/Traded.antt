@@ -11,7 +11,7 @@ use Rattle.promise.proofs.RealLaws.{ended-well, size-is, written-is}
 use Rattle.promise.proofs.Real.{own-limit, some, parties, contra-limit, works, fits, priority}
 use Rattle.promise.proofs.Standing.{stand}
 use Rattle.promise.proofs.MarketTrades.{market-trades}
-use Rattle.promise.proofs.Shared.{filled, short, guaranteed}
+use Rattle.promise.proofs.Shared.{filled, short, share, covered, guaranteed, guaranteed-last}
 
 pub trades : (o : Order) (es : List Event) → acceptOf o .answer ≡ Accepted → Traded o es
 trades o es h =
@@ -32,5 +32,8 @@ trades o es h =
       priority = priority o es h;
       filled = filled o es h;
       short = short o es h;
+      share = share o es h;
+      covered = covered o es h;
       guaranteed = guaranteed o es h;
+      guaranteed-last = guaranteed-last o es h;
     }
