@@ -212,7 +212,7 @@ bound-is : (a : Auction) → Sound a → boundNow (a .head) ≡ boundBy (a .head
 unfolding boundNow
 bound-is a s = omega (arith, s .bound-below, s .price)
 
-sound-deal : (a : Auction) → Sound a → SoundDeal (dealOf (a .head)) (a .board)
+pub sound-deal : (a : Auction) → Sound a → SoundDeal (dealOf (a .head)) (a .board)
 unfolding dealOf
 sound-deal a s =
     record {
@@ -225,7 +225,7 @@ sound-deal a s =
       market-apart = s .market-apart;
     }
 
-reported-total : (sell : Bool) (fs : List Fill) → traded (reported sell fs) ≡ traded fs
+pub reported-total : (sell : Bool) (fs : List Fill) → traded (reported sell fs) ≡ traded fs
 reported-total sell [] = refl
 reported-total sell (f ∷ fs) = ap (λ (n : ℕ). f .quantity + n) (reported-total sell fs)
 
