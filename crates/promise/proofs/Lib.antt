@@ -1,1 +1,2 @@
 -- The proofs of the promise.
+pub mod Mirrored
