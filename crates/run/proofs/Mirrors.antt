@@ -12,7 +12,7 @@ use Rattle.base.proofs.Numbers.{mirror-twice}
 use Rattle.board.specs.rules.Board.{responseAt, firstFree, findGtx}
 use Rattle.board.specs.declared.Board.{Board}
 use Rattle.board.specs.declared.Response.{Response}
-use Rattle.share.specs.rules.Fills.{Fill, fillOf}
+use Rattle.share.specs.rules.Fills.{Fill, fill, fillOf}
 use Rattle.tape.specs.declared.order.Order.{Order}
 use Rattle.tape.specs.declared.event.Event.{Event}
 use Rattle.tape.specs.rules.Form.{orderFormed, eventFormed}
@@ -274,12 +274,12 @@ module _ (d : Deal) (t : Bool) where
 reported-back : (d : Deal) (fs : List Fill) → d .initiating ≤ 1000000 → Every (InRange d) fs → reported false fs ≡ mirroredFills (reported true fs)
 reported-back d [] h k = refl
 reported-back d (f ∷ fs) h k =
-    ap (λ (p : ℕ). record { party = f .party; price = p; quantity = f .quantity } ∷ reported false fs) (sym (mirror-twice (f .price) (omega (arith, k .0 .high))))
-    ∙ ap (λ (gs : List Fill). record { party = f .party; price = mirrored (mirrored (f .price)); quantity = f .quantity } ∷ gs) (reported-back d fs h (k .1))
+    ap (λ (p : ℕ). fill (f .party) p (f .quantity) ∷ reported false fs) (sym (mirror-twice (f .price) (omega (arith, k .0 .high))))
+    ∙ ap (λ (gs : List Fill). fill (f .party) (mirrored (mirrored (f .price))) (f .quantity) ∷ gs) (reported-back d fs h (k .1))
 
 reported-on : (fs : List Fill) → reported true fs ≡ mirroredFills (reported false fs)
 reported-on [] = refl
-reported-on (f ∷ fs) = ap (λ (gs : List Fill). record { party = f .party; price = mirrored (f .price); quantity = f .quantity } ∷ gs) (reported-on fs)
+reported-on (f ∷ fs) = ap (λ (gs : List Fill). fill (f .party) (mirrored (f .price)) (f .quantity) ∷ gs) (reported-on fs)
 
 trades : (a : Auction) → (a .head .terms .sell ≡ true → Sound a) → auctionFills (flipped a) ≡ mirroredFills (auctionFills a)
 unfolding fillsOf dealOf boundNow
