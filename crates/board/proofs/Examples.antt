@@ -6,7 +6,8 @@ use Prim.Native.Nat.{ℕ, zero, suc}
 use lib.ListN.{replicate}
 use Rattle.words.specs.rules.Bits.{withBit, withoutBit, onesIn, clearIn}
 use Rattle.base.specs.Lists.{sum}
-use Rattle.board.specs.rules.Board.{noResponse, emptyBoard, liveCount, firstFree, liveIn, liveOf, wordOf, seatedAt, cleared, findIn, findGtx, inserted, inSequence, lowestFrom, firstInSequence}
+use Rattle.board.specs.rules.Board.{noResponse, emptyBoard, liveCount, firstFree, liveIn, liveOf, seatedAt, cleared, findIn, findGtx, inserted, inSequence}
+use Rattle.board.specs.inside.Places.{wordOf, lowestFrom, firstInSequence}
 use Rattle.board.specs.declared.Response.{Response}
 use Rattle.board.specs.declared.Board.{Board}
 

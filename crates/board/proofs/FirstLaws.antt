@@ -16,7 +16,8 @@ use Rattle.base.proofs.Numbers.{le-or-lt}
 use Rattle.words.proofs.BitLaws.{bit-or, bit-zero, bit-half, bit-low, no-bit, add-half, add-odd, cut-same, cut-back, without-set, without-not, without-in, without-other, set-is, some-set, LowestBit}
 use Rattle.base.specs.Lists.{Every, Inserts}
 use Rattle.base.specs.Lists.Inserts.{here, there}
-use Rattle.board.specs.rules.Board.{noResponse, responseAt, liveIn, inSequence, lowestFrom, lowest, bears, firstInSequence}
+use Rattle.board.specs.rules.Board.{noResponse, responseAt, liveIn, inSequence}
+use Rattle.board.specs.inside.Places.{lowestFrom, lowest, bears, firstInSequence}
 use Rattle.board.specs.promises.Board.{Earliest}
 use Rattle.board.specs.declared.Response.{Response}
 use Rattle.base.proofs.ListLaws.{every-inserts}

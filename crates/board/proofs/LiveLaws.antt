@@ -14,7 +14,8 @@ use Rattle.words.specs.rules.Bits.{bitAt, withBit, withoutBit, onesIn}
 use Rattle.words.proofs.BitLaws.{bit-or, bit-zero, bit-half, bit-low, no-bit, add-half, add-odd, cut-same, cut-back, with-clear, with-other, without-set, without-not, without-in, without-other, LowestBit}
 use Rattle.base.specs.Lists.{keep, filter, Every, Inserts}
 use Rattle.base.specs.Lists.Inserts.{here, there}
-use Rattle.board.specs.rules.Board.{liveIn, wordOf}
+use Rattle.board.specs.rules.Board.{liveIn}
+use Rattle.board.specs.inside.Places.{wordOf}
 use Rattle.base.proofs.ListLaws.{filter-keep}
 
 low-bit : (w : ℕ) → w % 2 ≡ 1 → bitAt w 0 ≡ true

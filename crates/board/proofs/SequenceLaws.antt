@@ -11,7 +11,8 @@ use Rattle.base.proofs.Numbers.{le-or-lt}
 use Rattle.base.specs.Lists.{filter, Every, Inserts, Shuffles}
 use Rattle.base.specs.Lists.Inserts.{here, there}
 use Rattle.base.specs.Lists.Shuffles.{none, more}
-use Rattle.board.specs.rules.Board.{inserted, inSequence, bears}
+use Rattle.board.specs.rules.Board.{inserted, inSequence}
+use Rattle.board.specs.inside.Places.{bears}
 use Rattle.board.specs.promises.Board.{RisingFrom}
 use Rattle.board.specs.declared.Response.{Response}
 use Rattle.base.proofs.ListLaws.{filter-pass, filter-fail, inserts-fail, shuffles-every}

@@ -16,7 +16,7 @@ use Rattle.listing.proofs.DecimalLaws.{decimal-value}
 use Rattle.listing.proofs.LengthLaws.{listing-fits}
 use Rattle.listing.proofs.Examples.{case-c, case-e, no-bytes}
 
-length-answer : (n : ℕ) (run : Run) → lengthIn (answerOf n run) ≡ n
+pub length-answer : (n : ℕ) (run : Run) → lengthIn (answerOf n run) ≡ n
 length-answer n (refused number) = refl
 length-answer n (ended first said last) = refl
 

@@ -1,19 +1,16 @@
 -- The tape whose order and records in form are mirrored has the mirrored listing, for buys and sells. Assumes nothing.
 use mathlib.Core.Path.{_≡_, refl, sym, ap, ap₂, _∙_}
-use mathlib.Core.Bool.{Bool, true, false, cond, not, _&&_}
+use mathlib.Core.Bool.{Bool, true, false, cond, not}
 use mathlib.Core.List.{List, [], _∷_, _++_}
 use Prim.Native.Nat.{ℕ}
-use lib.Dec.{ltb}
-use lib.ListN.{length, drop}
-use Rattle.base.proofs.Bools.{by, and-right}
+use lib.ListN.{drop}
 use Rattle.share.specs.rules.Fills.{Fill}
 use Rattle.tape.specs.declared.order.Order.{Order}
-use Rattle.tape.specs.declared.order.ReadOrder.{ReadOrder}
 use Rattle.tape.specs.declared.order.ReadOrder.the-variants.{Order as GotOrder}
 use Rattle.tape.specs.declared.event.Event.{Event}
 use Rattle.tape.specs.rules.Form.{orderFormed, eventFormed}
-use Rattle.tape.specs.rules.Records.{orderOf, orderSpare, readOrder}
 use Rattle.tape.specs.rules.Tape.{orderIn}
+use Rattle.roundtrip.proofs.RoundTrip.{order-formed}
 use Rattle.mirror.specs.rules.Mirror.{mirroredOrder, mirroredEvent}
 use Rattle.mirror.proofs.MirrorForm.{order-twice, event-twice, event-form}
 use Rattle.trade.specs.rules.Trade.{traded}
@@ -25,27 +22,13 @@ use Rattle.auction.specs.declared.Range.{Range}
 use Rattle.auction.specs.declared.Entry.{Entry}
 use Rattle.auction.specs.declared.Entry.the-variants.{Accepted, Refused}
 use Rattle.fills.specs.rules.Fills.{auctionFills}
-use Rattle.run.specs.rules.Run.{Said, heard, run, played, runEntry, runOrder, runTape, runOf}
+use Rattle.run.specs.rules.Run.{Said, heard, run, played, runEntry, runOf}
 use Rattle.run.specs.promises.Demands.{Sound, flippedHead, flipped, mirroredRecord, mirroredRecords, mirroredFills, mirroredRange}
 use Rattle.run.proofs.SoundLaws.{sound-opened, sound-run, sound-close, reported-total}
 use Rattle.run.proofs.Mirrors.{mirrors as auctions}
 use Rattle.listing.specs.rules.Listing.{field, rangeText, sideText, auctionLine, eventLines, endText, endLine, fillLines, totalLine, endLines, linesOf, listingOf}
 use Rattle.promise.specs.rules.Tapes.{Carries, mirroredLines}
-
--- ---- what is known of a tape that carries an order and records
-
-pub run-carried : (s : List ℕ) (r : ReadOrder) (es : List Event) → Carries s r es → runOf s ≡ runOrder es r
-unfolding runOf
-run-carried s r es c = ap (runTape s) (c .opens) ∙ ap₂ runOrder (c .records) (c .order)
-
--- an order that was read is in form
-pub order-formed : (s : List ℕ) (o : Order) → readOrder s ≡ GotOrder o → orderFormed o ≡ true
-unfolding readOrder
-order-formed s o =
-    by (λ (r : ReadOrder). r ≡ GotOrder o → orderFormed o ≡ true) (ltb (length s) 64) _ _ (λ _ z. cc) (λ _.
-    by (λ (r : ReadOrder). r ≡ GotOrder o → orderFormed o ≡ true) (orderSpare s && orderFormed (orderOf s)) _ _
-    (λ t z. let e : orderOf s ≡ o = cc in ap orderFormed (sym e) ∙ and-right (orderSpare s) (orderFormed (orderOf s)) t)
-    (λ _ z. cc))
+use Rattle.promise.proofs.Answered.{run-carries}
 
 -- ---- the lines of the same auction for the other side
 
@@ -84,7 +67,7 @@ module _ (o : Order) (es : List Event) where
       ∙ ap (λ (l : List ℕ). (sideText (not (first .head .terms .sell)) ++ (field " size " (first .head .terms .size) ++ rangeText (mirroredRange (rangeOf (first .head))))) ++ (eventLines (heard first es) ++ l))
       (ap endLines (auctions .plays o es e) ∙ end-mirrored (played o es) (sound-close (run first es) (sound-run es first k)))
 
-  order-mirrored : orderFormed o ≡ true → linesOf (runOrder (mirroredRecords es) (GotOrder (mirroredOrder o))) ≡ mirroredLines (runOrder es (GotOrder o))
+  order-mirrored : orderFormed o ≡ true → linesOf (runEntry (mirroredRecords es) (acceptOf (mirroredOrder o) .auction) (acceptOf (mirroredOrder o) .answer)) ≡ mirroredLines (runEntry es first (acceptOf o .answer))
   order-mirrored f = ap (λ (n : Entry). linesOf (runEntry (mirroredRecords es) (acceptOf (mirroredOrder o) .auction) n)) (auctions .accepts o f) ∙ go (acceptOf o .answer) refl
     where
       go : (n : Entry) → acceptOf o .answer ≡ n → linesOf (runEntry (mirroredRecords es) (acceptOf (mirroredOrder o) .auction) n) ≡ mirroredLines (runEntry es first n)
@@ -94,9 +77,9 @@ module _ (o : Order) (es : List Event) where
 pub mirrors : (s t : List ℕ) (o : Order) (es : List Event) → Carries s (GotOrder o) es → Carries t (GotOrder (mirroredOrder o)) (mirroredRecords es) → listingOf t ≡ mirroredLines (runOf s)
 unfolding listingOf orderIn
 mirrors s t o es c d =
-    ap linesOf (run-carried t (GotOrder (mirroredOrder o)) (mirroredRecords es) d)
+    ap linesOf (run-carries t (mirroredOrder o) (mirroredRecords es) d)
     ∙ order-mirrored o es (order-formed (drop (c .trailer .order) s) o (c .order))
-    ∙ ap mirroredLines (sym (run-carried s (GotOrder o) es c))
+    ∙ ap mirroredLines (sym (run-carries s o es c))
 
 -- ---- mirrored again
 

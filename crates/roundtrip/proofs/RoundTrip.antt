@@ -4,12 +4,13 @@ use mathlib.Core.Bool.{Bool, true, false, cond, _&&_}
 use mathlib.Core.List.{List, [], _∷_, _++_}
 use Prim.Native.Nat.{ℕ, zero, suc, _+_, _*_, _≤_, _<_}
 use native.Mathlib.Omega.{arith}
-use lib.ListN.{length, getD, take, drop, length-append}
-use lib.Seq.{take-at, getD-drop}
+use lib.ListN.{length, getD, take, drop, length-append, length-drop}
+use lib.Seq.{take-at, drop-at, drop-drop, getD-drop}
 use lib.Dec.{ltb, eqb}
 use borrow.Author.Tests.{le-ltb, ltb-false, leb-true, eqb-true}
-use Rattle.words.specs.rules.Bytes.{AllBytes, joined, wordBytes, wordAt, wordsFrom}
-use Rattle.words.proofs.ByteLaws.{Fit, bytes-joined, length-wordBytes, row-read, row-back, word-in}
+use Rattle.words.specs.rules.Bytes.{AllBytes, joined, u32Bytes, wordBytes, wordAt}
+use Rattle.words.specs.inside.Row.{wordsFrom}
+use Rattle.words.proofs.ByteLaws.{Fit, bytes-joined, length-wordBytes, row-past, row-read, row-back, word-in, word-alone}
 use Rattle.tape.specs.declared.order.Order.{Order}
 use Rattle.tape.specs.declared.event.Event.{Event}
 use Rattle.tape.specs.declared.trailer.Trailer.{Trailer}
@@ -34,9 +35,10 @@ unfolding orderWords
 order-fit o b =
     (four-fit (o .side) (o .mode) (o .marks) (omega arith) (omega arith) (omega arith), (omega arith, (omega arith, (omega arith, (omega arith, (omega arith, (omega arith, (omega arith, (omega arith, (omega arith, (omega arith, (omega arith, (omega arith, (omega arith, (omega arith, (omega arith, tt))))))))))))))))
 
-event-fit : (e : Event) → Word (e .sequence) → eventFormed e ≡ true → Fit (eventWords e) × (e .kind < 256) × (e .marks < 256) × (e .side < 256)
+-- an event's, but for its sequence
+event-fit : (e : Event) → eventFormed e ≡ true → Fit (drop 1 (eventWords e)) × (e .kind < 256) × (e .marks < 256) × (e .side < 256)
 unfolding eventFormed shapeTests eventWords
-event-fit e w h =
+event-fit e h =
     let s = shapeOf (e .kind) in
     let b = row-bounds (e .kind) in
     let t : (i : ℕ) → getD (shapeTests s e) i true ≡ true = each (shapeTests s e) true h in
@@ -48,7 +50,7 @@ event-fit e w h =
     let f16 : e .f16 ≤ s .f16 .high = within-le (e .f16) (s .f16 .low) (s .f16 .high) (t 5) in
     let f20 : e .f20 ≤ s .f20 .high = within-le (e .f20) (s .f20 .low) (s .f20 .high) (t 6) in
     let f24 : e .f24 ≤ s .f24 .high = within-le (e .f24) (s .f24 .low) (s .f24 .high) (t 7) in
-    let words : Fit (eventWords e) = (w, (omega arith, (four-fit (e .kind) (e .marks) (e .side) (omega arith) (omega arith) (omega arith), (omega arith, (omega arith, (omega arith, (omega arith, (omega arith, tt)))))))) in
+    let words : Fit (drop 1 (eventWords e)) = (omega arith, (four-fit (e .kind) (e .marks) (e .side) (omega arith) (omega arith) (omega arith), (omega arith, (omega arith, (omega arith, (omega arith, (omega arith, tt))))))) in
     (words, omega arith, omega arith, omega arith)
 
 -- ---- any record: a row of words `ws`
@@ -155,14 +157,18 @@ order-written o l ok =
     simp (le-ltb (length s) 64 n, spare, back, ok)
 
 -- what an order that was read says of its bytes
-order-read : (s : List ℕ) (o : Order) → AllBytes s → readOrder s ≡ GotOrder o → (orderFormed o ≡ true) × (wordBytes (orderWords o) ≡ take 64 s)
+order-tests : (s : List ℕ) (o : Order) → readOrder s ≡ GotOrder o → (ltb (length s) 64 ≡ false) × ((orderSpare s && orderFormed (orderOf s)) ≡ true) × (orderOf s ≡ o)
 unfolding readOrder
+order-tests s o h = took-order (ltb (length s) 64) (orderSpare s && orderFormed (orderOf s)) (orderOf s) o h
+
+pub order-formed : (s : List ℕ) (o : Order) → readOrder s ≡ GotOrder o → orderFormed o ≡ true
+order-formed s o h = let t = order-tests s o h in ap orderFormed (sym (t .2)) ∙ and-right (orderSpare s) (orderFormed (orderOf s)) (t .1)
+
+pub order-read : (s : List ℕ) (o : Order) → AllBytes s → readOrder s ≡ GotOrder o → wordBytes (orderWords o) ≡ take 64 s
 order-read s o b h =
-    let t : (ltb (length s) 64 ≡ false) × ((orderSpare s && orderFormed (orderOf s)) ≡ true) × (orderOf s ≡ o) = took-order (ltb (length s) 64) (orderSpare s && orderFormed (orderOf s)) (orderOf s) o h in
-    let n : 64 ≤ length s = ltb-false (length s) 64 (t .0) in (
-      ap orderFormed (sym (t .2)) ∙ and-right (orderSpare s) (orderFormed (orderOf s)) (t .1),
-      ap (λ (x : Order). wordBytes (orderWords x)) (sym (t .2)) ∙ ap wordBytes (order-words s n (and-left (orderSpare s) (orderFormed (orderOf s)) (t .1))) ∙ record-back s 16 b n,
-    )
+    let t = order-tests s o h in
+    let n : 64 ≤ length s = ltb-false (length s) 64 (t .0) in
+    ap (λ (x : Order). wordBytes (orderWords x)) (sym (t .2)) ∙ ap wordBytes (order-words s n (and-left (orderSpare s) (orderFormed (orderOf s)) (t .1))) ∙ record-back s 16 b n
 
 -- ---- the event
 
@@ -183,34 +189,47 @@ event-words s h z =
     let w28 : wordAt s 28 ≡ 0 = eqb-true (wordAt s 28) 0 (and-right (eqb (getD s 11 0) 0) _ z) in
     simp (four-word s 8 (omega arith) b11, w28)
 
-event-front : (e : Event) (l : List ℕ) → e .kind < 256 → e .marks < 256 → e .side < 256 → drop 8 (wordBytes (eventWords e) ++ l) ≡ (e .kind ∷ e .marks ∷ e .side ∷ 0 ∷ []) ++ drop 12 (wordBytes (eventWords e) ++ l)
+event-front : (e : Event) (l : List ℕ) → e .kind < 256 → e .marks < 256 → e .side < 256
+    → drop 4 (wordBytes (drop 1 (eventWords e)) ++ l) ≡ (e .kind ∷ e .marks ∷ e .side ∷ 0 ∷ []) ++ drop 8 (wordBytes (drop 1 (eventWords e)) ++ l)
 unfolding eventWords
-event-front e l hk hm hs = ap (λ (f : List ℕ). f ++ drop 12 (wordBytes (eventWords e) ++ l)) (bytes-joined (e .kind) (e .marks) (e .side) 0 hk hm hs (omega arith))
+event-front e l hk hm hs = ap (λ (f : List ℕ). f ++ drop 8 (wordBytes (drop 1 (eventWords e)) ++ l)) (bytes-joined (e .kind) (e .marks) (e .side) 0 hk hm hs (omega arith))
 
 event-spares : (s : List ℕ) (e : Event) → getD s 11 0 ≡ 0 → wordsFrom s 0 8 ≡ eventWords e → eventSpare s ≡ true
 unfolding eventSpare eventWords
 event-spares s e b11 w = let z : wordAt s 28 ≡ 0 = ap (λ (l : List ℕ). getD l 7 0) w in simp (b11, z)
 
-pub event-written : (e : Event) (l : List ℕ) → Word (e .sequence) → eventFormed e ≡ true → readEvent (wordBytes (eventWords e) ++ l) ≡ GotEvent e
+event-row : (s : List ℕ) (e : Event) → wordAt s 0 ≡ e .sequence → wordsFrom s 4 7 ≡ drop 1 (eventWords e) → wordsFrom s 0 8 ≡ eventWords e
+unfolding eventWords
+event-row s e q w = ap (λ (x : ℕ). x ∷ wordsFrom s 4 7) q ∙ ap (λ (r : List ℕ). e .sequence ∷ r) w
+
+-- an event is read where four bytes that say its sequence stand before the words of its other fields
+pub event-said : (e : Event) (said l : List ℕ) → length said ≡ 4 → wordAt said 0 ≡ e .sequence → eventFormed e ≡ true → readEvent (said ++ (wordBytes (drop 1 (eventWords e)) ++ l)) ≡ GotEvent e
 unfolding readEvent
-event-written e l q ok =
-    let b : Fit (eventWords e) × (e .kind < 256) × (e .marks < 256) × (e .side < 256) = event-fit e q ok in
-    let s : List ℕ = wordBytes (eventWords e) ++ l in
-    let w : wordsFrom s 0 8 ≡ eventWords e = ap (wordsFrom s 0) (sym (event-length e)) ∙ row-read (eventWords e) l (b .0) in
-    let f : drop 8 s ≡ (e .kind ∷ e .marks ∷ e .side ∷ 0 ∷ []) ++ drop 12 s = event-front e l (b .1) (b .2) (b .3) in
-    let g : (k : ℕ) → getD s (8 + k) 0 ≡ getD ((e .kind ∷ e .marks ∷ e .side ∷ 0 ∷ []) ++ drop 12 s) k 0 = λ k. sym (getD-drop 8 s k 0) ∙ ap (λ (x : List ℕ). getD x k 0) f in
+event-said e said l n q ok =
+    let b = event-fit e ok in
+    let ws : List ℕ = drop 1 (eventWords e) in
+    let x : List ℕ = wordBytes ws ++ l in
+    let s : List ℕ = said ++ x in
+    let seven : length ws ≡ 7 = omega (arith, length-drop 1 (eventWords e), event-length e) in
+    let later : wordsFrom s 4 7 ≡ ws = row-past said x 4 7 0 n ∙ ap (wordsFrom x 0) (sym seven) ∙ row-read ws l (b .0) in
+    let w : wordsFrom s 0 8 ≡ eventWords e = event-row s e (word-alone said x 0 (omega arith) ∙ q) later in
+    let f : drop 8 s ≡ (e .kind ∷ e .marks ∷ e .side ∷ 0 ∷ []) ++ drop 8 x = sym (drop-drop 4 4 s) ∙ ap (drop 4) (drop-at said x 4 n) ∙ event-front e l (b .1) (b .2) (b .3) in
+    let g : (k : ℕ) → getD s (8 + k) 0 ≡ getD ((e .kind ∷ e .marks ∷ e .side ∷ 0 ∷ []) ++ drop 8 x) k 0 = λ k. sym (getD-drop 8 s k 0) ∙ ap (λ (y : List ℕ). getD y k 0) f in
     let back : eventOf s ≡ e = event-from s e (g 0) (g 1) (g 2) w in
     let spare : eventSpare s ≡ true = event-spares s e (g 3) w in
-    let n : 32 ≤ length s = record-long (eventWords e) l 32 (ap (λ (k : ℕ). k * 4) (event-length e)) in
-    simp (le-ltb (length s) 32 n, spare, back, ok)
+    let long : 32 ≤ length s = omega (arith, length-append said x, record-long ws l 28 (ap (λ (k : ℕ). k * 4) seven)) in
+    simp (le-ltb (length s) 32 long, spare, back, ok)
 
-event-read : (s : List ℕ) (e : Event) → AllBytes s → readEvent s ≡ GotEvent e → (eventFormed e ≡ true) × (wordBytes (eventWords e) ≡ take 32 s)
+-- an event that was written is read
+pub event-written : (e : Event) (l : List ℕ) → Word (e .sequence) → eventFormed e ≡ true → readEvent (wordBytes (eventWords e) ++ l) ≡ GotEvent e
+unfolding eventWords
+event-written e l q ok = event-said e (u32Bytes (e .sequence)) l refl (ap (λ (ws : List ℕ). getD ws 0 0) (row-read (e .sequence ∷ []) [] (q, tt))) ok
+
+pub event-read : (s : List ℕ) (e : Event) → AllBytes s → readEvent s ≡ GotEvent e → wordBytes (eventWords e) ≡ take 32 s
 event-read s e b h =
     let t = event-took s e h in
-    let n : 32 ≤ length s = ltb-false (length s) 32 (t .0) in (
-      event-formed s e h,
-      ap (λ (x : Event). wordBytes (eventWords x)) (sym (t .2)) ∙ ap wordBytes (event-words s n (and-left (eventSpare s) (eventFormed (eventOf s)) (t .1))) ∙ record-back s 8 b n,
-    )
+    let n : 32 ≤ length s = ltb-false (length s) 32 (t .0) in
+    ap (λ (x : Event). wordBytes (eventWords x)) (sym (t .2)) ∙ ap wordBytes (event-words s n (and-left (eventSpare s) (eventFormed (eventOf s)) (t .1))) ∙ record-back s 8 b n
 
 -- ---- the trailer
 
@@ -232,7 +251,7 @@ trailer-written t l ho he =
     let n : 16 ≤ length s = record-long (trailerWords t) l 16 refl in
     trailer-from s t n w
 
-trailer-read : (s : List ℕ) (t : Trailer) → AllBytes s → readTrailer s ≡ GotTrailer t → wordBytes (trailerWords t) ≡ take 16 s
+pub trailer-read : (s : List ℕ) (t : Trailer) → AllBytes s → readTrailer s ≡ GotTrailer t → wordBytes (trailerWords t) ≡ take 16 s
 unfolding readTrailer trailerOf trailerWords
 trailer-read s t b h =
     let k : (ltb (length s) 16 ≡ false) × ((eqb (wordAt s 0) cubt && eqb (wordAt s 12) 0) ≡ true) × (trailerOf s ≡ t) = took-trailer (ltb (length s) 16) (eqb (wordAt s 0) cubt && eqb (wordAt s 12) 0) (trailerOf s) t h in
@@ -258,11 +277,11 @@ unfolding orderWrote eventWrote trailerWrote
 bytes-back =
     record {
       order = λ s out o b h room.
-          wrote-is (orderWords o) out (order-read s o b h .0) (omega (arith, order-length o))
-          ∙ cut 16 (orderWords o) (take 64 s) out (order-length o) (order-read s o b h .1);
+          wrote-is (orderWords o) out (order-formed s o h) (omega (arith, order-length o))
+          ∙ cut 16 (orderWords o) (take 64 s) out (order-length o) (order-read s o b h);
       event = λ s out e b h room.
-          wrote-is (eventWords e) out (event-read s e b h .0) (omega (arith, event-length e))
-          ∙ cut 8 (eventWords e) (take 32 s) out (event-length e) (event-read s e b h .1);
+          wrote-is (eventWords e) out (event-formed s e h) (omega (arith, event-length e))
+          ∙ cut 8 (eventWords e) (take 32 s) out (event-length e) (event-read s e b h);
       trailer = λ s out t b h room.
           wrote-is (trailerWords t) out refl (omega (arith, trailer-length t))
           ∙ cut 4 (trailerWords t) (take 16 s) out (trailer-length t) (trailer-read s t b h);

@@ -1,2 +1,3 @@
--- What is promised of the records of a tape, beyond each function's own contract.
+-- What is promised of the records of a tape, and of whole tapes, beyond each function's own contract.
+pub mod rules
 pub mod promises

@@ -88,13 +88,15 @@ opened o =
     (λ e _. let k = refusal-none o (eqb-true _ _ e) in record { formed = k .0; passes = passed (buyOrder o) (k .1); auction = simp e })
     (λ _ z. no cc)
 
+-- a buy's initiating price is not above its limit
+pub below-limit : (b : Order) → initiatingOf b ≤ b .limit
+unfolding initiatingOf
+below-limit b = by (λ (k : ℕ). k ≤ b .limit) (ltb (b .size) 50) _ _ (λ _. omega arith) (λ _. omega arith)
+
 -- the price of an accepted order is a price
 pub price-fits : (o : Order) → orderFormed o ≡ true → initiatingOf (buyOrder o) ≤ 999999
-unfolding initiatingOf buyOrder mirroredOrder mirrored
-price-fits o f = omega (arith, below (buyOrder o), limit-fits)
+unfolding buyOrder mirroredOrder mirrored
+price-fits o f = omega (arith, below-limit (buyOrder o), limit-fits)
   where
-    below : (b : Order) → initiatingOf b ≤ b .limit
-    below b = by (λ (k : ℕ). k ≤ b .limit) (ltb (b .size) 50) _ _ (λ _. omega arith) (λ _. omega arith)
-
     limit-fits : buyOrder o .limit ≤ 999999
     limit-fits = by (λ (b : Order). b .limit ≤ 999999) (eqb (o .side) 2) _ _ (λ _. omega (arith, order-bounds o f .some-limit)) (λ _. order-bounds o f .limit)

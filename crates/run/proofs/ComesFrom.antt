@@ -1,4 +1,4 @@
--- Each live response comes from one event taken. Assumes nothing.
+-- Each live response comes from one event taken, and so does a market order that ended the auction. Assumes nothing.
 use mathlib.Core.Path.{_≡_, refl, sym, ap, subst, _∙_}
 use mathlib.Core.Bool.{Bool, true, false, cond}
 use mathlib.Core.List.{List, [], _∷_}
@@ -6,7 +6,7 @@ use mathlib.Core.Logic.{_⊎_, inl, inr}
 use Prim.Native.Nat.{ℕ, _≤_, _<_, min}
 use lib.Dec.{eqb}
 use native.Mathlib.Omega.{arith}
-use borrow.Author.Tests.{eq-eqb, ne-eqb}
+use borrow.Author.Tests.{eq-eqb, ne-eqb, eqb-false}
 use Rattle.base.specs.Lists.{In, Every, keep}
 use Rattle.base.proofs.Bools.{by, no}
 use Rattle.base.proofs.ListLaws.{every-map}
@@ -16,25 +16,31 @@ use Rattle.board.proofs.BoardLaws.{empty-live}
 use Rattle.tape.specs.declared.order.Order.{Order}
 use Rattle.tape.specs.declared.event.Event.{Event}
 use Rattle.demand.specs.promises.Demands.{Distinct}
-use Rattle.mirror.specs.rules.Mirror.{buyOrder, buyEvent}
+use Rattle.mirror.specs.rules.Mirror.{mirroredMarket, buyOrder, buyEvent}
 use Rattle.auction.specs.rules.Accept.{openedBy, acceptOf}
 use Rattle.auction.specs.rules.Range.{isOpen}
+use Rattle.tape.specs.rules.Form.{within, sides, eventFormed, shapeOf, shapeTests}
 use Rattle.tape.specs.rules.Fields.{sizeOf}
+use Rattle.tape.proofs.FormLaws.{each, within-ge, within-le}
 use Rattle.events.specs.rules.Step.{sightOf, boardAfter, headAfter, endedByTime, carried, seatedOn, stepOf}
 use Rattle.events.specs.rules.Decide.{responseOf}
 use Rattle.run.specs.rules.Run.{run, isTaken, takenOf}
-use Rattle.run.specs.promises.Demands.{madeBy, ComesFrom, Sound, Resend}
+use Rattle.run.specs.promises.Demands.{madeBy, ComesFrom, MarketFrom, Sound, Resend}
 use Rattle.auction.specs.declared.Auction.{Auction}
 use Rattle.auction.specs.declared.Terms.{Terms}
+use Rattle.auction.specs.declared.Market.{Market}
 use Rattle.auction.specs.declared.Ending.{Ending}
+use Rattle.auction.specs.declared.Ending.the-variants.{Opposite}
+use Rattle.events.specs.declared.Stepped.{Stepped}
 use Rattle.events.specs.declared.Sight.{Sight}
 use Rattle.events.specs.declared.Turn.{Turn}
 use Rattle.auction.specs.declared.Entry.the-variants.{Accepted}
 use Rattle.run.proofs.StepLaws.{Outcomes, Ordinary, Cases, cases}
-use Rattle.mirror.proofs.EventLaws.{buy-sequence, buy-kind}
+use Rattle.mirror.proofs.EventLaws.{buy-sequence, buy-kind, mirror-four}
+use Rattle.mirror.proofs.MirrorForm.{event-form}
 use Rattle.run.proofs.BoardSteps.{sees, seat-every, clear-every}
 use Rattle.run.proofs.Accepted.{Opened, opened}
-use Rattle.run.proofs.Resend.{any-change, taken-any, older, again, rising, one}
+use Rattle.run.proofs.Resend.{any-change, taken-any, keeps, older, again, rising, one}
 use Rattle.run.proofs.SoundLaws.{sound-opened, sound-step, sound-run}
 
 -- r comes from an event of which Q holds
@@ -42,13 +48,42 @@ record From (Q : Event → Type 0) (t : Terms) (r : Response) : Type 0 where
   event : Event
   holds : Q event
   kind : (event .kind ≡ 1) ⊎ (event .kind ≡ 3)
+  side : buyEvent (t .sell) event .side ≡ 2
   made : r ≡ madeBy t event
   named : r .sequence ≡ event .sequence
 
+-- an event in form that has a side, and not side 1, is of side 2
+side-two : (e : Event) → shapeOf (e .kind) .side ≡ sides → eventFormed e ≡ true → eqb (e .side) 1 ≡ false → e .side ≡ 2
+unfolding eventFormed shapeTests
+side-two e s f n =
+    let h : within (e .side) 1 2 ≡ true = rw s at (each (shapeTests (shapeOf (e .kind)) e) true f 3) in
+    let k : e .side ≡ 1 → ⊥ = eqb-false (e .side) 1 n in
+    omega (arith, within-ge (e .side) 1 2 h, within-le (e .side) 1 2 h, k)
+
+-- the kinds that have sides
+sided : (k : ℕ) → (k ≡ 1) ⊎ ((k ≡ 3) ⊎ (k ≡ 4)) → shapeOf k .side ≡ sides
+unfolding shapeOf
+sided k (inl z) = ap (λ (n : ℕ). shapeOf n .side) z
+sided k (inr (inl z)) = ap (λ (n : ℕ). shapeOf n .side) z
+sided k (inr (inr z)) = ap (λ (n : ℕ). shapeOf n .side) z
+
+-- what the engine works with is in form
+buy-form : (s : Bool) (e : Event) → eventFormed e ≡ true → eventFormed (buyEvent s e) ≡ true
+unfolding buyEvent
+buy-form true e f = event-form e f
+buy-form false e f = f
+
+other-side : (s : Bool) (e : Event) → (buyEvent s e .kind ≡ 1) ⊎ ((buyEvent s e .kind ≡ 3) ⊎ (buyEvent s e .kind ≡ 4)) → eventFormed e ≡ true → eqb (buyEvent s e .side) 1 ≡ false → buyEvent s e .side ≡ 2
+other-side s e k f n = side-two (buyEvent s e) (sided (buyEvent s e .kind) k) (buy-form s e f) n
+
 -- the terms never change
-terms-stay : (a : Auction) (e : Event) → stepOf a e .auction .head .terms ≡ a .head .terms
+pub terms-stay : (a : Auction) (e : Event) → stepOf a e .auction .head .terms ≡ a .head .terms
 unfolding headAfter endedByTime
 terms-stay a e = cases (a .head) e (sightOf (a .board) e) (λ t. t .head .terms ≡ a .head .terms) (record { refused = λ _ _. refl; late = λ _. refl; does = λ _. any-change _ _ _ _ _ (λ _ _. refl) (λ _ _. refl) })
+
+pub run-terms : (es : List Event) (a : Auction) → run a es .head .terms ≡ a .head .terms
+run-terms [] a = refl
+run-terms (e ∷ es) a = run-terms es (stepOf a e .auction) ∙ terms-stay a e
 
 module _ (Q : Event → Type 0) (a : Auction) (e : Event) (s : Sound a) where
   abbrev view : Sight
@@ -60,22 +95,22 @@ module _ (Q : Event → Type 0) (a : Auction) (e : Event) (s : Sound a) where
   made-limit : e .kind ≡ 3 → responseOf false (sizeOf (buyEvent (a .head .terms .sell) e)) (buyEvent (a .head .terms .sell) e) ≡ madeBy (a .head .terms) e
   made-limit k = let n : e .kind ≡ 1 → ⊥ = λ z. omega arith in simp (ne-eqb _ _ n)
 
-  does-from : (Q e) → Every (From Q (a .head .terms)) (liveOf (a .board))
+  does-from : (Q e) → eventFormed e ≡ true → Every (From Q (a .head .terms)) (liveOf (a .board))
       → Outcomes (a .head .terms) (a .head .quotes) view (buyEvent (a .head .terms .sell) e) (λ u. Every (From Q (a .head .terms)) (liveOf (seatedOn (a .board) (carried (a .head) e u) .auction .board)))
-  does-from q h =
+  does-from q formed h =
       let free = sees (a .board) e (s .board) .free in
       record {
         refuses = λ n _. h;
         nothing = λ g. h;
-        gtx = λ k f p.
+        gtx = λ k d f p.
             seat-every (a .board) (s .board) (From Q (a .head .terms)) (view .at) (responseOf true (min (sizeOf (buyEvent (a .head .terms .sell) e)) (a .head .terms .size)) (buyEvent (a .head .terms .sell) e)) f (free f)
-            (record { event = e; holds = q; kind = inl (sym (buy-kind e (a .head .terms .sell)) ∙ k); made = made-gtx (sym (buy-kind e (a .head .terms .sell)) ∙ k); named = buy-sequence e (a .head .terms .sell) }) h;
-        limit = λ g k f p.
+            (record { event = e; holds = q; kind = inl (sym (buy-kind e (a .head .terms .sell)) ∙ k); side = other-side (a .head .terms .sell) e (inl k) formed d; made = made-gtx (sym (buy-kind e (a .head .terms .sell)) ∙ k); named = buy-sequence e (a .head .terms .sell) }) h;
+        limit = λ g k d f p.
             seat-every (a .board) (s .board) (From Q (a .head .terms)) (view .at) (responseOf false (sizeOf (buyEvent (a .head .terms .sell) e)) (buyEvent (a .head .terms .sell) e)) f (free f)
-            (record { event = e; holds = q; kind = inr (sym (buy-kind e (a .head .terms .sell)) ∙ k); made = made-limit (sym (buy-kind e (a .head .terms .sell)) ∙ k); named = buy-sequence e (a .head .terms .sell) }) h;
+            (record { event = e; holds = q; kind = inr (sym (buy-kind e (a .head .terms .sell)) ∙ k); side = other-side (a .head .terms .sell) e (inr (inl k)) formed d; made = made-limit (sym (buy-kind e (a .head .terms .sell)) ∙ k); named = buy-sequence e (a .head .terms .sell) }) h;
         clear = λ k f. clear-every (a .board) (s .board) (From Q (a .head .terms)) (view .found) h;
         quote = λ n f. h;
-        sell = h;
+        sell = λ _ _. h;
       }
 
   -- a step that takes no event leaves the board
@@ -88,21 +123,25 @@ module _ (Q : Event → Type 0) (a : Auction) (e : Event) (s : Sound a) where
   step-from q h = go (isTaken (stepOf a e .answer)) refl
     where
       go : (b : Bool) → isTaken (stepOf a e .answer) ≡ b → Every (From Q (a .head .terms)) (liveOf (stepOf a e .auction .board))
-      go true z = cases (a .head) e view (λ t. Every (From Q (a .head .terms)) (liveOf (boardAfter (a .board) (t .change)))) (record { refused = λ _ _. h; late = λ _. h; does = λ _. does-from (q z) h })
+      go true z = cases (a .head) e view (λ t. Every (From Q (a .head .terms)) (liveOf (boardAfter (a .board) (t .change)))) (record { refused = λ _ _. h; late = λ _. h; does = λ o. does-from (q z) (o .formed) h })
       go false z = subst (λ b. Every (From Q (a .head .terms)) (liveOf b)) (sym (untaken z)) h
+
+-- what is taken later is taken
+in-later : (t : Bool) (e f : Event) (es : List Event) → In f es → In f (keep t e es)
+in-later true e f es i = inr i
+in-later false e f es i = i
+
+in-first : (t : Bool) (e : Event) (es : List Event) → t ≡ true → In e (keep t e es)
+in-first t e es z = subst (λ (t : Bool). In e (keep t e es)) (sym z) (inl refl)
 
 run-from : (Q : Event → Type 0) (es : List Event) (a : Auction) → Sound a → Every (From Q (a .head .terms)) (liveOf (a .board)) → ((e : Event) → In e (takenOf a es) → Q e) → Every (From Q (a .head .terms)) (liveOf (run a es .board))
 run-from Q [] a s h q = h
 run-from Q (e ∷ es) a s h q =
     let b : Auction = stepOf a e .auction in
-    let first : isTaken (stepOf a e .answer) ≡ true → Q e = λ z. q e (subst (λ (t : Bool). In e (keep t e (takenOf b es))) (sym z) (inl refl)) in
+    let first : isTaken (stepOf a e .answer) ≡ true → Q e = λ z. q e (in-first (isTaken (stepOf a e .answer)) e (takenOf b es) z) in
     let here : Every (From Q (b .head .terms)) (liveOf (b .board)) = subst (λ (t : Terms). Every (From Q t) (liveOf (b .board))) (sym (terms-stay a e)) (step-from Q a e s first h) in
     subst (λ (t : Terms). Every (From Q t) (liveOf (run b es .board))) (terms-stay a e)
-    (run-from Q es b (sound-step a e s) here (λ f i. q f (later (isTaken (stepOf a e .answer)) f i)))
-  where
-    later : (t : Bool) (f : Event) → In f (takenOf (stepOf a e .auction) es) → In f (keep t e (takenOf (stepOf a e .auction) es))
-    later true f i = inr i
-    later false f i = i
+    (run-from Q es b (sound-step a e s) here (λ f i. q f (in-later (isTaken (stepOf a e .answer)) e f (takenOf b es) i)))
 
 -- a board that was just opened has no response
 empty-from : (Q : Event → Type 0) (s : Bool) (b : Order) → Every (From Q (openedBy s b .head .terms)) (liveOf (openedBy s b .board))
@@ -113,11 +152,97 @@ pub comes-from : (o : Order) (es : List Event) → acceptOf o .answer ≡ Accept
 comes-from o es h =
     let a : Auction = acceptOf o .auction in
     let Q : Event → Type 0 = λ e. In e (takenOf a es) in
-    every-map (From Q (a .head .terms)) (ComesFrom (a .head .terms) (takenOf a es)) (liveOf (run a es .board)) (λ r f. record { event = f .event; taken = f .holds; kind = f .kind; made = f .made; named = f .named })
+    every-map (From Q (a .head .terms)) (ComesFrom (a .head .terms) (takenOf a es)) (liveOf (run a es .board)) (λ r f. record { event = f .event; taken = f .holds; kind = f .kind; side = f .side; made = f .made; named = f .named })
     (run-from Q es a (sound-opened o h) (nobody (opened o h .auction) Q) (λ e i. i))
   where
     nobody : acceptOf o .auction ≡ openedBy (eqb (o .side) 2) (buyOrder o) → (Q : Event → Type 0) → Every (From Q (acceptOf o .auction .head .terms)) (liveOf (acceptOf o .auction .board))
     nobody z Q = subst (λ (a : Auction). Every (From Q (a .head .terms)) (liveOf (a .board))) (sym z) (empty-from Q (eqb (o .side) 2) (buyOrder o))
 
+-- ---- the market order
+
+-- the event e ended the auction a as a market order, and b is the auction then
+record Sold (a : Auction) (e : Event) (b : Auction) : Type 0 where
+  kind : e .kind ≡ 4
+  side : buyEvent (a .head .terms .sell) e .side ≡ 2
+  sequence : b .head .market .sequence ≡ e .sequence
+  size : b .head .market .size ≡ sizeOf e
+  ending : b .head .ending ≡ Opposite
+  latest : b .head .sequence ≡ e .sequence
+
+market-size : (s : Bool) (e : Event) → e .kind ≡ 4 → sizeOf (buyEvent s e) ≡ sizeOf e
+unfolding buyEvent mirroredMarket
+market-size true e k = ap (λ (x : Event). sizeOf x) (mirror-four e k)
+market-size false e k = refl
+
+-- the market order stays as it was, or the event is it
+market-step : (a : Auction) (e : Event) → (stepOf a e .auction .head .market ≡ a .head .market) ⊎ ((isTaken (stepOf a e .answer) ≡ true) × Sold a e (stepOf a e .auction))
+unfolding headAfter endedByTime
+market-step a e =
+    cases (a .head) e (sightOf (a .board) e)
+    (λ t. (t .head .market ≡ a .head .market) ⊎ ((isTaken (t .answer) ≡ true) × Sold a e (seatedOn (a .board) t .auction)))
+    (record {
+      refused = λ _ _. inl refl;
+      late = λ _. inl refl;
+      does = λ o. record {
+        refuses = λ _ _. inl refl;
+        nothing = λ _. inl refl;
+        gtx = λ _ _ _ _. inl refl;
+        limit = λ _ _ _ _ _. inl refl;
+        clear = λ _ _. inl refl;
+        quote = λ _ _. inl refl;
+        sell = λ k d.
+            let k4 : e .kind ≡ 4 = sym (buy-kind e (a .head .terms .sell)) ∙ k in
+            inr (refl, record { kind = k4; side = other-side (a .head .terms .sell) e (inr (inr k)) (o .formed) d; sequence = buy-sequence e (a .head .terms .sell); size = market-size (a .head .terms .sell) e k4; ending = refl; latest = refl });
+      };
+    })
+
+-- an auction that has ended stays
+pub ended-run : (es : List Event) (a : Auction) → isOpen (a .head .ending) ≡ false → run a es ≡ a
+ended-run [] a z = refl
+ended-run (e ∷ es) a z =
+    let s : stepOf a e .auction ≡ a = ap (λ (p : Stepped). p .auction) (keeps .ended (sightOf (a .board) e) a e z) in
+    ap (λ (b : Auction). run b es) s ∙ ended-run es a z
+
+market-run : (es : List Event) (a : Auction) → a .head .market .size ≡ 0 → 0 < run a es .head .market .size → MarketFrom a es (run a es)
+market-run [] a z h = absurd (omega arith)
+market-run (e ∷ es) a z h = go (market-step a e) (market-run es (stepOf a e .auction))
+  where
+    b : Auction
+    b = stepOf a e .auction
+
+    go : (b .head .market ≡ a .head .market) ⊎ ((isTaken (stepOf a e .answer) ≡ true) × Sold a e b) → (b .head .market .size ≡ 0 → 0 < run b es .head .market .size → MarketFrom b es (run b es)) → MarketFrom a (e ∷ es) (run b es)
+    go (inl s) ih =
+        let m : MarketFrom b es (run b es) = ih (ap (λ (x : Market). x .size) s ∙ z) h in
+        record {
+          event = m .event;
+          taken = in-later (isTaken (stepOf a e .answer)) e (m .event) (takenOf b es) (m .taken);
+          kind = m .kind;
+          side = subst (λ (t : Terms). buyEvent (t .sell) (m .event) .side ≡ 2) (terms-stay a e) (m .side);
+          sequence = m .sequence;
+          size = m .size;
+          ending = m .ending;
+          latest = m .latest;
+        }
+    go (inr (t, s)) ih =
+        let stay : run b es ≡ b = ended-run es b (ap isOpen (s .ending)) in
+        subst (MarketFrom a (e ∷ es)) (sym stay)
+        (record {
+          event = e;
+          taken = in-first (isTaken (stepOf a e .answer)) e (takenOf b es) t;
+          kind = s .kind;
+          side = s .side;
+          sequence = s .sequence;
+          size = s .size;
+          ending = s .ending;
+          latest = s .latest;
+        })
+
+none-opened : (s : Bool) (b : Order) → openedBy s b .head .market .size ≡ 0
+unfolding openedBy
+none-opened s b = refl
+
+pub market-from : (o : Order) (es : List Event) → acceptOf o .answer ≡ Accepted → 0 < run (acceptOf o .auction) es .head .market .size → MarketFrom (acceptOf o .auction) es (run (acceptOf o .auction) es)
+market-from o es h = market-run es (acceptOf o .auction) (ap (λ (a : Auction). a .head .market .size) (opened o h .auction) ∙ none-opened (eqb (o .side) 2) (buyOrder o))
+
 pub resend : Resend
-resend = record { older = older; again = again; apart = λ o es h. sound-run es (acceptOf o .auction) (sound-opened o h) .distinct; rising = λ a es. rising es a; comes-from = comes-from; one = one }
+resend = record { older = older; again = again; apart = λ o es h. sound-run es (acceptOf o .auction) (sound-opened o h) .distinct; rising = λ a es. rising es a; comes-from = comes-from; market-from = market-from; one = one }

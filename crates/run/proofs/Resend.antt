@@ -44,11 +44,11 @@ any-change t q s m P r d =
     record {
       refuses = r;
       nothing = λ g. d Nothing g;
-      gtx = λ _ _ _. d (Seat _ _) _;
-      limit = λ g _ _ _. d (Seat _ _) g;
+      gtx = λ _ _ _ _. d (Seat _ _) _;
+      limit = λ g _ _ _ _. d (Seat _ _) g;
       clear = λ _ _. d (Free _) _;
       quote = λ n _. d (Quote n) _;
-      sell = d (Sell _) _;
+      sell = λ _ _. d (Sell _) _;
     }
 
 -- an event that was taken or ended the auction was not refused
@@ -99,14 +99,15 @@ module _ (s : Sight) (a : Auction) (e : Event) where
         does = λ o. any-change _ _ _ _ _ (λ k _ z. no (sym z)) (λ c g z. (o .formed, o .newer, refl));
       })
 
-  -- an event in form whose sequence is not above the highest taken is refused
-  old-refused : eventFormed e ≡ true → e .sequence ≤ a .head .sequence → stepBy s a e ≡ gives (Refused (cond (isOpen (a .head .ending)) 33 31)) a
+  -- an event whose sequence is not above the highest taken is refused, whatever else it says: 31 once ended; else 32 where it is out of form, and 33
+  pub old-refused : e .sequence ≤ a .head .sequence → stepBy s a e ≡ gives (Refused (cond (isOpen (a .head .ending)) (cond (eventFormed e) 33 32) 31)) a
   unfolding turnOf eventRefusal
-  old-refused f h = go (isOpen (a .head .ending)) refl
+  old-refused h = go (isOpen (a .head .ending)) (eventFormed e) refl refl
     where
-      go : (b : Bool) → isOpen (a .head .ending) ≡ b → stepBy s a e ≡ gives (Refused (cond (isOpen (a .head .ending)) 33 31)) a
-      go true z = simp (z, f, le-leb _ _ h)
-      go false z = simp z
+      go : (x y : Bool) → isOpen (a .head .ending) ≡ x → eventFormed e ≡ y → stepBy s a e ≡ gives (Refused (cond (isOpen (a .head .ending)) (cond (eventFormed e) 33 32) 31)) a
+      go true true p q = simp (p, q, le-leb _ _ h)
+      go true false p q = simp (p, q)
+      go false y p q = simp p
 
   -- only 31 to 38 refuse an event
   event-numbers : (n : ℕ) → stepBy s a e .answer ≡ Refused n → (31 ≤ n) × (n ≤ 38)
@@ -134,7 +135,7 @@ older a e f es z formed h =
     let k = taken-is (seen a e) a e z in
     let b : Auction = run (stepOf a e .auction) es in
     let n : stepOf a e .auction .head .sequence ≤ b .head .sequence = run-rises es (stepOf a e .auction) in
-    old-refused (seen b f) b f formed (omega (arith, k .2))
+    old-refused (seen b f) b f (omega (arith, k .2)) ∙ ap (λ (t : Bool). gives (Refused (cond (isOpen (b .head .ending)) (cond t 33 32) 31)) b) formed
 
 pub again : (a : Auction) (e : Event) (es : List Event) → isTaken (stepOf a e .answer) ≡ true → RefusedAgain (run (stepOf a e .auction) es) e
 again a e es z = older a e e es z (taken-is (seen a e) a e z .0) (le-refl _)

@@ -150,11 +150,11 @@ module _ (v : Sight) (a : Auction) (e : Event) (fits : Fits (a .board) v) (s : S
       record {
         refuses = λ n _. s;
         nothing = λ g. after-sound a e Nothing g s (s .bound-below) (s .board) stand (s .distinct) (λ _. no-size) no-more;
-        gtx = λ k f p.
+        gtx = λ k _ f p.
             let k1 : e .kind ≡ 1 = sym (buy-kind e sell) ∙ k in
             seated-sound (responseOf true (min (sizeOf (buyEvent sell e)) (a .head .terms .size)) (buyEvent sell e)) Open f (buy-sequence e sell)
             (omega (arith, priced-size e sell (mirror-one e k1), size-one e k1 (o .formed), s .size)) p;
-        limit = λ g k f p.
+        limit = λ g k _ f p.
             let k3 : e .kind ≡ 3 = sym (buy-kind e sell) ∙ k in
             seated-sound (responseOf false (sizeOf (buyEvent sell e)) (buyEvent sell e)) g f (buy-sequence e sell)
             (omega (arith, priced-size e sell (mirror-three e k3), size-three e k3 (o .formed))) p;
@@ -164,7 +164,7 @@ module _ (v : Sight) (a : Auction) (e : Event) (fits : Fits (a .board) v) (s : S
             (clear-distinct (a .board) (s .board) (v .found) (s .distinct))
             (λ _. no-size) no-more;
         quote = λ n f. after-sound a e (Quote n) Open s (f (s .bound-below)) (s .board) stand (s .distinct) (λ _. no-size) no-more;
-        sell =
+        sell = λ _ _.
             after-sound a e (Sell (record { sequence = buyEvent sell e .sequence; size = sizeOf (buyEvent sell e) })) Opposite s (s .bound-below) (s .board) stand (s .distinct)
             (λ z. no (sym z))
             (λ _. (omega (arith, buy-sequence e sell, o .newer), fresh (buyEvent sell e .sequence) (buy-sequence e sell)));

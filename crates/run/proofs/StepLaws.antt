@@ -54,29 +54,29 @@ EventNumber n = (31 ≤ n) × (n ≤ 38)
 pub record Outcomes (t : Terms) (q : Quotes) (s : Sight) (m : Event) (P : Outcome → Type 0) : Type 0 where
   pub refuses : (n : ℕ) → EventNumber n → P (Refuses n)
   pub nothing : (g : Ending) → P (Does Nothing g)
-  pub gtx : m .kind ≡ 1 → s .at < 64 → priceOf m ≤ t .initiating → P (Does (Seat (s .at) (responseOf true (min (sizeOf m) (t .size)) m)) Open)
-  pub limit : (g : Ending) → m .kind ≡ 3 → s .at < 64 → priceOf m ≤ t .initiating → P (Does (Seat (s .at) (responseOf false (sizeOf m) m)) g)
+  pub gtx : m .kind ≡ 1 → eqb (m .side) 1 ≡ false → s .at < 64 → priceOf m ≤ t .initiating → P (Does (Seat (s .at) (responseOf true (min (sizeOf m) (t .size)) m)) Open)
+  pub limit : (g : Ending) → m .kind ≡ 3 → eqb (m .side) 1 ≡ false → s .at < 64 → priceOf m ≤ t .initiating → P (Does (Seat (s .at) (responseOf false (sizeOf m) m)) g)
   pub clear : m .kind ≡ 2 → s .found < 64 → P (Does (Free (s .found)) Open)
   pub quote : (n : Quotes) → (boundBy t q ≤ t .initiating → boundBy t n ≤ t .initiating) → P (Does (Quote n) Open)
-  pub sell : P (Does (Sell (record { sequence = m .sequence; size = sizeOf m })) Opposite)
+  pub sell : m .kind ≡ 4 → eqb (m .side) 1 ≡ false → P (Does (Sell (record { sequence = m .sequence; size = sizeOf m })) Opposite)
 
 module _ (t : Terms) (q : Quotes) (s : Sight) (m : Event) (P : Outcome → Type 0) (k : Outcomes t q s m P) where
   gtx-case : m .kind ≡ 1 → P (gtxOutcome t s m)
   unfolding gtxOutcome
   gtx-case e =
-      by P (eqb (m .side) 1) _ _ (λ _. k .refuses 35 (omega arith, omega arith)) (λ _.
+      by P (eqb (m .side) 1) _ _ (λ _. k .refuses 35 (omega arith, omega arith)) (λ d.
       by P (ltb (t .initiating) (priceOf m)) _ _ (λ _. k .refuses 36 (omega arith, omega arith)) (λ p.
-      by P (ltb (s .at) 64) _ _ (λ f. k .gtx e (ltb-true _ _ f) (ltb-false _ _ p)) (λ _. k .refuses 38 (omega arith, omega arith))))
+      by P (ltb (s .at) 64) _ _ (λ f. k .gtx e d (ltb-true _ _ f) (ltb-false _ _ p)) (λ _. k .refuses 38 (omega arith, omega arith))))
 
   cancel-case : m .kind ≡ 2 → P (cancelOutcome s)
   unfolding cancelOutcome
   cancel-case e = by P (ltb (s .found) 64) _ _ (λ h. k .clear e (ltb-true _ _ h)) (λ _. k .refuses 37 (omega arith, omega arith))
 
-  sell-limit-case : m .kind ≡ 3 → P (sellLimitOutcome t q s m)
+  sell-limit-case : m .kind ≡ 3 → eqb (m .side) 1 ≡ false → P (sellLimitOutcome t q s m)
   unfolding sellLimitOutcome
-  sell-limit-case e =
+  sell-limit-case e d =
       by P (leb (priceOf m) (t .initiating)) _ _
-      (λ p. by P (ltb (s .at) 64) _ _ (λ f. k .limit (cond (leb (priceOf m) (cond (isNonRoutable m) (q .bb) (q .nbb))) Opposite Open) e (ltb-true _ _ f) (leb-true _ _ p)) (λ _. k .refuses 38 (omega arith, omega arith)))
+      (λ p. by P (ltb (s .at) 64) _ _ (λ f. k .limit (cond (leb (priceOf m) (cond (isNonRoutable m) (q .bb) (q .nbb))) Opposite Open) e d (ltb-true _ _ f) (leb-true _ _ p)) (λ _. k .refuses 38 (omega arith, omega arith)))
       (λ _. k .nothing (cond (leb (priceOf m) (cond (isNonRoutable m) (q .bb) (q .nbb))) Opposite Open))
 
   buy-limit-case : P (buyLimitOutcome t q m)
@@ -94,11 +94,11 @@ module _ (t : Terms) (q : Quotes) (s : Sight) (m : Event) (P : Outcome → Type 
 
   limit-case : m .kind ≡ 3 → P (limitOutcome t q s m)
   unfolding limitOutcome
-  limit-case e = by P (eqb (m .side) 1) _ _ (λ _. buy-limit-case) (λ _. sell-limit-case e)
+  limit-case e = by P (eqb (m .side) 1) _ _ (λ _. buy-limit-case) (λ d. sell-limit-case e d)
 
-  market-case : P (marketOutcome m)
+  market-case : m .kind ≡ 4 → P (marketOutcome m)
   unfolding marketOutcome
-  market-case = by P (eqb (m .side) 1) _ _ (λ _. k .nothing Same) (λ _. k .sell)
+  market-case e = by P (eqb (m .side) 1) _ _ (λ _. k .nothing Same) (λ d. k .sell e d)
 
   quotes-case : P (quotesOutcome t m)
   unfolding quotesOutcome
@@ -110,7 +110,7 @@ module _ (t : Terms) (q : Quotes) (s : Sight) (m : Event) (P : Outcome → Type 
       by P (eqb (m .kind) 1) _ _ (λ e. gtx-case (eqb-true _ _ e)) (λ _.
       by P (eqb (m .kind) 2) _ _ (λ e. cancel-case (eqb-true _ _ e)) (λ _.
       by P (eqb (m .kind) 3) _ _ (λ e. limit-case (eqb-true _ _ e)) (λ _.
-      by P (eqb (m .kind) 4) _ _ (λ _. market-case) (λ _. quotes-case))))
+      by P (eqb (m .kind) 4) _ _ (λ e. market-case (eqb-true _ _ e)) (λ _. quotes-case))))
 
 -- ---- the turn
 

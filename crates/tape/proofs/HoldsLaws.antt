@@ -82,18 +82,21 @@ records-length s t = records-long s t 0 (t .events)
 -- ---- a tape that opens
 
 -- the tests that led to it
-took-tape : (a : Bool) (n : ℕ) (r : ReadTrailer) (t : Trailer) → cond a (Refused 21) (openedWith n r) ≡ Tape t → (a ≡ false) × (lengthOf t ≡ n)
-took-tape true n r t h = (cc, cc)
-took-tape false n (NoTrailer k) t h = (refl, cc)
-took-tape false n (GotTrailer x) t h = (refl, go (eqb (lengthOf x) n) refl h)
+took-tape : (a : Bool) (n : ℕ) (r : ReadTrailer) (t : Trailer) → cond a (Refused 21) (openedWith n r) ≡ Tape t → (a ≡ false) × (lengthOf t ≡ n) × (r ≡ GotTrailer t)
+took-tape true n r t h = (cc, cc, cc)
+took-tape false n (NoTrailer k) t h = (refl, cc, cc)
+took-tape false n (GotTrailer x) t h = let k = go (eqb (lengthOf x) n) refl h in (refl, ap lengthOf (sym (k .1)) ∙ k .0, ap GotTrailer (k .1))
   where
-    go : (b : Bool) → eqb (lengthOf x) n ≡ b → cond b (Tape x) (Refused 23) ≡ Tape t → lengthOf t ≡ n
-    go true e k = let same : x ≡ t = cc in ap lengthOf (sym same) ∙ eqb-true (lengthOf x) n e
-    go false e k = cc
+    go : (b : Bool) → eqb (lengthOf x) n ≡ b → cond b (Tape x) (Refused 23) ≡ Tape t → (lengthOf x ≡ n) × (x ≡ t)
+    go true e k = (eqb-true (lengthOf x) n e, cc)
+    go false e k = (cc, cc)
+
+-- its length is what its trailer says, and its last 16 bytes are that
+pub tape-took : (s : List ℕ) (t : Trailer) → openTape s ≡ Tape t → (length s ≤ 65536) × (lengthOf t ≡ length s) × (readTrailer (drop (length s - 16) s) ≡ GotTrailer t)
+unfolding openTape
+tape-took s t h =
+    let k = took-tape (ltb (length s) 16 || ltb 65536 (length s)) (length s) (readTrailer (drop (length s - 16) s)) t h in
+    (ltb-false 65536 (length s) (or-right (ltb (length s) 16) (ltb 65536 (length s)) (k .0)), k .1, k .2)
 
 pub holds : (s : List ℕ) (t : Trailer) → openTape s ≡ Tape t → Holds s t
-unfolding openTape
-holds s t h =
-    let k : ((ltb (length s) 16 || ltb 65536 (length s)) ≡ false) × (lengthOf t ≡ length s) = took-tape (ltb (length s) 16 || ltb 65536 (length s)) (length s) (readTrailer (drop (length s - 16) s)) t h in
-    let short : length s ≤ 65536 = ltb-false 65536 (length s) (or-right (ltb (length s) 16) (ltb 65536 (length s)) (k .0)) in
-    record { short = short; order = omega (arith, k .1); event = λ i below. omega (arith, k .1) }
+holds s t h = let k = tape-took s t h in record { short = k .0; order = omega (arith, k .1); event = λ i below. omega (arith, k .1) }

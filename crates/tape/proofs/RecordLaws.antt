@@ -1,15 +1,15 @@
 -- What a reader or a writer answers, for any record: a row of words. Assumes nothing.
 use mathlib.Core.Path.{_≡_, ap, sym, _∙_}
 use mathlib.Core.Bool.{Bool, true, false}
-use mathlib.Core.List.{List}
+use mathlib.Core.List.{List, _++_}
 use Prim.Native.Nat.{ℕ, _+_, _*_, _-_, _≤_, _<_}
 use native.Mathlib.Omega.{arith}
-use lib.ListN.{length, take, drop, length-drop, drop-of-length-le}
+use lib.ListN.{length, getD, take, drop, length-append, length-drop, drop-of-length-le, List·getD-append}
 use borrow.Author.Tests.{le-ltb, lt-ltb}
 use Rattle.words.specs.rules.Bytes.{wordAt, withWords}
-use Rattle.words.proofs.ByteLaws.{row-front}
+use Rattle.words.proofs.ByteLaws.{row-front, word-alone}
 use Rattle.tape.specs.rules.Tape.{eventPlace, orderIn, recordIn}
-use Rattle.tape.specs.rules.Records.{wroteAnswer, wroteBytes, readOrder, readEvent, ofNoKind, recordAt}
+use Rattle.tape.specs.rules.Records.{wroteAnswer, wroteBytes, orderOf, orderSpare, readOrder, eventOf, eventSpare, readEvent, ofNoKind, recordAt}
 use Rattle.tape.specs.declared.order.ReadOrder.{ReadOrder}
 use Rattle.tape.specs.declared.order.ReadOrder.the-variants.{Refused as NoOrder}
 use Rattle.tape.specs.declared.event.ReadEvent.the-variants.{Refused as NoEvent}
@@ -45,6 +45,22 @@ event-short s h = simp (lt-ltb _ _ h)
 -- fewer than n bytes from a place on
 pub few : (s : List ℕ) (at n : ℕ) → length s < at + n → 0 < n → length (drop at s) < n
 few s at n h p = omega (arith, length-drop at s)
+
+-- ---- readers: what stands after a record's own bytes is not looked at
+
+pub order-alone : (r l : List ℕ) → length r ≡ 64 → readOrder (r ++ l) ≡ readOrder r
+unfolding readOrder orderOf orderSpare
+order-alone r l n =
+    let g : (i : ℕ) → i < length r → getD (r ++ l) i 0 ≡ getD r i 0 = List·getD-append r l 0 in
+    let w : (at : ℕ) → at + 4 ≤ length r → wordAt (r ++ l) at ≡ wordAt r at = word-alone r l in
+    simp (le-ltb (length (r ++ l)) 64 (omega (arith, length-append r l)), le-ltb (length r) 64 (omega arith), g 0 (omega arith), g 1 (omega arith), g 2 (omega arith), g 3 (omega arith), w 4 (omega arith), w 8 (omega arith), w 12 (omega arith), w 16 (omega arith), w 20 (omega arith), w 24 (omega arith), w 28 (omega arith), w 32 (omega arith), w 36 (omega arith), w 40 (omega arith), w 44 (omega arith), w 48 (omega arith), w 52 (omega arith), w 56 (omega arith), w 60 (omega arith))
+
+pub record-alone : (r l : List ℕ) → length r ≡ 32 → recordAt (r ++ l) ≡ recordAt r
+unfolding recordAt eventOf eventSpare
+record-alone r l n =
+    let g : (i : ℕ) → i < length r → getD (r ++ l) i 0 ≡ getD r i 0 = List·getD-append r l 0 in
+    let w : (at : ℕ) → at + 4 ≤ length r → wordAt (r ++ l) at ≡ wordAt r at = word-alone r l in
+    simp (le-ltb (length (r ++ l)) 32 (omega (arith, length-append r l)), le-ltb (length r) 32 (omega arith), g 8 (omega arith), g 9 (omega arith), g 10 (omega arith), g 11 (omega arith), w 0 (omega arith), w 4 (omega arith), w 12 (omega arith), w 16 (omega arith), w 20 (omega arith), w 24 (omega arith), w 28 (omega arith))
 
 -- ---- a tape's records, where its trailer says that they stand
 

@@ -10,7 +10,8 @@ use lib.Dec.{leb, ltb}
 use lib.ListN.{length, length-append}
 use Rattle.board.specs.declared.Response.{Response}
 use Rattle.base.specs.Lists.{keep, filter, sum}
-use Rattle.board.specs.rules.Board.{liveIn, wordOf, inSequence}
+use Rattle.board.specs.rules.Board.{liveIn, inSequence}
+use Rattle.board.specs.inside.Places.{wordOf}
 use Rattle.board.proofs.LiveLaws.{word-filters}
 use Rattle.board.proofs.SequenceLaws.{sequence-filter}
 use Rattle.share.specs.rules.Share.{inTurn}

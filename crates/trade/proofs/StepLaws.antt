@@ -12,7 +12,8 @@ use lib.ListN.{length}
 use Rattle.board.specs.declared.Response.{Response}
 use Rattle.base.proofs.ListLaws.{filter-filter}
 use Rattle.base.specs.Lists.{keep, filter, sum, In}
-use Rattle.board.specs.rules.Board.{liveIn, wordOf, inSequence}
+use Rattle.board.specs.rules.Board.{liveIn, inSequence}
+use Rattle.board.specs.inside.Places.{wordOf}
 use Rattle.board.proofs.LiveLaws.{word-filters}
 use Rattle.board.proofs.SequenceLaws.{sequence-filter}
 use Rattle.share.specs.rules.Fills.{sizes}

@@ -15,7 +15,8 @@ use Rattle.board.specs.declared.Response.{Response}
 use Rattle.base.specs.Lists.{Inserts, Shuffles, sum}
 use Rattle.base.specs.Lists.Inserts.{here, there}
 use Rattle.base.specs.Lists.Shuffles.{none, more}
-use Rattle.board.specs.rules.Board.{noResponse, liveIn, inserted, inSequence, firstInSequence}
+use Rattle.board.specs.rules.Board.{noResponse, liveIn, inserted, inSequence}
+use Rattle.board.specs.inside.Places.{firstInSequence}
 use Rattle.board.specs.promises.Board.{RisingFrom}
 use Rattle.base.proofs.ListLaws.{every-inserts}
 use Rattle.board.proofs.LiveLaws.{none-live, less-live}

@@ -6,12 +6,13 @@ use Prim.Native.Nat.{ℕ, zero, suc, _+_, _*_, _/_, _%_, _≤_, _<_, _^_}
 use native.Mathlib.Nat.{add-zero, div-add-mod', div-div-eq-div-mul}
 use borrow.Author.Tests.{le-leb, lt-leb}
 use native.Mathlib.Omega.{arith}
-use lib.ListN.{length, getD, set, take, drop, length-append}
-use lib.Seq.{sets, take-suc, drop-cons, length-take-le, getD-append-add}
+use lib.ListN.{length, getD, set, take, drop, length-append, length-take, List·getD-append, List·getD-eq-default}
+use lib.Seq.{sets, take-suc, drop-cons, length-take-le, getD-append-add, getD-take, getD-drop}
 use native.Mathlib.Numerals.{add-one}
 use Rattle.base.proofs.Numbers.{le-or-lt}
 use Rattle.base.proofs.SetsLaws.{sets-append, sets-front}
-use Rattle.words.specs.rules.Bytes.{AllBytes, joined, u32Bytes, wordBytes, wordAt, wordsFrom, withWords}
+use Rattle.words.specs.rules.Bytes.{AllBytes, joined, u32Bytes, wordBytes, wordAt, withWords}
+use Rattle.words.specs.inside.Row.{wordsFrom}
 
 -- four stores in a row, as code writes their places
 pub sets4 : (s : List ℕ) (i a b c d : ℕ) → set (set (set (set s i a) (i + 1) b) (i + 2) c) (i + 3) d ≡ sets s i (a ∷ b ∷ c ∷ d ∷ [])
@@ -115,6 +116,13 @@ word-past xs l k at e = ⊎-elim inside outside (le-or-lt (at + 4) (length l))
     outside : length l < at + 4 → wordAt (xs ++ l) (k + at) ≡ wordAt l at
     outside h = word-out (xs ++ l) (k + at) (omega (arith, n)) ∙ sym (word-out l at h)
 
+-- a word that ends before the first part does is that part's
+pub word-alone : (xs l : List ℕ) (at : ℕ) → at + 4 ≤ length xs → wordAt (xs ++ l) at ≡ wordAt xs at
+word-alone xs l at h =
+    let g : (i : ℕ) → i < length xs → getD (xs ++ l) i 0 ≡ getD xs i 0 = List·getD-append xs l 0 in
+    let same : fourAt (xs ++ l) at ≡ fourAt xs at = simp (g at (omega arith), g (at + 1) (omega arith), g (at + 2) (omega arith), g (at + 3) (omega arith)) in
+    word-in (xs ++ l) at (omega (arith, length-append xs l)) ∙ same ∙ sym (word-in xs at h)
+
 -- a word that was put in front is read
 word-front : (v : ℕ) (l : List ℕ) → v < 2 ^ 32 → wordAt (u32Bytes v ++ l) 0 ≡ v
 word-front v l h = word-in (u32Bytes v ++ l) 0 (omega arith) ∙ joined-bytes v h
@@ -142,7 +150,7 @@ Fit [] = Unit {0}
 Fit (w ∷ ws) = (w < 2 ^ 32) × Fit ws
 
 -- a row counts from the start of what is left
-row-past : (xs l : List ℕ) (k n at : ℕ) → length xs ≡ k → wordsFrom (xs ++ l) (k + at) n ≡ wordsFrom l at n
+pub row-past : (xs l : List ℕ) (k n at : ℕ) → length xs ≡ k → wordsFrom (xs ++ l) (k + at) n ≡ wordsFrom l at n
 row-past xs l k zero at e = refl
 row-past xs l k (suc n) at e =
     let a : k + at + 4 ≡ k + (at + 4) = omega arith in
@@ -168,3 +176,33 @@ row-back s (suc n) at b h =
 -- a row written at the start replaces its own bytes, and no other
 pub row-front : (s ws : List ℕ) → length ws * 4 ≤ length s → withWords s 0 ws ≡ wordBytes ws ++ drop (length ws * 4) s
 row-front s ws h = row-in s 0 ws (omega arith) ∙ sets-front (wordBytes ws) s (length ws * 4) (length-wordBytes ws) h
+
+-- ---- parts of bytes are bytes
+
+pub bytes-drop : (n : ℕ) (s : List ℕ) → AllBytes s → AllBytes (drop n s)
+bytes-drop n s b i = rw (getD-drop n s i 0) (b (n + i))
+
+pub bytes-take : (n : ℕ) (s : List ℕ) → AllBytes s → AllBytes (take n s)
+bytes-take n s b i = ⊎-elim past within (le-or-lt n i)
+  where
+    past : n ≤ i → getD (take n s) i 0 < 256
+    past h = let none : length (take n s) ≤ i = omega (arith, length-take n s) in rw (List·getD-eq-default (take n s) 0 none) (omega arith)
+
+    within : i < n → getD (take n s) i 0 < 256
+    within h = rw (getD-take n s i 0 h) (b i)
+
+pub bytes-append : (xs ys : List ℕ) → AllBytes xs → AllBytes ys → AllBytes (xs ++ ys)
+bytes-append [] ys a b i = b i
+bytes-append (x ∷ xs) ys a b zero = a 0
+bytes-append (x ∷ xs) ys a b (suc i) = bytes-append xs ys (λ j. a (suc j)) b i
+
+pub bytes-words : (ws : List ℕ) → AllBytes (wordBytes ws)
+bytes-words [] i = omega arith
+bytes-words (w ∷ ws) i = bytes-append (u32Bytes w) (wordBytes ws) four (bytes-words ws) i
+  where
+    four : AllBytes (u32Bytes w)
+    four zero = omega arith
+    four (suc zero) = omega arith
+    four (suc (suc zero)) = omega arith
+    four (suc (suc (suc zero))) = omega arith
+    four (suc (suc (suc (suc i)))) = omega arith

@@ -6,7 +6,8 @@ use Prim.Native.Nat.{ℕ, suc, _+_, _^_, _≤_, _<_}
 use lib.ListN.{length}
 use Rattle.words.specs.rules.Bits.{bitAt, withoutBit}
 use Rattle.base.specs.Lists.{filter, sum, Inserts, Shuffles}
-use Rattle.board.specs.rules.Board.{responseAt, emptyBoard, isLive, liveCount, firstFree, liveIn, liveOf, wordOf, seatedAt, cleared, findGtx, inSequence, bears, firstInSequence}
+use Rattle.board.specs.rules.Board.{responseAt, emptyBoard, isLive, liveCount, firstFree, liveIn, liveOf, seatedAt, cleared, findGtx, inSequence}
+use Rattle.board.specs.inside.Places.{wordOf, bears, firstInSequence}
 use Rattle.board.specs.declared.Response.{Response}
 use Rattle.board.specs.declared.Board.{Board}
 

@@ -1,5 +1,5 @@
 -- The board: what its functions give, as definitions that compute. Assumes nothing.
-use Prim.Native.Nat.{ℕ, suc, _+_, _*_, _/_, _%_, min}
+use Prim.Native.Nat.{ℕ, suc, _/_, _%_}
 use mathlib.Core.Bool.{Bool, false, cond, _&&_}
 use mathlib.Core.List.{List, [], _∷_}
 use lib.Dec.{leb, ltb, eqb}
@@ -44,11 +44,6 @@ liveIn w (r ∷ rs) = keep (eqb (w % 2) 1) r (liveIn (w / 2) rs)
 abbrev pub liveOf : Board → List Response
 liveOf b = liveIn (b .live) (b .places)
 
--- the word of those whose bit in w is set and that pass the test
-unfoldable pub wordOf : {A : Type 0} → (A → Bool) → ℕ → List A → ℕ
-wordOf t w [] = 0
-wordOf t w (r ∷ rs) = cond (eqb (w % 2) 1 && t r) 1 0 + 2 * wordOf t (w / 2) rs
-
 -- ---- seating and clearing
 
 -- r at place i, live, and the board as it is where there is no such place
@@ -85,21 +80,3 @@ inserted r (x ∷ xs) = cond (leb (r .sequence) (x .sequence)) (r ∷ x ∷ xs) 
 unfoldable pub inSequence : List Response → List Response
 inSequence [] = []
 inSequence (r ∷ rs) = inserted r (inSequence rs)
-
--- the lower of m and the lowest sequence of a list
-unfoldable pub lowestFrom : ℕ → List Response → ℕ
-lowestFrom m [] = m
-lowestFrom m (r ∷ rs) = lowestFrom (min m (r .sequence)) rs
-
--- the lowest sequence of a list
-abbrev pub lowest : List Response → ℕ
-lowest [] = 0
-lowest (r ∷ rs) = lowestFrom (r .sequence) rs
-
--- a response with this sequence
-abbrev pub bears : ℕ → Response → Bool
-bears s r = eqb (r .sequence) s
-
--- the first place that bears the lowest sequence of those whose bit in w is set; the list's length where w is 0
-abbrev pub firstInSequence : List Response → ℕ → ℕ
-firstInSequence ps w = findIn (bears (lowest (liveIn w ps))) w ps

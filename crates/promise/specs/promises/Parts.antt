@@ -1,15 +1,17 @@
 -- The parts of the promise.
 use mathlib.Core.Path.{_≡_}
-use mathlib.Core.Bool.{Bool, true, false, cond}
+use mathlib.Core.Bool.{Bool, true, false, cond, _&&_}
 use mathlib.Core.List.{List, [], _∷_, _++_}
 use mathlib.Core.Logic.{_⊎_, _≢_}
 use Prim.Native.Nat.{ℕ, _+_, _*_, _≤_, _<_, min}
-use lib.Dec.{eqb}
+use Prim.Native.String.{String}
+use lib.Dec.{ltb, eqb}
 use lib.ListN.{length, take, drop}
-use Rattle.base.specs.Lists.{In, Every, sum}
-use Rattle.words.specs.rules.Bytes.{AllBytes}
+use Rattle.base.specs.Lists.{In, Every, sum, Shuffles}
+use Rattle.words.specs.rules.Bytes.{wordAt}
 use Rattle.board.specs.declared.Response.{Response}
 use Rattle.board.specs.rules.Board.{liveOf}
+use Rattle.board.specs.promises.Board.{Good}
 use Rattle.share.specs.rules.Fills.{Fill, sizes, words}
 use Rattle.share.specs.promises.Share.{Near}
 use Rattle.tape.specs.declared.order.Order.{Order}
@@ -17,27 +19,31 @@ use Rattle.tape.specs.declared.event.Event.{Event}
 use Rattle.tape.specs.declared.trailer.Trailer.{Trailer}
 use Rattle.tape.specs.declared.trailer.Opened.the-variants.{Tape}
 use Rattle.tape.specs.declared.order.ReadOrder.the-variants.{Order as GotOrder}
-use Rattle.tape.specs.rules.Form.{eventFormed}
+use Rattle.tape.specs.rules.Form.{orderFormed, eventFormed}
+use Rattle.tape.specs.rules.Records.{cubt, orderOf, orderSpare, readOrder, orderAnswer, eventOf, eventSpare, readEvent, eventAnswer, trailerOf, readTrailer, trailerAnswer}
 use Rattle.tape.specs.rules.Fields.{sizeOf, priceOf, nameOf}
-use Rattle.tape.specs.rules.Tape.{openTape, orderIn, tapeOf}
-use Rattle.mirror.specs.rules.Mirror.{mirroredOrder}
-use Rattle.trade.specs.rules.Trade.{traded}
-use Rattle.demand.specs.promises.Demands.{Absent, got, soldAt}
+use Rattle.tape.specs.rules.Tape.{openTape, orderIn}
+use Rattle.trade.specs.rules.Trade.{offers, fills, traded}
+use Rattle.trade.specs.rules.Write.{reported}
+use Rattle.demand.specs.promises.Demands.{Absent, Distinct, got, soldAt}
 use Rattle.auction.specs.rules.Accept.{acceptOf}
 use Rattle.auction.specs.rules.Range.{isOpen}
 use Rattle.auction.specs.declared.Auction.{Auction}
+use Rattle.auction.specs.declared.Ending.{Ending}
 use Rattle.auction.specs.declared.Ending.the-variants.{Opposite}
 use Rattle.auction.specs.declared.Entry.the-variants.{Accepted}
 use Rattle.events.specs.rules.Decide.{isCustomer}
 use Rattle.events.specs.rules.Step.{gives, stepOf}
+use Rattle.events.specs.declared.Answer.{Answer}
 use Rattle.events.specs.declared.Answer.the-variants.{Taken, Refused}
-use Rattle.fills.specs.rules.Fills.{auctionFills, fillsAnswer, fillsAfter}
-use Rattle.run.specs.rules.Run.{Said, run, heard, takenOf, played, runOf}
-use Rattle.run.specs.promises.Demands.{Within, Trades, mirroredRecords}
-use Rattle.listing.specs.rules.Listing.{refusedLine, auctionLine, eventLines, endLines, listingOf, roomOf, listedOf, lengthIn, bytesOf}
-use Rattle.promise.specs.rules.Answers.{Paper, no, yes, openedIs, orderIs, entryIs, answerIs, filledIs, listedIs}
-use Rattle.promise.specs.rules.Tapes.{Carries, endOf, notRefused, Resends, mirroredLines}
-use Rattle.promise.specs.rules.Sides.{isSell, otherSide, better, responses, taken, last, range, written, there, market, walked, worksAt, othersAt, guarantee, planAt, leftToOthers}
+use Rattle.fills.specs.rules.Fills.{dealOf, auctionFills, fillsAnswer, fillsAfter}
+use Rattle.run.specs.rules.Run.{Said, run, heard, played, runOf}
+use Rattle.run.specs.promises.Demands.{Within, Trades}
+use Rattle.listing.specs.rules.Text.{text, newline}
+use Rattle.listing.specs.rules.Listing.{field, answerText, endText, refusedLine, auctionLine, eventLines, endLines, listingOf, roomOf, listedOf, lengthIn, bytesOf}
+use Rattle.promise.specs.rules.Answers.{Paper, no, yes, openedIs, orderIs, eventIs, trailerIs, writtenIs, entryIs, answerIs, endingIs, filledIs, runIs, listedIs}
+use Rattle.promise.specs.rules.Tapes.{Carries}
+use Rattle.promise.specs.rules.Sides.{isSell, otherSide, better, responses, taken, last, range, written, there, market, walked, worksAt, othersAt, guarantee, planAt, leftToOthers, standingOf}
 
 -- ---- 1. every tape is answered
 
@@ -56,17 +62,34 @@ pub data Answered (s : List ℕ) : Type 0 where
 -- and the room lent for it
 pub record Roomed (s out : List ℕ) : Type 0 where
   -- too small a room is 24, before anything else, and nothing is written
-  pub small : length out < roomOf → (listedIs (listedOf s out) ≡ no 24) × (bytesOf s out ≡ out)
-  -- else the listing stands at the start, and every byte past it stays
-  pub stands : roomOf ≤ length out → (lengthIn (listedOf s out) ≡ length (listingOf s)) × (bytesOf s out ≡ listingOf s ++ drop (length (listingOf s)) out)
+  pub small : length out < roomOf → (listedIs (listedOf s out) ≡ no 24) × (lengthIn (listedOf s out) ≡ 0) × (bytesOf s out ≡ out)
+  -- else the tape's number or the ending is answered, with the listing's length; the listing stands at the start, and every byte past it stays
+  pub answers : roomOf ≤ length out → (listedIs (listedOf s out) ≡ runIs (runOf s)) × (lengthIn (listedOf s out) ≡ length (listingOf s))
+  pub stands : roomOf ≤ length out → bytesOf s out ≡ listingOf s ++ drop (length (listingOf s)) out
   pub fits : length (listingOf s) ≤ roomOf
 
 -- the fills of an auction, into words from a start place
 pub record Filling (a : Auction) (xs : List ℕ) (start : ℕ) : Type 0 where
-  -- 40 or 39, and every word stays
-  pub refused : (n : ℕ) → filledIs (fillsAnswer a xs start) ≡ no n → In n (39 ∷ 40 ∷ []) × (fillsAfter a xs start ≡ xs)
-  -- or their number, and their words from the start place on; all other words stay
-  pub counted : (n : ℕ) → filledIs (fillsAnswer a xs start) ≡ yes n → (n ≡ length (auctionFills a)) × (fillsAfter a xs start ≡ take start xs ++ (words (auctionFills a) ++ drop (start + 3 * n) xs))
+  -- 40 before the ending, then 39 for fewer than 390 words from the start place: every word stays
+  pub early : isOpen (a .head .ending) ≡ true → (filledIs (fillsAnswer a xs start) ≡ no 40) × (fillsAfter a xs start ≡ xs)
+  pub small : isOpen (a .head .ending) ≡ false → length xs < start + 390 → (filledIs (fillsAnswer a xs start) ≡ no 39) × (fillsAfter a xs start ≡ xs)
+  -- else their number, and their words from the start place on; all other words stay, and there is room for all
+  pub counted : isOpen (a .head .ending) ≡ false → start + 390 ≤ length xs
+      → (filledIs (fillsAnswer a xs start) ≡ yes (length (auctionFills a))) × (fillsAfter a xs start ≡ take start xs ++ (words (auctionFills a) ++ drop (start + 3 * length (auctionFills a)) xs))
+  pub room : Good (a .board) → 3 * length (auctionFills a) ≤ 390
+
+-- the records' readers and writers: 24 first, or last; and the record's own number
+pub record Numbered : Type 0 where
+  pub reads-order : (s : List ℕ) → orderIs (readOrder s) ≡ cond (ltb (length s) 64) (no 24) (cond (orderSpare s && orderFormed (orderOf s)) (yes (orderOf s)) (no 1))
+  pub reads-event : (s : List ℕ) → eventIs (readEvent s) ≡ cond (ltb (length s) 32) (no 24) (cond (eventSpare s && eventFormed (eventOf s)) (yes (eventOf s)) (no 32))
+  pub reads-trailer : (s : List ℕ) → trailerIs (readTrailer s) ≡ cond (ltb (length s) 16) (no 24) (cond (eqb (wordAt s 0) cubt && eqb (wordAt s 12) 0) (yes (trailerOf s)) (no 22))
+  pub writes-order : (o : Order) (out : List ℕ) → writtenIs (orderAnswer o out) ≡ cond (orderFormed o) (cond (ltb (length out) 64) (no 24) (yes tt)) (no 1)
+  pub writes-event : (e : Event) (out : List ℕ) → writtenIs (eventAnswer e out) ≡ cond (eventFormed e) (cond (ltb (length out) 32) (no 24) (yes tt)) (no 32)
+  pub writes-trailer : (t : Trailer) (out : List ℕ) → writtenIs (trailerAnswer t out) ≡ cond (ltb (length out) 16) (no 24) (yes tt)
+  -- the words of the EVENT and END lines
+  pub event-words : (a : Answer) (w : String) → answerIs a ≡ yes w → answerText a ≡ text " " ++ (text w ++ newline)
+  pub event-number : (a : Answer) (n : ℕ) → answerIs a ≡ no n → answerText a ≡ field " refused " n ++ newline
+  pub end-words : (g : Ending) → endText g ≡ text "END " ++ text (endingIs g)
 
 -- which numbers an event's line can have
 abbrev pub EventNumber : Said → Type 0
@@ -83,6 +106,7 @@ module _ (o : Order) (es : List Event) where
     pub sequence : r .sequence ≡ e .sequence
     pub price : r .price ≡ priceOf e
     pub customer : r .customer ≡ isCustomer e
+    pub gtx : r .gtx ≡ eqb (e .kind) 1
     pub size : r .size ≡ cond (eqb (e .kind) 1) (min (sizeOf e) (o .size)) (sizeOf e)
 
   -- the record e is the market order that ended the auction: the last that was taken, on the other side
@@ -113,9 +137,16 @@ module _ (o : Order) (es : List Event) where
     pub in-range : Every (Within (range o es)) (written o es)
     pub own-limit : Every (λ f. better (isSell o) (o .limit) (f .price) ≡ false) (written o es)
     pub some : Every (λ f. 1 ≤ f .quantity) (written o es)
+    -- they are those of demand 3's clauses, which hold of the buy that the order is or mirrors, with a sell's prices mirrored back
+    pub clauses : Trades (last o es)
+    pub link : written o es ≡ reported (isSell o) (fills (dealOf (last o es .head)) (offers (last o es .board)))
+    -- the responses are those that the records taken leave standing
+    pub stand : Shuffles (standingOf o (taken o es)) (there o es)
     -- each party is the Contra Order, or exactly one record
     pub parties : Every Party (written o es)
     pub one-record : (e f : Event) → In e (taken o es) → In f (taken o es) → e .sequence ≡ f .sequence → e ≡ f
+    -- a market order of the other side that is taken ends the auction, and trades as far as sizes go
+    pub market-trades : (e : Event) → In e (taken o es) → e .kind ≡ 4 → e .side ≡ otherSide o → Ends e × (got (e .sequence) (written o es) ≡ min (o .size) (sizeOf e))
     -- the Contra Order does not trade beyond its stop or auto-match limit
     pub contra-limit : o .mode ≢ 2 → Every (λ f. f .party ≡ 0 → better (isSell o) (f .price) (o .stop) ≡ false) (written o es)
     -- a response trades at its working price alone, and at most its size
@@ -131,8 +162,6 @@ module _ (o : Order) (es : List Event) where
         → Near (leftToOthers o es (worksAt o es r)) (sum (sizes (othersAt o es (worksAt o es r)))) (r .size) (got (r .sequence) (written o es))
     -- where one of them trades at the guarantee price the Contra Order has its guarantee
     pub guaranteed : (r : Response) → In r (there o es) → r .customer ≡ false → planAt o es (worksAt o es r) .final ≡ true → 0 < got (r .sequence) (written o es) → guarantee o es ≤ got 0 (written o es)
-    -- and every clause of demand 3 holds of the buy that the order is or mirrors
-    pub clauses : Trades (last o es)
 
 -- ---- 4. a response that stands on the board is never counted twice
 
@@ -153,6 +182,8 @@ module _ (o : Order) where
         → stepOf (after before) f ≡ gives (Refused (cond (isOpen (after before .head .ending)) (cond (eventFormed f) 33 32) 31)) (after before)
     -- each live response comes from one record
     pub one-record : (es : List Event) → acceptOf o .answer ≡ Accepted → Every (OneRecord o es) (responses (after es))
+    -- no two of them bear one sequence
+    pub apart : (es : List Event) → acceptOf o .answer ≡ Accepted → Distinct (responses (after es))
     -- a cancelled one never comes back
     pub never-back : (before : List Event) (e : Event) (es : List Event) → acceptOf o .answer ≡ Accepted → e .kind ≡ 2 → stepOf (after before) e .answer ≡ Taken
         → Absent (nameOf e) (liveOf (after (before ++ (e ∷ es)) .board))

@@ -23,6 +23,7 @@ use Rattle.events.specs.declared.Answer.{Answer}
 use Rattle.events.specs.declared.Answer.the-variants.{Taken, Ended, Late, Refused as NotTaken}
 use Rattle.trade.specs.declared.Filled.{Filled}
 use Rattle.trade.specs.declared.Filled.the-variants.{Count, Refused as NotFilled}
+use Rattle.run.specs.rules.Run.{Run, refused, ended}
 use Rattle.listing.specs.declared.Listed.{Listed}
 use Rattle.listing.specs.declared.Listed.the-variants.{Refused as NoAuction, Ended as Auctioned}
 
@@ -78,6 +79,11 @@ endingIs Improve = "improve"
 abbrev pub filledIs : Filled → Paper ℕ
 filledIs (Count n) = yes n
 filledIs (NotFilled n) = no n
+
+-- what came of a tape: its number, or why its auction ended
+abbrev pub runIs : Run → Paper Ending
+runIs (refused number) = no number
+runIs (ended first said last) = yes (last .head .ending)
 
 -- a listing: 24, then the numbers of a tape and its order, or why the auction ended
 abbrev pub listedIs : Listed → Paper Ending

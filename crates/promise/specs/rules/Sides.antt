@@ -1,24 +1,26 @@
 -- An ended auction in real prices, buys and sells alike: the fills as they are written, the responses as they were sent.
-use mathlib.Core.Bool.{Bool, true, false, cond, not, _&&_}
+use mathlib.Core.Bool.{Bool, true, false, cond, not, _&&_, _||_}
 use mathlib.Core.List.{List, [], _∷_, map}
 use Prim.Native.Nat.{ℕ, _+_, _-_, min, max}
 use lib.Dec.{ltb, eqb}
 use lib.ListN.{length}
 use Rattle.base.specs.Lists.{filter, sum}
 use Rattle.board.specs.declared.Response.{Response}
-use Rattle.board.specs.rules.Board.{liveOf}
+use Rattle.board.specs.rules.Board.{liveOf, isGtx}
 use Rattle.share.specs.rules.Fills.{Fill, sizes}
 use Rattle.tape.specs.declared.order.Order.{Order}
 use Rattle.tape.specs.declared.event.Event.{Event}
+use Rattle.tape.specs.rules.Fields.{sizeOf, priceOf, nameOf}
 use Rattle.trade.specs.rules.Plan.{Plan, planOf}
 use Rattle.trade.specs.rules.Trade.{fromCustomer, fromOther, guaranteeOf, workingStop}
 use Rattle.trade.specs.rules.Write.{reportedPrice}
 use Rattle.demand.specs.promises.Demands.{tally}
-use Rattle.auction.specs.rules.Accept.{acceptOf}
+use Rattle.auction.specs.rules.Accept.{acceptOf, bidMark, offerMark}
 use Rattle.auction.specs.rules.Range.{rangeOf}
 use Rattle.auction.specs.declared.Auction.{Auction}
 use Rattle.auction.specs.declared.Range.{Range}
 use Rattle.auction.specs.declared.Market.{Market}
+use Rattle.events.specs.rules.Decide.{isCustomer}
 use Rattle.fills.specs.rules.Fills.{dealOf, auctionFills}
 use Rattle.run.specs.rules.Run.{takenOf, played}
 
@@ -40,6 +42,68 @@ sent sell r = record { sequence = r .sequence; size = r .size; price = reportedP
 -- the live responses of an auction, as they were sent
 abbrev pub responses : Auction → List Response
 responses a = map (sent (a .head .terms .sell)) (liveOf (a .board))
+
+-- ---- the opening range, by the order's own fields
+
+-- under 50 contracts, or a Customer at the best bid (of a sell: the best offer), the bound is a cent away from it
+abbrev pub cent : Order → Bool → ℕ
+cent o mark = cond (ltb (o .size) 50 || mark) 1 0
+
+-- a buy: from the higher of NBB and BB + t to the lower of limit and NBO, under 50 contracts also of BO - 1
+abbrev pub buyRange : Order → Range
+buyRange o =
+    record {
+      low = max (o .nbb) (o .bb + cent o (bidMark (o .marks)));
+      high = min (min (o .limit) (o .nbo)) (cond (ltb (o .size) 50) (o .bo - 1) (o .limit));
+    }
+
+-- a sell: from the higher of limit and NBB, under 50 contracts also of BB + 1, to the lower of NBO and BO - t
+abbrev pub sellRange : Order → Range
+sellRange o =
+    record {
+      low = max (max (o .limit) (o .nbb)) (cond (ltb (o .size) 50) (o .bb + 1) (o .limit));
+      high = min (o .nbo) (o .bo - cent o (offerMark (o .marks)));
+    }
+
+-- ---- what the records leave standing
+
+module _ (o : Order) where
+  -- the response that a record sends
+  abbrev pub sentBy : Event → Response
+  sentBy e =
+      record {
+        sequence = e .sequence;
+        size = cond (eqb (e .kind) 1) (min (sizeOf e) (o .size)) (sizeOf e);
+        price = priceOf e;
+        customer = isCustomer e;
+        gtx = eqb (e .kind) 1;
+      }
+
+  -- the initiating price
+  abbrev pub initiatingPrice : ℕ
+  initiatingPrice = reportedPrice (isSell o) (acceptOf o .auction .head .terms .initiating)
+
+  -- a limit order of the other side, at the initiating price or better
+  abbrev pub takesPlace : Event → Bool
+  takesPlace e = eqb (e .side) (otherSide o) && not (better (isSell o) initiatingPrice (priceOf e))
+
+  -- a GTX response stands, a cancel takes away the GTX response that it names, a limit order stands where it takes a place; no other record changes what stands
+  abbrev pub standsAfter : List Response → Event → List Response
+  standsAfter rs e =
+      cond (eqb (e .kind) 1) (sentBy e ∷ rs)
+      (cond (eqb (e .kind) 2) (filter (λ r. not (isGtx (nameOf e) r)) rs)
+      (cond (eqb (e .kind) 3 && takesPlace e) (sentBy e ∷ rs)
+      rs))
+
+  abbrev pub standingFrom : List Response → List Event → List Response
+  standingFrom rs [] = rs
+  standingFrom rs (e ∷ es) = standingFrom (standsAfter rs e) es
+
+  -- what a list of records taken leaves standing
+  abbrev pub standingOf : List Event → List Response
+  standingOf es = standingFrom [] es
+
+-- ---- fills
 
 -- what trades at better prices than p, and what a party trades at those
 abbrev pub soldBetter : Bool → ℕ → List Fill → ℕ

@@ -3,7 +3,8 @@ use mathlib.Core.Path.{_≡_}
 use mathlib.Core.Bool.{Bool, true, false, cond, not}
 use mathlib.Core.List.{List, [], _∷_, _++_}
 use Prim.Native.Nat.{ℕ, _≤_}
-use Rattle.base.specs.Lists.{In, keep}
+use Rattle.base.specs.Lists.{In, keep, filter}
+use Rattle.words.specs.rules.Bytes.{AllBytes}
 use Rattle.tape.specs.rules.Tape.{openTape, orderIn, recordsOf}
 use Rattle.tape.specs.declared.order.Order.{Order}
 use Rattle.tape.specs.declared.order.ReadOrder.{ReadOrder}
@@ -11,13 +12,13 @@ use Rattle.tape.specs.declared.event.Event.{Event}
 use Rattle.tape.specs.declared.trailer.Trailer.{Trailer}
 use Rattle.tape.specs.declared.trailer.Opened.the-variants.{Tape}
 use Rattle.trade.specs.rules.Trade.{traded}
-use Rattle.auction.specs.rules.Range.{rangeOf}
+use Rattle.auction.specs.rules.Range.{isOpen, rangeOf}
 use Rattle.auction.specs.declared.Auction.{Auction}
 use Rattle.events.specs.rules.Step.{stepOf}
 use Rattle.events.specs.declared.Answer.{Answer}
 use Rattle.events.specs.declared.Answer.the-variants.{Taken, Ended, Late, Refused}
 use Rattle.fills.specs.rules.Fills.{auctionFills}
-use Rattle.run.specs.rules.Run.{Run, refused, ended, runOf, takenOf}
+use Rattle.run.specs.rules.Run.{Said, Run, refused, ended, runOf, run, takenOf}
 use Rattle.run.specs.promises.Demands.{mirroredFills, mirroredRange}
 use Rattle.listing.specs.rules.Listing.{field, refusedLine, rangeText, sideText, eventLines, endText, fillLines, totalLine, endLines}
 
@@ -31,6 +32,7 @@ pub record Carries (s : List ℕ) (o : ReadOrder) (es : List Event) : Type 0 whe
 -- there is a tape that carries an order and records
 pub record SomeTape (o : ReadOrder) (es : List Event) : Type 0 where
   pub bytes : List ℕ
+  pub all-bytes : AllBytes bytes
   pub carries : Carries bytes o es
 
 -- the END, FILL and TOTAL lines of a tape's listing; none where it is refused
@@ -54,10 +56,16 @@ abbrev pub notRefused : Auction → List Event → List Event
 notRefused a [] = []
 notRefused a (e ∷ es) = keep (not (isRefused (stepOf a e .answer))) e (notRefused (stepOf a e .auction) es)
 
+-- the lines of those
+abbrev pub notRefusedSaid : List Said → List Said
+notRefusedSaid xs = filter (λ x. not (isRefused (x .answer))) xs
+
 -- fs is es with resent records put in, one after the other: each bears the sequence of a record that was taken before it, or a lower one, whatever else it says
 pub data Resends (a : Auction) (es : List Event) : List Event → Type 0 where
   none : Resends a es es
   more : (before : List Event) (e f : Event) (after : List Event) → In e (takenOf a before) → f .sequence ≤ e .sequence → Resends a es (before ++ after) → Resends a es (before ++ (f ∷ after))
+  -- or it is put in after the ending, whatever it says
+  late : (before : List Event) (f : Event) (after : List Event) → isOpen (run a before .head .ending) ≡ false → Resends a es (before ++ after) → Resends a es (before ++ (f ∷ after))
 
 -- ---- the mirror
 

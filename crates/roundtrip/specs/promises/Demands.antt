@@ -1,13 +1,15 @@
 -- What is promised of the records of a tape, beyond each function's own contract.
 use mathlib.Core.Path.{_≡_}
 use mathlib.Core.Bool.{true}
-use mathlib.Core.List.{List, [], _∷_, _++_}
+use mathlib.Core.List.{List, [], _∷_, _++_, map}
 use Prim.Native.Nat.{ℕ, _+_, _≤_, _<_, _^_}
 use lib.ListN.{length, take, drop}
+use Rattle.base.specs.Lists.{Every}
 use Rattle.words.specs.rules.Bytes.{AllBytes}
 use Rattle.tape.specs.rules.Form.{orderFormed, eventFormed}
-use Rattle.tape.specs.rules.Records.{readOrder, orderAnswer, orderWrote, readEvent, eventAnswer, eventWrote, readTrailer, trailerAnswer, trailerWrote}
+use Rattle.tape.specs.rules.Records.{readOrder, orderAnswer, orderWrote, readEvent, recordAt, eventAnswer, eventWrote, readTrailer, trailerAnswer, trailerWrote}
 use Rattle.tape.specs.rules.Tape.{lengthOf, openTape, eventPlace, orderIn, recordsOf, tapeOf, wroteTape, trailerFor}
+use Rattle.roundtrip.specs.rules.Whole.{tapeWith, ownBytes, orderBytes, recordsBytes}
 use Rattle.tape.specs.promises.Holds.{Holds, Recorded}
 use Rattle.tape.specs.declared.order.Order.{Order}
 use Rattle.tape.specs.declared.event.Event.{Event}
@@ -60,6 +62,25 @@ pub record TapeBack (own : List ℕ) (o : Order) (es : List Event) : Type 0 wher
   -- and each of them reads back where it stands
   pub event : (before : List Event) (e : Event) (after : List Event) → es ≡ before ++ (e ∷ after) → readEvent (drop (eventPlace (length own) (length before)) (tapeOf own o es)) ≡ GotEvent e
 
+-- an order's bytes and records' bytes, in form or not, that fit a tape after the recorder's own
+pub record Fitting (own order : List ℕ) (rs : List (List ℕ)) : Type 0 where
+  pub order-long : length order ≡ 64
+  pub each-long : Every (λ r. length r ≡ 32) rs
+  pub fits : length (tapeWith own order rs) ≤ 65536
+
+-- a tape of any records opens; its order is what the order's bytes alone are read as, and its records what stands in each
+pub record AnyRecords (own order : List ℕ) (rs : List (List ℕ)) : Type 0 where
+  pub opens : openTape (tapeWith own order rs) ≡ Tape (trailerFor own rs)
+  pub ordered : orderIn (tapeWith own order rs) (trailerFor own rs) ≡ readOrder order
+  pub records : recordsOf (tapeWith own order rs) (trailerFor own rs) ≡ map recordAt rs
+
+-- a tape that opens is made of its own bytes, its order's and its records', and gives what these give
+pub record MadeOf (s : List ℕ) (t : Trailer) : Type 0 where
+  pub fitting : Fitting (ownBytes s t) (orderBytes s t) (recordsBytes s t)
+  pub whole : AllBytes s → tapeWith (ownBytes s t) (orderBytes s t) (recordsBytes s t) ≡ s
+  pub ordered : orderIn s t ≡ readOrder (orderBytes s t)
+  pub records : recordsOf s t ≡ map recordAt (recordsBytes s t)
+
 pub record Demands : Type 0 where
   pub values-back : ValuesBack
   pub bytes-back : BytesBack
@@ -67,3 +88,7 @@ pub record Demands : Type 0 where
   pub tape-back : (own : List ℕ) (o : Order) (es : List Event) → Tapeable own o es → TapeBack own o es
   pub holds : (s : List ℕ) (t : Trailer) → openTape s ≡ Tape t → Holds s t
   pub recorded : (s : List ℕ) → Recorded s
+  pub any-records : (own order : List ℕ) (rs : List (List ℕ)) → Fitting own order rs → AnyRecords own order rs
+  pub made-of : (s : List ℕ) (t : Trailer) → openTape s ≡ Tape t → MadeOf s t
+  -- writing what was read gives the same bytes, the whole tape
+  pub whole-back : (s : List ℕ) (t : Trailer) (o : Order) → AllBytes s → openTape s ≡ Tape t → orderIn s t ≡ GotOrder o → Every (λ e. eventFormed e ≡ true) (recordsOf s t) → tapeOf (ownBytes s t) o (recordsOf s t) ≡ s

@@ -31,6 +31,7 @@ use Rattle.auction.specs.declared.Auction.{Auction}
 use Rattle.auction.specs.declared.Head.{Head}
 use Rattle.auction.specs.declared.Terms.{Terms}
 use Rattle.auction.specs.declared.Range.{Range}
+use Rattle.auction.specs.declared.Ending.the-variants.{Opposite}
 use Rattle.auction.specs.declared.Entry.the-variants.{Accepted, Refused as NotAccepted}
 use Rattle.events.specs.declared.Answer.the-variants.{Refused}
 use Rattle.events.specs.declared.Sight.{Sight}
@@ -73,8 +74,21 @@ pub record ComesFrom (t : Terms) (es : List Event) (r : Response) : Type 0 where
   pub taken : In event es
   -- a GTX response or a limit order
   pub kind : (event .kind ≡ 1) ⊎ (event .kind ≡ 3)
+  -- for the other side
+  pub side : buyEvent (t .sell) event .side ≡ 2
   pub made : r ≡ madeBy t event
   pub named : r .sequence ≡ event .sequence
+
+-- the market order of the auction b is one of the events that the auction a took, for the other side: it ended the auction, and none was taken after it
+pub record MarketFrom (a : Auction) (es : List Event) (b : Auction) : Type 0 where
+  pub event : Event
+  pub taken : In event (takenOf a es)
+  pub kind : event .kind ≡ 4
+  pub side : buyEvent (a .head .terms .sell) event .side ≡ 2
+  pub sequence : b .head .market .sequence ≡ event .sequence
+  pub size : b .head .market .size ≡ sizeOf event
+  pub ending : b .head .ending ≡ Opposite
+  pub latest : b .head .sequence ≡ event .sequence
 
 -- the sequences of a list rise, above m
 abbrev pub Rising : ℕ → List Event → Type 0
@@ -95,6 +109,8 @@ pub record Resend : Type 0 where
   pub rising : (a : Auction) (es : List Event) → Rising (a .head .sequence) (takenOf a es)
   -- each live response comes from an event taken, and a sequence tells which
   pub comes-from : (o : Order) (es : List Event) → acceptOf o .answer ≡ Accepted → Every (ComesFrom (acceptOf o .auction .head .terms) (takenOf (acceptOf o .auction) es)) (liveOf (run (acceptOf o .auction) es .board))
+  -- so does a market order that ended the auction
+  pub market-from : (o : Order) (es : List Event) → acceptOf o .answer ≡ Accepted → 0 < run (acceptOf o .auction) es .head .market .size → MarketFrom (acceptOf o .auction) es (run (acceptOf o .auction) es)
   pub one : (a : Auction) (es : List Event) (e f : Event) → In e (takenOf a es) → In f (takenOf a es) → e .sequence ≡ f .sequence → e ≡ f
 
 -- ---- demand 3

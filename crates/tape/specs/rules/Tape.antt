@@ -53,7 +53,8 @@ recordsOf s t = recordsFrom s t 0 (t .events)
 
 -- ---- a tape that is put together
 
-abbrev pub trailerFor : List ℕ → List Event → Trailer
+-- after the recorder's own bytes, for events or for their records
+abbrev pub trailerFor : {A : Type 0} → List ℕ → List A → Trailer
 trailerFor own es = record { order = length own; events = length es }
 
 abbrev pub eventsBytes : List Event → List ℕ

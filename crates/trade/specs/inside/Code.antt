@@ -7,7 +7,8 @@ use lib.Dec.{leb, ltb, eqb}
 use Rattle.words.specs.rules.Bits.{withBit}
 use Rattle.board.specs.declared.Response.{Response}
 use Rattle.base.specs.Lists.{filter, sum}
-use Rattle.board.specs.rules.Board.{liveIn, wordOf, inSequence}
+use Rattle.board.specs.rules.Board.{liveIn, inSequence}
+use Rattle.board.specs.inside.Places.{wordOf}
 use Rattle.share.specs.rules.Share.{floors, plus, firsts, shares, inTurn}
 use Rattle.share.specs.rules.Fills.{Fill, fillOf, fillsBy, sizes}
 use Rattle.trade.specs.declared.Deal.{Deal}

@@ -1,7 +1,7 @@
 -- Words in a list of bytes, the lowest byte first.
 use mathlib.Core.Bool.{cond}
 use mathlib.Core.List.{List, [], _∷_, _++_}
-use Prim.Native.Nat.{ℕ, zero, suc, _+_, _*_, _/_, _%_, _<_}
+use Prim.Native.Nat.{ℕ, _+_, _*_, _/_, _%_, _<_}
 use lib.Dec.{leb}
 use lib.ListN.{length, getD}
 use lib.Seq.{sets}
@@ -26,11 +26,6 @@ wordBytes (v ∷ vs) = u32Bytes v ++ wordBytes vs
 -- the word at `at`; 0 where the bytes end before it does
 unfoldable pub wordAt : List ℕ → ℕ → ℕ
 wordAt s at = cond (leb (at + 4) (length s)) (joined (getD s at 0) (getD s (at + 1) 0) (getD s (at + 2) 0) (getD s (at + 3) 0)) 0
-
--- n words, from `at` on
-abbrev pub wordsFrom : List ℕ → ℕ → ℕ → List ℕ
-wordsFrom s at zero = []
-wordsFrom s at (suc n) = wordAt s at ∷ wordsFrom s (at + 4) n
 
 -- the bytes with a row of words from `at` on; as they are where they end before the last does
 unfoldable pub withWords : List ℕ → ℕ → List ℕ → List ℕ

@@ -1,0 +1,2 @@
+-- What private functions that walk the places give.
+pub mod Places

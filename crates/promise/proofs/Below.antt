@@ -1,0 +1,39 @@
+-- The theorems below the promise.
+use Rattle.words.proofs.BitTheorems.{bits-mean}
+use Rattle.reader.proofs.ReaderLaws.{reading}
+use Rattle.roundtrip.proofs.TapeBack.{demands as round-trips}
+use Rattle.mirror.proofs.MirrorForm.{records-mirror}
+use Rattle.board.proofs.Theorems.{changes, seen, finding, ordering}
+use Rattle.share.proofs.ShareLaws.{pro-rata}
+use Rattle.demand.proofs.Theorems.{demand3, few}
+use Rattle.run.proofs.Resend.{keeps}
+use Rattle.run.proofs.ComesFrom.{resend}
+use Rattle.run.proofs.SoundLaws.{demanded}
+use Rattle.run.proofs.Mirrors.{mirrors}
+use Rattle.run.proofs.LentLaws.{in-place}
+use Rattle.run.proofs.Figures.{figures}
+use Rattle.listing.proofs.Theorems.{demands as listings}
+use Rattle.promise.specs.promises.Below.{Below}
+
+pub below : Below
+below =
+    record {
+      bits = bits-mean;
+      reading = λ bytes t. reading bytes t;
+      round-trips = round-trips;
+      records-mirror = records-mirror;
+      changes = changes;
+      seen = seen;
+      finding = finding;
+      ordering = ordering;
+      pro-rata = pro-rata;
+      demand-3 = demand3;
+      few = few;
+      keeps = keeps;
+      resend = resend;
+      demanded = demanded;
+      mirrors = mirrors;
+      in-place = in-place;
+      figures = figures;
+      listings = listings;
+    }

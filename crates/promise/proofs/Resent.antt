@@ -1,0 +1,328 @@
+-- A response that stands on the board is never counted twice, and the market order that ended an auction is one of its records. Assumes nothing.
+use mathlib.Core.Path.{_≡_, refl, sym, ap, subst, _∙_}
+use mathlib.Core.Bool.{Bool, true, false, cond}
+use mathlib.Core.List.{List, [], _∷_, _++_, map}
+use mathlib.Core.Logic.{_⊎_, inl, inr, _≢_}
+use Prim.Native.Nat.{ℕ, _≤_, _<_, min}
+use native.Mathlib.Nat.{le-trans}
+use native.Mathlib.Omega.{arith}
+use lib.Dec.{leb, ltb, eqb}
+use borrow.Author.Tests.{eq-eqb, ne-eqb, ltb-true}
+use Rattle.base.specs.Lists.{In, Every, keep, Inserts}
+use Rattle.base.specs.Lists.Inserts.{here, there}
+use Rattle.base.specs.Price.{mirrored}
+use Rattle.base.proofs.Bools.{by, no}
+use Rattle.base.proofs.ListLaws.{every-map, every-in, every-inserts}
+use Rattle.base.proofs.Numbers.{mirror-twice}
+use Rattle.board.specs.declared.Board.{Board}
+use Rattle.board.specs.declared.Response.{Response}
+use Rattle.board.specs.rules.Board.{liveOf, cleared, findGtx}
+use Rattle.board.specs.promises.Board.{GtxAt}
+use Rattle.board.proofs.BoardLaws.{clearing, find-gtx}
+use Rattle.tape.specs.declared.order.Order.{Order}
+use Rattle.tape.specs.declared.event.Event.{Event}
+use Rattle.tape.specs.declared.order.ReadOrder.the-variants.{Order as GotOrder}
+use Rattle.tape.specs.rules.Form.{eventFormed}
+use Rattle.tape.specs.rules.Fields.{sizeOf, priceOf, nameOf}
+use Rattle.mirror.specs.rules.Mirror.{mirroredSide, mirroredOrder, mirroredPriced, mirroredMarket, mirroredEvent, buyOrder, buyEvent}
+use Rattle.mirror.proofs.EventLaws.{buy-sequence, buy-kind, mirror-one, mirror-three, mirror-four}
+use Rattle.mirror.proofs.MirrorForm.{side-twice, event-bounds}
+use Rattle.trade.specs.rules.Write.{reportedPrice}
+use Rattle.demand.specs.promises.Demands.{Absent, Distinct}
+use Rattle.auction.specs.declared.Auction.{Auction}
+use Rattle.auction.specs.declared.Head.{Head}
+use Rattle.auction.specs.declared.Terms.{Terms}
+use Rattle.auction.specs.declared.Market.{Market}
+use Rattle.auction.specs.declared.Entry.the-variants.{Accepted}
+use Rattle.auction.specs.rules.Accept.{termsOf, openedBy, acceptOf}
+use Rattle.auction.specs.rules.Range.{isOpen}
+use Rattle.events.specs.declared.Answer.the-variants.{Taken, Refused}
+use Rattle.events.specs.declared.Sight.{Sight}
+use Rattle.events.specs.declared.Turn.{Turn}
+use Rattle.events.specs.declared.Change.the-variants.{Free}
+use Rattle.events.specs.declared.Outcome.{Outcome}
+use Rattle.events.specs.declared.Stepped.{Stepped}
+use Rattle.events.specs.rules.Decide.{isCustomer, cancelOutcome, outcomeOf}
+use Rattle.events.specs.rules.Step.{sightOf, eventRefusal, boardAfter, endedByTime, carried, turnOf, closeTurn, gives, stepOf}
+use Rattle.run.specs.rules.Run.{run, closed, isTaken, takenOf}
+use Rattle.run.specs.promises.Demands.{madeBy, ComesFrom, MarketFrom, Stands, Sound}
+use Rattle.run.proofs.StepLaws.{Outcomes, Ordinary, cases}
+use Rattle.run.proofs.Resend.{rises, taken-is, old-refused, run-rises}
+use Rattle.run.proofs.BoardSteps.{sees, seat-every, clear-every}
+use Rattle.run.proofs.Accepted.{opened}
+use Rattle.run.proofs.SoundLaws.{sound-opened, sound-step, sound-run, demanded}
+use Rattle.run.proofs.ComesFrom.{run-terms, resend}
+use Rattle.promise.specs.rules.Tapes.{Carries, endOf, Resends}
+use Rattle.promise.specs.rules.Tapes.Resends.{none, more}
+use Rattle.promise.specs.rules.Sides.{isSell, sent, responses, taken, last, market}
+use Rattle.promise.specs.promises.Parts.{Ended, OneRecord, Resent, after}
+use Rattle.promise.proofs.Answered.{ends-alike}
+
+-- ---- the records taken
+
+-- what holds of each event at its taking holds of all that are taken
+taken-every : (P : Event → Type 0) → ((a : Auction) (e : Event) → isTaken (stepOf a e .answer) ≡ true → P e) → (es : List Event) (a : Auction) → Every P (takenOf a es)
+taken-every P p [] a = tt
+taken-every P p (e ∷ es) a = go (isTaken (stepOf a e .answer)) refl (taken-every P p es (stepOf a e .auction))
+  where
+    go : (b : Bool) → isTaken (stepOf a e .answer) ≡ b → Every P (takenOf (stepOf a e .auction) es) → Every P (keep b e (takenOf (stepOf a e .auction) es))
+    go true z rest = (p a e z, rest)
+    go false z rest = rest
+
+pub taken-formed : (es : List Event) (a : Auction) → Every (λ e. eventFormed e ≡ true) (takenOf a es)
+taken-formed es a = taken-every (λ e. eventFormed e ≡ true) (λ b e z. taken-is (sightOf (b .board) e) b e z .0) es a
+
+-- none is above the highest sequence
+taken-below : (es : List Event) (a : Auction) → Every (λ e. e .sequence ≤ run a es .head .sequence) (takenOf a es)
+taken-below [] a = tt
+taken-below (e ∷ es) a = go (isTaken (stepOf a e .answer)) refl (taken-below es (stepOf a e .auction))
+  where
+    b : Auction
+    b = stepOf a e .auction
+
+    go : (t : Bool) → isTaken (stepOf a e .answer) ≡ t → Every (λ f. f .sequence ≤ run b es .head .sequence) (takenOf b es) → Every (λ f. f .sequence ≤ run b es .head .sequence) (keep t e (takenOf b es))
+    go true z rest = (omega (arith, taken-is (sightOf (a .board) e) a e z .2, run-rises es b), rest)
+    go false z rest = rest
+
+-- ---- a record with the sequence of one that was taken, or a lower one
+
+refused : (a : Auction) (before : List Event) (e f : Event) → In e (takenOf a before) → f .sequence ≤ e .sequence
+    → stepOf (run a before) f ≡ gives (Refused (cond (isOpen (run a before .head .ending)) (cond (eventFormed f) 33 32) 31)) (run a before)
+refused a before e f i h = old-refused (sightOf (run a before .board) f) (run a before) f (le-trans h (every-in (λ e. e .sequence ≤ run a before .head .sequence) (takenOf a before) e (taken-below before a) i))
+
+run-append : (es fs : List Event) (a : Auction) → run a (es ++ fs) ≡ run (run a es) fs
+run-append [] fs a = refl
+run-append (e ∷ es) fs a = run-append es fs (stepOf a e .auction)
+
+resent-run : (a : Auction) (es fs : List Event) → Resends a es fs → run a fs ≡ run a es
+resent-run a es fs none = refl
+resent-run a es fs (more before e f rest i h r) =
+    let same : stepOf (run a before) f .auction ≡ run a before = ap (λ (p : Stepped). p .auction) (refused a before e f i h) in
+    run-append before (f ∷ rest) a ∙ ap (λ (b : Auction). run b rest) same ∙ sym (run-append before rest a) ∙ resent-run a es (before ++ rest) r
+
+pub resends : (s t : List ℕ) (o : Order) (es fs : List Event) → Carries s (GotOrder o) es → Carries t (GotOrder o) fs → Resends (acceptOf o .auction) es fs → endOf t ≡ endOf s
+resends s t o es fs c d r = ends-alike s t o es fs c d (resent-run (acceptOf o .auction) es fs r)
+
+-- ---- a record as it was sent
+
+buy-size : (o : Order) → buyOrder o .size ≡ o .size
+unfolding buyOrder mirroredOrder
+buy-size o = by (λ (b : Order). b .size ≡ o .size) (eqb (o .side) 2) _ _ (λ _. refl) (λ _. refl)
+
+-- the side and the size of an accepted order are those of its auction
+terms-sell : (o : Order) → acceptOf o .answer ≡ Accepted → acceptOf o .auction .head .terms .sell ≡ isSell o
+unfolding openedBy termsOf
+terms-sell o h = ap (λ (a : Auction). a .head .terms .sell) (opened o h .auction)
+
+terms-size : (o : Order) → acceptOf o .answer ≡ Accepted → acceptOf o .auction .head .terms .size ≡ o .size
+unfolding openedBy termsOf
+terms-size o h = ap (λ (a : Auction). a .head .terms .size) (opened o h .auction) ∙ buy-size o
+
+-- side 2 for the engine is the other side
+side-back : (s : ℕ) → mirroredSide s ≡ 2 → s ≡ 1
+unfolding mirroredSide
+side-back s h = sym (side-twice s) ∙ ap mirroredSide h
+
+priced : (e : Event) → (e .kind ≡ 1) ⊎ (e .kind ≡ 3) → mirroredEvent e ≡ mirroredPriced e
+priced e (inl k) = mirror-one e k
+priced e (inr k) = mirror-three e k
+
+priced-side : (sell : Bool) (e : Event) → (e .kind ≡ 1) ⊎ (e .kind ≡ 3) → buyEvent sell e .side ≡ 2 → e .side ≡ cond sell 1 2
+unfolding buyEvent mirroredPriced
+priced-side true e k h = side-back (e .side) (ap (λ (x : Event). x .side) (sym (priced e k)) ∙ h)
+priced-side false e k h = h
+
+market-side : (sell : Bool) (e : Event) → e .kind ≡ 4 → buyEvent sell e .side ≡ 2 → e .side ≡ cond sell 1 2
+unfolding buyEvent mirroredMarket
+market-side true e k h = side-back (e .side) (ap (λ (x : Event). x .side) (sym (mirror-four e k)) ∙ h)
+market-side false e k h = h
+
+-- what a response of it is, for the engine
+made-price : (t : Terms) (e : Event) → madeBy t e .price ≡ priceOf (buyEvent (t .sell) e)
+made-price t e = by (λ (r : Response). r .price ≡ priceOf (buyEvent (t .sell) e)) (eqb (e .kind) 1) _ _ (λ _. refl) (λ _. refl)
+
+made-customer : (t : Terms) (e : Event) → madeBy t e .customer ≡ isCustomer (buyEvent (t .sell) e)
+made-customer t e = by (λ (r : Response). r .customer ≡ isCustomer (buyEvent (t .sell) e)) (eqb (e .kind) 1) _ _ (λ _. refl) (λ _. refl)
+
+size-by : (b : Bool) (x y : Response) → cond b x y .size ≡ cond b (x .size) (y .size)
+size-by true x y = refl
+size-by false x y = refl
+
+made-size : (t : Terms) (e : Event) → madeBy t e .size ≡ cond (eqb (e .kind) 1) (min (sizeOf (buyEvent (t .sell) e)) (t .size)) (sizeOf (buyEvent (t .sell) e))
+made-size t e = size-by (eqb (e .kind) 1) _ _
+
+-- its price comes back, its mark and its size stay
+sent-price : (sell : Bool) (e : Event) → (e .kind ≡ 1) ⊎ (e .kind ≡ 3) → eventFormed e ≡ true → reportedPrice sell (priceOf (buyEvent sell e)) ≡ priceOf e
+unfolding buyEvent mirroredPriced
+sent-price true e k f = ap (λ (x : Event). mirrored (priceOf x)) (priced e k) ∙ mirror-twice (priceOf e) (omega (arith, event-bounds e f .price))
+sent-price false e k f = refl
+
+sent-customer : (sell : Bool) (e : Event) → (e .kind ≡ 1) ⊎ (e .kind ≡ 3) → isCustomer (buyEvent sell e) ≡ isCustomer e
+unfolding buyEvent mirroredPriced
+sent-customer true e k = ap (λ (x : Event). isCustomer x) (priced e k)
+sent-customer false e k = refl
+
+sent-size : (sell : Bool) (e : Event) → (e .kind ≡ 1) ⊎ (e .kind ≡ 3) → sizeOf (buyEvent sell e) ≡ sizeOf e
+unfolding buyEvent mirroredPriced
+sent-size true e k = ap (λ (x : Event). sizeOf x) (priced e k)
+sent-size false e k = refl
+
+module _ (o : Order) (es : List Event) (h : acceptOf o .answer ≡ Accepted) where
+  abbrev first : Auction
+  first = acceptOf o .auction
+
+  abbrev terms : Terms
+  terms = first .head .terms
+
+  -- a live response, as it was sent, is that of the record that it comes from
+  pub sends : (r : Response) → ComesFrom terms (takenOf first es) r → OneRecord o es (sent (isSell o) r)
+  sends r c =
+      let e : Event = c .event in
+      let f : eventFormed e ≡ true = every-in (λ x. eventFormed x ≡ true) (takenOf first es) e (taken-formed es first) (c .taken) in
+      let sell : terms .sell ≡ isSell o = terms-sell o h in
+      record {
+        record-of = e;
+        sends =
+            record {
+              taken = c .taken;
+              side = priced-side (isSell o) e (c .kind) (ap (λ (s : Bool). buyEvent s e .side) (sym sell) ∙ c .side);
+              kind = c .kind;
+              sequence = c .named;
+              price =
+                  ap (λ (x : Response). reportedPrice (isSell o) (x .price)) (c .made) ∙ ap (reportedPrice (isSell o)) (made-price terms e)
+                  ∙ ap (λ (s : Bool). reportedPrice (isSell o) (priceOf (buyEvent s e))) sell ∙ sent-price (isSell o) e (c .kind) f;
+              customer = ap (λ (x : Response). x .customer) (c .made) ∙ made-customer terms e ∙ sent-customer (terms .sell) e (c .kind);
+              size =
+                  ap (λ (x : Response). x .size) (c .made) ∙ made-size terms e
+                  ∙ ap (λ (n : ℕ). cond (eqb (e .kind) 1) (min n (terms .size)) n) (sent-size (terms .sell) e (c .kind))
+                  ∙ ap (λ (n : ℕ). cond (eqb (e .kind) 1) (min (sizeOf e) n) (sizeOf e)) (terms-size o h);
+            };
+        only = λ g i z. resend .one first es g e i (c .taken) (z ∙ c .named);
+      }
+
+-- what holds of each as it was sent
+every-sent : (P : Response → Type 0) (sell : Bool) (rs : List Response) → Every (λ r. P (sent sell r)) rs → Every P (map (sent sell) rs)
+every-sent P sell [] a = tt
+every-sent P sell (r ∷ rs) a = (a .0, every-sent P sell rs (a .1))
+
+pub one-record : (o : Order) (es : List Event) → acceptOf o .answer ≡ Accepted → Every (OneRecord o es) (responses (after o es))
+one-record o es h =
+    let live : List Response = liveOf (run (acceptOf o .auction) es .board) in
+    let sell : run (acceptOf o .auction) es .head .terms .sell ≡ isSell o = ap (λ (t : Terms). t .sell) (run-terms es (acceptOf o .auction)) ∙ terms-sell o h in
+    subst (λ (s : Bool). Every (OneRecord o es) (map (sent s) live)) (sym sell)
+    (every-sent (OneRecord o es) (isSell o) live
+    (every-map (ComesFrom (acceptOf o .auction .head .terms) (takenOf (acceptOf o .auction) es)) (λ r. OneRecord o es (sent (isSell o) r)) live (sends o es h) (resend .comes-from o es h)))
+
+-- ---- a cancelled response
+
+-- no live response bears k, and none ever will
+abbrev Gone : ℕ → Auction → Type 0
+Gone k a = (k ≤ a .head .sequence) × Absent k (liveOf (a .board))
+
+-- of one with a sequence of its own, the others don't bear it
+others-apart : {r : Response} {xs ys : List Response} → Inserts r xs ys → Distinct ys → Absent (r .sequence) xs
+others-apart here d = d .0
+others-apart {r} (there {x} i) d = (λ z. every-inserts (λ y. y .sequence ≢ x .sequence) i (d .0) .0 (sym z), others-apart i (d .1))
+
+-- a cancel is decided by what it found
+cancel-is : (h : Head) (s : Sight) (m : Event) → m .kind ≡ 2 → outcomeOf (h .terms) (h .quotes) s m ≡ cancelOutcome s
+unfolding outcomeOf
+cancel-is h s m k = simp (ne-eqb (m .kind) 1 (λ z. omega arith), eq-eqb (m .kind) 2 k)
+
+-- a cancel that was taken frees the place found
+cancel-frees : (h : Head) (s : Sight) (e : Event) → e .kind ≡ 2 → turnOf h s e .answer ≡ Taken → (s .found < 64) × (turnOf h s e .change ≡ Free (s .found))
+unfolding turnOf cancelOutcome
+cancel-frees h s e k =
+    by P (eqb (eventRefusal h e) 0) _ _
+    (λ _. by P (leb (h .terms .interval) (e .time)) _ _ (λ _ z. no cc) (λ _.
+    subst (λ (u : Outcome). P (carried h e u)) (sym (cancel-is h s m (buy-kind e (h .terms .sell) ∙ k)))
+    (by (λ (u : Outcome). P (carried h e u)) (ltb (s .found) 64) _ _ (λ f _. (ltb-true _ _ f, refl)) (λ _ z. no cc))))
+    (λ _ z. no cc)
+  where
+    m : Event
+    m = buyEvent (h .terms .sell) e
+
+    P : Turn → Type 0
+    P t = t .answer ≡ Taken → (s .found < 64) × (t .change ≡ Free (s .found))
+
+-- what a cancel finds
+found-is : (b : Board) (e : Event) → e .kind ≡ 2 → sightOf b e .found ≡ findGtx b (nameOf e)
+unfolding sightOf
+found-is b e k = simp (eq-eqb (e .kind) 2 k)
+
+cancelled : (a : Auction) (e : Event) → Sound a → e .kind ≡ 2 → stepOf a e .answer ≡ Taken → Gone (nameOf e) (stepOf a e .auction)
+cancelled a e s k z =
+    let t = cancel-frees (a .head) (sightOf (a .board) e) e k z in
+    let i : ℕ = findGtx (a .board) (nameOf e) in
+    let e1 : sightOf (a .board) e .found ≡ i = found-is (a .board) e k in
+    let g : GtxAt (a .board) (nameOf e) i = find-gtx (a .board) (nameOf e) (s .board) (omega (arith, t .0, e1)) in
+    let takes = clearing (a .board) i (s .board) (g .live) .takes in
+    let at-most : nameOf e ≤ a .head .sequence = omega (arith, every-inserts (Stands (a .head .sequence) (a .head .terms .initiating)) takes (s .live) .0 .1, g .sequence) in
+    let board : stepOf a e .auction .board ≡ cleared (a .board) i = ap (boardAfter (a .board)) (t .1) ∙ ap (cleared (a .board)) e1 in (
+      omega (arith, at-most, rises (sightOf (a .board) e) a e),
+      subst (λ (b : Board). Absent (nameOf e) (liveOf b)) (sym board) (subst (λ (n : ℕ). Absent n (liveOf (cleared (a .board) i))) (g .sequence) (others-apart takes (s .distinct))),
+    )
+
+stays-gone : (k : ℕ) (a : Auction) (e : Event) → Sound a → Gone k a → Gone k (stepOf a e .auction)
+stays-gone k a e s (l, g) = (omega (arith, rises v a e), cases (a .head) e v (λ t. Absent k (liveOf (boardAfter (a .board) (t .change)))) (record { refused = λ _ _. g; late = λ _. g; does = does }))
+  where
+    v : Sight
+    v = sightOf (a .board) e
+
+    sell : Bool
+    sell = a .head .terms .sell
+
+    does : Ordinary (a .head) e → Outcomes (a .head .terms) (a .head .quotes) v (buyEvent sell e) (λ u. Absent k (liveOf (boardAfter (a .board) (carried (a .head) e u .change))))
+    does o =
+        let fresh : buyEvent sell e .sequence ≢ k = λ z. omega (arith, o .newer, buy-sequence e sell) in
+        record {
+          refuses = λ _ _. g;
+          nothing = λ _. g;
+          gtx = λ _ _ f _. seat-every (a .board) (s .board) (λ r. r .sequence ≢ k) (v .at) _ f (sees (a .board) e (s .board) .free f) fresh g;
+          limit = λ _ _ _ f _. seat-every (a .board) (s .board) (λ r. r .sequence ≢ k) (v .at) _ f (sees (a .board) e (s .board) .free f) fresh g;
+          clear = λ _ _. clear-every (a .board) (s .board) (λ r. r .sequence ≢ k) (v .found) g;
+          quote = λ _ _. g;
+          sell = λ _ _. g;
+        }
+
+run-gone : (k : ℕ) (es : List Event) (a : Auction) → Sound a → Gone k a → Gone k (run a es)
+run-gone k [] a s g = g
+run-gone k (e ∷ es) a s g = run-gone k es (stepOf a e .auction) (sound-step a e s) (stays-gone k a e s g)
+
+pub never-back : (o : Order) (before : List Event) (e : Event) (es : List Event) → acceptOf o .answer ≡ Accepted → e .kind ≡ 2 → stepOf (after o before) e .answer ≡ Taken
+    → Absent (nameOf e) (liveOf (after o (before ++ (e ∷ es)) .board))
+never-back o before e es h k z =
+    let a : Auction = run (acceptOf o .auction) before in
+    let s : Sound a = sound-run before (acceptOf o .auction) (sound-opened o h) in
+    subst (λ (b : Auction). Absent (nameOf e) (liveOf (b .board))) (sym (run-append before (e ∷ es) (acceptOf o .auction)))
+    (run-gone (nameOf e) es (stepOf a e .auction) (sound-step a e s) (cancelled a e s k z) .1)
+
+pub resent : (o : Order) → Resent o
+resent o = record { refused = refused (acceptOf o .auction); one-record = one-record o; never-back = never-back o }
+
+-- ---- the market order that ended an auction
+
+closed-market : (a : Auction) → closed a .head .market ≡ a .head .market
+unfolding closeTurn endedByTime
+closed-market a = by (λ (t : Turn). t .head .market ≡ a .head .market) (isOpen (a .head .ending)) _ _ (λ _. refl) (λ _. refl)
+
+pub ended-by : (o : Order) (es : List Event) → acceptOf o .answer ≡ Accepted → 0 < market o es .size → Ended o es
+ended-by o es h n =
+    let a : Auction = run (acceptOf o .auction) es in
+    let size : market o es .size ≡ a .head .market .size = ap (λ (m : Market). m .size) (closed-market a) in
+    let f : MarketFrom (acceptOf o .auction) es a = resend .market-from o es h (omega (arith, size, n)) in
+    let same : a ≡ last o es = sym (demanded .by-event o es (ap isOpen (f .ending))) in
+    let e : Event = f .event in
+    record {
+      record-of = e;
+      ends =
+          record {
+            taken = f .taken;
+            side = market-side (isSell o) e (f .kind) (ap (λ (s : Bool). buyEvent s e .side) (sym (terms-sell o h)) ∙ f .side);
+            kind = f .kind;
+            sequence = ap (λ (b : Auction). b .head .market .sequence) (sym same) ∙ f .sequence;
+            size = size ∙ f .size;
+            ending = ap (λ (b : Auction). b .head .ending) (sym same) ∙ f .ending;
+            latest = ap (λ (b : Auction). b .head .sequence) (sym same) ∙ f .latest;
+          };
+    }

@@ -1,0 +1,178 @@
+-- What the others at a price share, in real prices. Assumes nothing.
+use mathlib.Core.Path.{_≡_, refl, sym, ap, _∙_, subst}
+use mathlib.Core.Bool.{Bool, true, false, _&&_}
+use mathlib.Core.List.{List, map}
+use Prim.Native.Nat.{ℕ, _-_, _≤_, _<_, min}
+use native.Mathlib.Omega.{arith}
+use lib.Dec.{ltb, eqb}
+use lib.ListN.{length, length-map}
+use Rattle.base.specs.Lists.{In, Every, filter, sum}
+use Rattle.base.proofs.ListLaws.{every-any, every-map, every-filter, shuffles-length}
+use Rattle.board.specs.declared.Response.{Response}
+use Rattle.board.specs.declared.Board.{Board}
+use Rattle.board.specs.rules.Board.{liveOf, inSequence}
+use Rattle.board.proofs.SequenceLaws.{sequence-filter, sequence-shuffles}
+use Rattle.share.specs.promises.Share.{Near}
+use Rattle.share.specs.rules.Fills.{Fill, sizes}
+use Rattle.tape.specs.declared.order.Order.{Order}
+use Rattle.tape.specs.declared.event.Event.{Event}
+use Rattle.trade.specs.declared.Deal.{Deal}
+use Rattle.trade.specs.rules.Plan.{Plan, planOf}
+use Rattle.trade.specs.rules.Trade as trade
+use Rattle.trade.specs.rules.Trade.{fromCustomer, fromOther, offers, offersAt, working, workingStop, guaranteeOf}
+use Rattle.trade.specs.rules.Write.{reportedPrice}
+use Rattle.trade.proofs.WriteLaws.{sizes-sequence}
+use Rattle.demand.specs.promises.Demands as demands
+use Rattle.demand.specs.promises.Demands.{Tradable, got, gotBelow, soldAt, soldBelow}
+use Rattle.auction.specs.rules.Accept.{acceptOf}
+use Rattle.auction.specs.declared.Entry.the-variants.{Accepted}
+use Rattle.fills.specs.rules.Fills.{dealOf}
+use Rattle.run.proofs.SoundLaws.{sound-deal}
+use Rattle.promise.specs.rules.Sides.{isSell, better, sent, soldBetter, gotBetter, last, written, there, walked, worksAt, allAt, customersAt, othersAt, guarantee, leftAt, planAt, leftToOthers}
+use Rattle.promise.proofs.RealLaws.{better-shown, same-shown, shown-twice, tally-shown, sold-shown, filter-sent, sizes-sent, deal, dealt, sound, mode-is, size-is, written-is, there-is, initiating-fits, prices-fit, working-fits, works-is, walked-is, got-is, was-live}
+use Rattle.promise.proofs.BuyShares as buy
+
+-- a plan by equal numbers, and what is left by them
+same-plan : (w i : ℕ) {m n g k p q l j u v a c : ℕ} → m ≡ n → g ≡ k → p ≡ q → l ≡ j → u ≡ v → a ≡ c → planOf m w i g p l u a ≡ planOf n w i k q j v c
+same-plan w i e1 e2 e3 e4 e5 e6 = rw (e1, e2, e3, e4, e5, e6)
+
+same-left : {l j c k w v : ℕ} → l ≡ j → c ≡ k → w ≡ v → (l - c) - min (l - c) w ≡ (j - k) - min (j - k) v
+same-left e1 e2 e3 = rw (e1, e2, e3)
+
+module _ (o : Order) (es : List Event) (h : acceptOf o .answer ≡ Accepted) where
+  abbrev sell : Bool
+  sell = isSell o
+
+  abbrev board : Board
+  board = last o es .board
+
+  -- the buy that the order is or mirrors
+  abbrev d : Deal
+  d = deal o es h
+
+  can-trade : Tradable d board
+  can-trade = sound-deal (last o es) (sound o es h)
+
+  -- 40%, or 50%
+  guarantee-is : guarantee o es ≡ trade.guarantee d (offers board)
+  unfolding dealOf
+  guarantee-is =
+      ap (λ (n : ℕ). guaranteeOf n (length (there o es))) (sym (size-is o es h))
+      ∙ ap (guaranteeOf (d .size)) (ap length (there-is o es h) ∙ length-map (liveOf board) (sent sell) ∙ sym (shuffles-length (sequence-shuffles (liveOf board))))
+
+  -- ---- at a price of the buy, and its real price
+
+  module _ (q : ℕ) (fits : q ≤ 1000000) where
+    abbrev real : ℕ
+    real = reportedPrice sell q
+
+    abbrev walks : List Fill
+    walks = demands.walked d (dealt o es h)
+
+    walks-fit : Every (λ f. f .price ≤ 1000000) walks
+    walks-fit = every-filter (λ f. f .price ≤ 1000000) _ (dealt o es h) (prices-fit o es h)
+
+    -- what trades there, and at better prices
+    sold-is : soldAt real (walked o es) ≡ soldAt q walks
+    sold-is = ap (soldAt real) (walked-is o es h) ∙ sold-shown sell q walks fits walks-fit
+
+    better-is : soldBetter sell real (walked o es) ≡ soldBelow q walks
+    better-is =
+        ap (soldBetter sell real) (walked-is o es h)
+        ∙ tally-shown sell (λ f. better sell (f .price) real) (λ f. ltb (f .price) q) walks
+        (every-map (λ f. f .price ≤ 1000000) (λ f. better sell (reportedPrice sell (f .price)) real ≡ ltb (f .price) q) walks (λ f z. better-shown sell (f .price) q z fits) walks-fit)
+
+    held-is : gotBetter sell 0 real (written o es) ≡ gotBelow 0 q (dealt o es h)
+    held-is =
+        ap (gotBetter sell 0 real) (written-is o es h)
+        ∙ tally-shown sell (λ f. eqb (f .party) 0 && better sell (f .price) real) (λ f. eqb (f .party) 0 && ltb (f .price) q) (dealt o es h)
+        (every-map (λ f. f .price ≤ 1000000) (λ f. (eqb (f .party) 0 && better sell (reportedPrice sell (f .price)) real) ≡ (eqb (f .party) 0 && ltb (f .price) q)) (dealt o es h)
+        (λ f z. ap (λ (b : Bool). eqb (f .party) 0 && b) (better-shown sell (f .price) q z fits)) (prices-fit o es h))
+
+    left-is : leftAt o es real ≡ buy.leftAt d board q
+    unfolding dealOf
+    left-is = omega (arith, size-is o es h, better-is)
+
+    -- the responses there
+    abbrev here : List Response
+    here = filter (λ r. eqb (working d r) q) (liveOf board)
+
+    all-is : allAt o es real ≡ map (sent sell) here
+    all-is =
+        ap (filter (λ r. eqb (worksAt o es r) real)) (there-is o es h)
+        ∙ filter-sent sell (λ r. eqb (worksAt o es r) real) (λ r. eqb (working d r) q) (liveOf board)
+        (every-map (λ r. r .price ≤ d .initiating) (λ r. eqb (worksAt o es (sent sell r)) real ≡ eqb (working d r) q) (liveOf board)
+        (λ r z. ap (λ (p : ℕ). eqb p real) (works-is o es h r) ∙ same-shown sell (working d r) q (omega (arith, can-trade .bound-below, initiating-fits o es h)) fits)
+        (can-trade .prices))
+
+    offers-are : offersAt d (offers board) q ≡ inSequence here
+    unfolding offersAt
+    offers-are = sequence-filter (λ r. eqb (working d r) q) (liveOf board)
+
+    all-sizes : sum (sizes (allAt o es real)) ≡ sum (sizes (offersAt d (offers board) q))
+    all-sizes =
+        ap (λ (rs : List Response). sum (sizes rs)) all-is
+        ∙ ap sum (sizes-sent sell here)
+        ∙ sym (ap (λ (rs : List Response). sum (sizes rs)) offers-are ∙ sizes-sequence here)
+
+    -- the Customers' or the others'
+    some-sizes : (c : Response → Bool) → ((r : Response) → c (sent sell r) ≡ c r) → sum (sizes (filter c (allAt o es real))) ≡ sum (sizes (filter c (offersAt d (offers board) q)))
+    some-sizes c same =
+        ap (λ (rs : List Response). sum (sizes (filter c rs))) all-is
+        ∙ ap (λ (rs : List Response). sum (sizes rs)) (filter-sent sell c c here (every-any (λ r. c (sent sell r) ≡ c r) here same))
+        ∙ ap sum (sizes-sent sell (filter c here))
+        ∙ sym (ap (λ (rs : List Response). sum (sizes (filter c rs))) offers-are ∙ ap (λ (rs : List Response). sum (sizes rs)) (sequence-filter c here) ∙ sizes-sequence (filter c here))
+
+    customers-are : sum (sizes (customersAt o es real)) ≡ sum (sizes (filter fromCustomer (offersAt d (offers board) q)))
+    customers-are = some-sizes fromCustomer (λ r. refl)
+
+    others-are : sum (sizes (othersAt o es real)) ≡ sum (sizes (demands.othersAt d (offers board) q))
+    others-are = some-sizes fromOther (λ r. refl)
+
+    -- the plan, and what it leaves
+    plan-is : planAt o es real ≡ buy.planAt d board q
+    unfolding dealOf
+    plan-is = same-plan (workingStop d) (d .initiating) (sym (mode-is o es h)) guarantee-is (shown-twice sell q fits) left-is held-is all-sizes
+
+    left-to-is : leftToOthers o es real ≡ buy.leftToOthers d board q
+    left-to-is = same-left left-is customers-are (ap (λ (x : Plan). x .want) plan-is)
+
+  -- ---- a response that is no Customer's, at a price where anything trades
+
+  abbrev Filled : Response → ℕ → Type 0
+  Filled r p = 0 < soldAt p (walked o es) → sum (sizes (othersAt o es p)) ≤ leftToOthers o es p → got (r .sequence) (written o es) ≡ r .size
+
+  abbrev Short : Response → ℕ → Type 0
+  Short r p = 0 < soldAt p (walked o es) → leftToOthers o es p < sum (sizes (othersAt o es p)) → Near (leftToOthers o es p) (sum (sizes (othersAt o es p))) (r .size) (got (r .sequence) (written o es))
+
+  abbrev Guaranteed : Response → ℕ → Type 0
+  Guaranteed r p = planAt o es p .final ≡ true → 0 < got (r .sequence) (written o es) → guarantee o es ≤ got 0 (written o es)
+
+  -- what holds of each live response at the real price of its working price holds of each as it was sent
+  as-sent : (P : Response → ℕ → Type 0) → ((x : Response) → In x (liveOf board) → x .customer ≡ false → working d x ≤ 1000000 → P (sent sell x) (reportedPrice sell (working d x)))
+      → (r : Response) → In r (there o es) → r .customer ≡ false → P r (worksAt o es r)
+  as-sent P f r i =
+      let k = was-live o es h r i in
+      subst (λ (y : Response). y .customer ≡ false → P y (worksAt o es y)) (sym (k .is))
+      (λ c. subst (P (sent sell (k .response))) (sym (works-is o es h (k .response))) (f (k .response) (k .live) c (omega (arith, working-fits o es h (k .response) (k .live)))))
+
+  pub filled : (r : Response) → In r (there o es) → r .customer ≡ false → Filled r (worksAt o es r)
+  filled =
+      as-sent Filled
+      (λ x m c z t e.
+      got-is o es h (x .sequence)
+      ∙ buy.filled-at d board can-trade x m c (subst (λ (n : ℕ). 0 < n) (sold-is (working d x) z) t) (omega (arith, others-are (working d x) z, left-to-is (working d x) z)))
+
+  pub short : (r : Response) → In r (there o es) → r .customer ≡ false → Short r (worksAt o es r)
+  short =
+      as-sent Short
+      (λ x m c z t e.
+      buy.near (x .size) (sym (left-to-is (working d x) z)) (sym (others-are (working d x) z)) (sym (got-is o es h (x .sequence)))
+      (buy.short-at d board can-trade x m c (subst (λ (n : ℕ). 0 < n) (sold-is (working d x) z) t) (omega (arith, others-are (working d x) z, left-to-is (working d x) z))))
+
+  pub guaranteed : (r : Response) → In r (there o es) → r .customer ≡ false → Guaranteed r (worksAt o es r)
+  guaranteed =
+      as-sent Guaranteed
+      (λ x m c z f t.
+      let g = buy.guaranteed-at d board can-trade x m c (sym (ap (λ (y : Plan). y .final) (plan-is (working d x) z)) ∙ f) (subst (λ (n : ℕ). 0 < n) (got-is o es h (x .sequence)) t) in
+      omega (arith, g, guarantee-is, got-is o es h 0))

@@ -1,0 +1,43 @@
+-- The theorems below the promise, crate by crate. One that goes missing is missed here.
+use mathlib.Core.List.{List}
+use Prim.Native.Nat.{ℕ}
+use denote.Ref.{RefT}
+use Rattle.words.specs.promises.Bits.{BitsMean}
+use Rattle.tape.specs.declared.trailer.Trailer.{Trailer}
+use Rattle.reader.specs.promises.Reading.{Reading}
+use Rattle.roundtrip.specs.promises.Demands.{Demands as RoundTrips}
+use Rattle.mirror.specs.promises.Records.{RecordsMirror}
+use Rattle.board.specs.promises.Board.{Changes, Seen, Finding, Ordering}
+use Rattle.share.specs.promises.Share.{ProRata}
+use Rattle.demand.specs.promises.Demands.{Demands as Demands3, Few}
+use Rattle.run.specs.promises.Demands.{Keeps, Resend, Demanded, Mirrors}
+use Rattle.run.specs.promises.InPlace.{InPlace}
+use Rattle.run.specs.promises.Figures.{Figures}
+use Rattle.listing.specs.promises.Demands.{Demands as Listings}
+
+pub record Below : Type 0 where
+  -- bits of a word
+  pub bits : BitsMean
+  -- a held tape, read from place to place; records read and written back
+  pub reading : (bytes : RefT (List ℕ)) (t : Trailer) → Reading bytes t
+  pub round-trips : RoundTrips
+  -- mirrored orders and events
+  pub records-mirror : RecordsMirror
+  -- the board: what is seated, freed, seen, found, and its order by sequence
+  pub changes : Changes
+  pub seen : Seen
+  pub finding : Finding
+  pub ordering : Ordering
+  -- pro rata over any number of responses; demand 3 of every deal; at most 130 fills
+  pub pro-rata : ProRata
+  pub demand-3 : Demands3
+  pub few : Few
+  -- every run: refusals, resends, demand 3 of every list of events, sells, events in place
+  pub keeps : Keeps
+  pub resend : Resend
+  pub demanded : Demanded
+  pub mirrors : Mirrors
+  pub in-place : InPlace
+  -- cases a to k, and the listing of document 01
+  pub figures : Figures
+  pub listings : Listings

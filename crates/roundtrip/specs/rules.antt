@@ -1,0 +1,2 @@
+-- A whole tape, by its bytes.
+pub mod Whole

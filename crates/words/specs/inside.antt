@@ -1,0 +1,2 @@
+-- What proofs of rows of words speak of.
+pub mod Row
