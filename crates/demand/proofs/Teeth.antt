@@ -10,7 +10,7 @@ use Rattle.board.specs.declared.Board.{Board}
 use Rattle.board.specs.declared.Response.{Response}
 use Rattle.base.specs.Lists.{filter, sum}
 use Rattle.board.specs.rules.Board.{liveIn, inserted, inSequence}
-use Rattle.share.specs.rules.Fills.{Fill}
+use Rattle.share.specs.rules.Fills.{fill}
 use Rattle.trade.specs.declared.Deal.{Deal}
 use Rattle.trade.specs.rules.Plan.{mode1, mode2, mode3}
 use Rattle.trade.specs.rules.Trade.{offers, Level, guaranteeOf, top, entry, next, offersAt, levelAt, walk, marketPrice, levels, fills}
@@ -41,9 +41,6 @@ tradable =
 
 pub holds : Demand3 terms three (fills terms (offers three))
 holds = demand3 terms three tradable
-
-abbrev fill : ℕ → ℕ → ℕ → Fill
-fill k p q = record { party = k; price = p; quantity = q }
 
 -- the Contra Order does not get every contract
 pub not-all-contra : Demand3 terms three (fill 0 108 100 ∷ []) → ⊥

@@ -9,14 +9,14 @@ use Rattle.run.specs.rules.Run.{runOf}
 use Rattle.run.proofs.Figures.{Computed}
 use Rattle.listing.specs.rules.Text.{text, digits, decimal}
 use Rattle.listing.specs.rules.Listing.{refusedLine, rangeText, auctionLine, answerText, eventLine, endText, endLine, partyText, fillLine, totalLine, endLines, listingOf}
-use Rattle.listing.specs.promises.Demands.{tapeC, listingC, tapeE, listingE}
+use Rattle.listing.specs.promises.Demands.{exampleTape, exampleListing, tapeE, listingE}
 
 -- a tape and its listing
 abbrev Shows : List ℕ → List ℕ → Type 0
 unfolding Computed wordAt orderWords orderOf orderSpare readOrder eventWords eventOf eventSpare recordAt trailerWords trailerOf readTrailer openTape orderIn recordIn recordsFrom recordsOf tapeOf runOf digits decimal refusedLine rangeText auctionLine answerText eventLine endText endLine partyText fillLine totalLine endLines listingOf
 Shows tape t = listingOf tape ≡ t
 
-pub case-c : listingOf tapeC ≡ listingC
+pub case-c : listingOf exampleTape ≡ exampleListing
 unfolding Shows
 case-c = refl
 

@@ -7,12 +7,12 @@ use native.Mathlib.Nat.{sub-zero}
 use native.Mathlib.Omega.{arith}
 use lib.ListN.{length, getD, drop, length-append, length-drop}
 use lib.Seq.{getD-drop, drop-drop}
-use Rattle.share.specs.rules.Fills.{Fill, words}
+use Rattle.share.specs.rules.Fills.{Fill, fill, words}
 use Rattle.share.proofs.FillsLaws.{length-words}
 use Rattle.trade.proofs.WholeLaws.{fills-few, counted, words-after}
 use Rattle.auction.specs.declared.Auction.{Auction}
 use Rattle.fills.specs.rules.Fills.{hasEnded, dealOf, auctionFills, fillsAnswer, fillsAfter}
-use Rattle.listing.specs.inside.Code.{countIn, fill, fillsIn}
+use Rattle.listing.specs.inside.Code.{countIn, fillsIn}
 
 -- the fills of the words are the fills
 pub fills-back : (fs : List Fill) (rest : List ℕ) → fillsIn (length fs) (words fs ++ rest) ≡ fs

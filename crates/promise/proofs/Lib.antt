@@ -12,3 +12,5 @@ pub mod SharedFigures
 pub mod Standing
 pub mod MarketTrades
 pub mod Traded
+pub mod Mirrored
+pub mod Promise

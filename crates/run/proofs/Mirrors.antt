@@ -1,33 +1,37 @@
 -- A sell auction is the mirror of the buy auction on mirrored input, fills and all. Assumes nothing.
 use mathlib.Core.Path.{_≡_, refl, sym, ap, subst, _∙_}
-use mathlib.Core.Bool.{Bool, true, false, cond, not, _&&_, _||_}
+use mathlib.Core.Bool.{Bool, true, false, cond, not, _||_}
 use mathlib.Core.List.{List, [], _∷_, _++_}
-use Prim.Native.Nat.{ℕ, zero, suc, _+_, _-_, _≤_, _<_, min, max}
+use Prim.Native.Nat.{ℕ, zero, suc, _+_, _-_, _≤_, min, max}
 use native.Mathlib.Omega.{arith}
 use lib.Dec.{leb, ltb, eqb}
-use borrow.Author.Tests.{eqb-true, eqb-false, eq-eqb, ne-eqb}
+use borrow.Author.Tests.{eqb-true, ne-eqb}
+use Rattle.base.specs.Lists.{Every}
 use Rattle.base.proofs.Bools.{by, no}
+use Rattle.base.proofs.Numbers.{mirror-twice}
 use Rattle.board.specs.rules.Board.{responseAt, firstFree, findGtx}
 use Rattle.board.specs.declared.Board.{Board}
 use Rattle.board.specs.declared.Response.{Response}
-use Rattle.share.specs.rules.Fills.{Fill, fillOf}
+use Rattle.share.specs.rules.Fills.{Fill, fill, fillOf}
 use Rattle.tape.specs.declared.order.Order.{Order}
 use Rattle.tape.specs.declared.event.Event.{Event}
 use Rattle.tape.specs.rules.Form.{orderFormed, eventFormed}
 use Rattle.trade.specs.declared.Deal.{Deal}
 use Rattle.trade.specs.rules.Trade.{Level, offers, fills, top, entry, next, offersAt, levelAt, walk, marketPrice, levels, flat, traded, levelFills, contra}
 use Rattle.trade.specs.rules.Plan.{mode1, mode2, mode3}
-use Rattle.trade.specs.rules.Write.{reportedPrice, reported, fillsOf}
+use Rattle.trade.specs.rules.Write.{reported, fillsOf}
+use Rattle.demand.specs.promises.Demands.{InRange}
+use Rattle.demand.proofs.Theorems.{demand3}
 use Rattle.base.specs.Price.{mirrored}
 use Rattle.mirror.specs.rules.Mirror.{mirroredOrder, mirroredEvent, buyOrder, buyEvent}
-use Rattle.auction.specs.rules.Accept.{orderRefusal, buyRefusal, termsOf, openedBy, noAuction, acceptOf}
+use Rattle.auction.specs.rules.Accept.{orderRefusal, termsOf, openedBy, noAuction, acceptOf}
 use Rattle.auction.specs.rules.Range.{isOpen}
 use Rattle.events.specs.rules.Step.{foundFor, sightOf, eventRefusal, stays, endedByTime, headAfter, boardAfter, carried, turnOf, closeTurn, seatedOn, stepBy, stepOf, closeOf}
 use Rattle.events.specs.rules.Decide.{gtxOutcome, cancelOutcome, sellLimitOutcome, buyLimitOutcome, limitOutcome, marketOutcome, quotesOutcome, outcomeOf}
 use Rattle.auction.specs.rules.Range.{boundNow, rangeOf}
 use Rattle.fills.specs.rules.Fills.{dealOf, auctionFills}
 use Rattle.run.specs.rules.Run.{run, Said, said, heard, closed, played}
-use Rattle.run.specs.promises.Demands.{flippedTerms, flippedHead, flipped, mirroredRecord, mirroredRecords, mirroredFills, Mirrors}
+use Rattle.run.specs.promises.Demands.{flippedTerms, flippedHead, flipped, mirroredRecord, mirroredRecords, mirroredFills, mirroredRange, Sound, Mirrors}
 use Rattle.auction.specs.declared.Auction.{Auction}
 use Rattle.auction.specs.declared.Head.{Head}
 use Rattle.auction.specs.declared.Terms.{Terms}
@@ -43,7 +47,8 @@ use Rattle.events.specs.declared.Change.{Change}
 use Rattle.events.specs.declared.Outcome.{Outcome}
 use Rattle.events.specs.declared.Outcome.the-variants.{Refuses, Does}
 use Rattle.mirror.proofs.EventLaws.{mirror-sequence, mirror-time, mirror-kind, mirror-rest}
-use Rattle.run.proofs.Accepted.{Opened, opened}
+use Rattle.run.proofs.Accepted.{opened}
+use Rattle.run.proofs.SoundLaws.{sound-deal}
 use Rattle.mirror.proofs.MirrorForm.{order-form, buy-mirrored, other-side, event-twice, event-form}
 
 -- ---- orders
@@ -265,32 +270,44 @@ module _ (d : Deal) (t : Bool) where
         ap (λ (p : ℕ). fillOf (d .market) p (min (d .size) (d .selling)) ++ flat (walk on rs (suc (top d)) 0 (d .size - min (d .size) (d .selling)) 0)) market-same
         ∙ ap (λ (ls : List Level). fillOf (d .market) (marketPrice d rs) (min (d .size) (d .selling)) ++ flat ls) (walk-same (suc (top d)) 0 (d .size - min (d .size) (d .selling)) 0)
 
-reported-same : (fs : List Fill) → reported true fs ≡ mirroredFills (reported false fs)
-unfolding mirrored
-reported-same [] = refl
-reported-same (f ∷ fs) = ap (λ (gs : List Fill). record { party = f .party; price = 1000000 - f .price; quantity = f .quantity } ∷ gs) (reported-same fs)
+-- prices mirrored twice are themselves
+reported-back : (d : Deal) (fs : List Fill) → d .initiating ≤ 1000000 → Every (InRange d) fs → reported false fs ≡ mirroredFills (reported true fs)
+reported-back d [] h k = refl
+reported-back d (f ∷ fs) h k =
+    ap (λ (p : ℕ). fill (f .party) p (f .quantity) ∷ reported false fs) (sym (mirror-twice (f .price) (omega (arith, k .0 .high))))
+    ∙ ap (λ (gs : List Fill). fill (f .party) (mirrored (mirrored (f .price))) (f .quantity) ∷ gs) (reported-back d fs h (k .1))
 
-trades : (a : Auction) → a .head .terms .sell ≡ false → auctionFills (flipped a) ≡ mirroredFills (auctionFills a)
+reported-on : (fs : List Fill) → reported true fs ≡ mirroredFills (reported false fs)
+reported-on [] = refl
+reported-on (f ∷ fs) = ap (λ (gs : List Fill). fill (f .party) (mirrored (f .price)) (f .quantity) ∷ gs) (reported-on fs)
+
+trades : (a : Auction) → (a .head .terms .sell ≡ true → Sound a) → auctionFills (flipped a) ≡ mirroredFills (auctionFills a)
 unfolding fillsOf dealOf boundNow
-trades a z =
-    let rs : List Response = offers (a .board) in
-    ap (λ (t : Bool). reported (cond t false true) (fills (dealOf (flipped a .head)) rs)) z
-    ∙ ap (reported true) (fills-same (dealOf (a .head)) (cond (a .head .terms .sell) false true) rs)
-    ∙ reported-same (fills (dealOf (a .head)) rs)
-    ∙ ap (λ (t : Bool). mirroredFills (reported t (fills (dealOf (a .head)) rs))) (sym z)
+trades a k = ap (reported (cond (a .head .terms .sell) false true)) (fills-same (dealOf (a .head)) (cond (a .head .terms .sell) false true) rs) ∙ go (a .head .terms .sell) k
+  where
+    rs : List Response
+    rs = offers (a .board)
 
-ranges : (a : Auction) → a .head .terms .sell ≡ false → (rangeOf (flipped a .head) .low ≡ mirrored (rangeOf (a .head) .high)) × (rangeOf (flipped a .head) .high ≡ mirrored (rangeOf (a .head) .low))
+    go : (t : Bool) → (t ≡ true → Sound a) → reported (cond t false true) (fills (dealOf (a .head)) rs) ≡ mirroredFills (reported t (fills (dealOf (a .head)) rs))
+    go false k = reported-on (fills (dealOf (a .head)) rs)
+    go true k = reported-back (dealOf (a .head)) (fills (dealOf (a .head)) rs) (omega (arith, k refl .price)) (demand3 (dealOf (a .head)) (a .board) (sound-deal a (k refl)) .in-range)
+
+ranges : (a : Auction) → (a .head .terms .sell ≡ true → Sound a) → rangeOf (flipped a .head) ≡ mirroredRange (rangeOf (a .head))
 unfolding rangeOf boundNow
-ranges a z = pick (a .head .terms .sell) z (a .head .terms .initiating) (boundNow (a .head))
+ranges a k = go (a .head .terms .sell) k
   where
     span : ℕ → ℕ → Range
     span low high = record { low = low; high = high }
 
-    pick : (t : Bool) → t ≡ false → (i b : ℕ)
-        → (cond (cond t false true) (span (mirrored i) (mirrored b)) (span b i) .low ≡ mirrored (cond t (span (mirrored i) (mirrored b)) (span b i) .high))
-        × (cond (cond t false true) (span (mirrored i) (mirrored b)) (span b i) .high ≡ mirrored (cond t (span (mirrored i) (mirrored b)) (span b i) .low))
-    pick false z i b = (refl, refl)
-    pick true z i b = no z
+    high : ℕ
+    high = a .head .terms .initiating
+
+    low : ℕ
+    low = boundNow (a .head)
+
+    go : (t : Bool) → (t ≡ true → Sound a) → cond (cond t false true) (span (mirrored high) (mirrored low)) (span low high) ≡ mirroredRange (cond t (span (mirrored high) (mirrored low)) (span low high))
+    go false k = refl
+    go true k = sym (ap (λ (n : ℕ). span n (mirrored (mirrored high))) (mirror-twice low (omega (arith, k refl .bound-below, k refl .price))) ∙ ap (span low) (mirror-twice high (omega (arith, k refl .price))))
 
 pub mirrors : Mirrors
 mirrors =

@@ -227,7 +227,7 @@ sound-deal a s =
       market-apart = s .market-apart;
     }
 
-reported-total : (sell : Bool) (fs : List Fill) → traded (reported sell fs) ≡ traded fs
+pub reported-total : (sell : Bool) (fs : List Fill) → traded (reported sell fs) ≡ traded fs
 reported-total sell [] = refl
 reported-total sell (f ∷ fs) = ap (λ (n : ℕ). f .quantity + n) (reported-total sell fs)
 

@@ -5,7 +5,7 @@ use Prim.Native.Nat.{ℕ, zero, suc}
 use lib.ListN.{length, getD, drop}
 use lib.Seq.{sets}
 use Rattle.base.specs.Writing.{Wrote as WroteOf, Left as LeftOf}
-use Rattle.share.specs.rules.Fills.{Fill}
+use Rattle.share.specs.rules.Fills.{Fill, fill}
 use Rattle.trade.specs.declared.Filled.{Filled}
 use Rattle.trade.specs.declared.Filled.the-variants.{Count, Refused as NoFills}
 use Rattle.listing.specs.declared.Listed.{Listed}
@@ -26,9 +26,6 @@ pub record Lists (run : Run) (xs : List ℕ) (r : Listed) (ys : List ℕ) : Type
   pub bytes : ys ≡ sets xs 0 (linesOf run)
 
 -- ---- fills as the writer of fills leaves them
-
-abbrev pub fill : ℕ → ℕ → ℕ → Fill
-fill party price quantity = record { party = party; price = price; quantity = quantity }
 
 -- n fills, by their words
 unfoldable pub fillsIn : ℕ → List ℕ → List Fill

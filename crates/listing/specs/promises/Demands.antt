@@ -11,8 +11,8 @@ use Rattle.listing.specs.rules.Listing.{listingOf, roomOf, lengthIn, lis
 
 -- ---- the example of document 01 (case c): an order, a response, and the same record again
 
-abbrev pub orderC : Order
-orderC =
+abbrev pub exampleOrder : Order
+exampleOrder =
     record {
       side = 1;
       mode = 2;
@@ -30,14 +30,14 @@ orderC =
       interval = 100;
     }
 
-abbrev pub responseC : Event
-responseC = record { sequence = 1; time = 20; kind = 1; marks = 0; side = 2; f12 = 3; f16 = 105; f20 = 0; f24 = 0 }
+abbrev pub exampleResponse : Event
+exampleResponse = record { sequence = 1; time = 20; kind = 1; marks = 0; side = 2; f12 = 3; f16 = 105; f20 = 0; f24 = 0 }
 
-abbrev pub tapeC : List ℕ
-tapeC = tapeOf [] orderC (responseC ∷ responseC ∷ [])
+abbrev pub exampleTape : List ℕ
+exampleTape = tapeOf [] exampleOrder (exampleResponse ∷ exampleResponse ∷ [])
 
-abbrev pub listingC : List ℕ
-listingC =
+abbrev pub exampleListing : List ℕ
+exampleListing =
     text "AUCTION buy size 10 range 101 to 109\n"
     ++ (text "EVENT 1 taken\n"
     ++ (text "EVENT 1 refused 33\n"
@@ -98,7 +98,7 @@ valueFrom m (d ∷ ds) = valueFrom (m * 10 + (d - 48)) ds
 
 pub record Demands : Type 0 where
   -- the listing of document 01, byte for byte; another; and that of no bytes
-  pub case-c : listingOf tapeC ≡ listingC
+  pub case-c : listingOf exampleTape ≡ exampleListing
   pub case-e : listingOf tapeE ≡ listingE
   pub no-bytes : listingOf [] ≡ text "REFUSED 21\n"
   -- every tape's listing fits the room

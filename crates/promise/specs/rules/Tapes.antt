@@ -4,7 +4,6 @@ use mathlib.Core.Bool.{Bool, true, false, cond, not}
 use mathlib.Core.List.{List, [], _∷_, _++_}
 use Prim.Native.Nat.{ℕ, _≤_}
 use Rattle.base.specs.Lists.{In, keep, filter}
-use Rattle.base.specs.Price.{mirrored}
 use Rattle.words.specs.rules.Bytes.{AllBytes}
 use Rattle.tape.specs.rules.Tape.{openTape, orderIn, recordsOf}
 use Rattle.tape.specs.declared.order.Order.{Order}
@@ -15,13 +14,12 @@ use Rattle.tape.specs.declared.trailer.Opened.the-variants.{Tape}
 use Rattle.trade.specs.rules.Trade.{traded}
 use Rattle.auction.specs.rules.Range.{isOpen, rangeOf}
 use Rattle.auction.specs.declared.Auction.{Auction}
-use Rattle.auction.specs.declared.Range.{Range}
 use Rattle.events.specs.rules.Step.{stepOf}
 use Rattle.events.specs.declared.Answer.{Answer}
 use Rattle.events.specs.declared.Answer.the-variants.{Taken, Ended, Late, Refused}
 use Rattle.fills.specs.rules.Fills.{auctionFills}
 use Rattle.run.specs.rules.Run.{Said, Run, refused, ended, runOf, run, takenOf}
-use Rattle.run.specs.promises.Demands.{mirroredFills}
+use Rattle.run.specs.promises.Demands.{mirroredFills, mirroredRange}
 use Rattle.listing.specs.rules.Listing.{field, refusedLine, rangeText, sideText, eventLines, endText, fillLines, totalLine, endLines}
 
 -- the bytes s are a tape that opens: what is read of its order's record, and the events that stand in its records, in form or not
@@ -70,9 +68,6 @@ pub data Resends (a : Auction) (es : List Event) : List Event → Type 0 where
   late : (before : List Event) (f : Event) (after : List Event) → isOpen (run a before .head .ending) ≡ false → Resends a es (before ++ after) → Resends a es (before ++ (f ∷ after))
 
 -- ---- the mirror
-
-abbrev pub mirroredRange : Range → Range
-mirroredRange r = record { low = mirrored (r .high); high = mirrored (r .low) }
 
 -- the listing for the other side: its word, the ranges and the fills' prices are mirrored, all else stays
 abbrev pub mirroredLines : Run → List ℕ

@@ -15,6 +15,7 @@ use Rattle.tape.specs.declared.order.Order.{Order}
 use Rattle.tape.specs.declared.event.Event.{Event}
 use Rattle.tape.specs.rules.Form.{orderFormed, eventFormed}
 use Rattle.trade.specs.rules.Trade.{offers, fills, traded}
+use Rattle.trade.specs.rules.Write.{reported}
 use Rattle.demand.specs.promises.Demands.{Absent, Distinct, Demand3}
 use Rattle.base.specs.Price.{mirrored}
 use Rattle.mirror.specs.rules.Mirror.{mirroredOrder, mirroredEvent, buyEvent}
@@ -177,11 +178,14 @@ abbrev pub mirroredRecords : List Event → List Event
 mirroredRecords [] = []
 mirroredRecords (e ∷ es) = mirroredRecord e ∷ mirroredRecords es
 
+-- fills with their prices mirrored, as a sell's are when they are written; a range, low to high
 abbrev pub mirroredFills : List Fill → List Fill
-mirroredFills [] = []
-mirroredFills (f ∷ fs) = record { party = f .party; price = mirrored (f .price); quantity = f .quantity } ∷ mirroredFills fs
+mirroredFills = reported true
 
--- a sell auction is the mirror of the buy auction on mirrored input
+abbrev pub mirroredRange : Range → Range
+mirroredRange r = record { low = mirrored (r .high); high = mirrored (r .low) }
+
+-- a sell auction is the mirror of the buy auction on mirrored input, and a buy auction of the sell
 pub record Mirrors : Type 0 where
   -- the mirrored order is answered alike, and opens the same auction for the other side
   pub accepts : (o : Order) → orderFormed o ≡ true → acceptOf (mirroredOrder o) .answer ≡ acceptOf o .answer
@@ -189,8 +193,9 @@ pub record Mirrors : Type 0 where
   -- mirrored records are answered alike, and do the same
   pub steps : (a : Auction) (e : Event) → (stepOf (flipped a) (mirroredRecord e) .answer ≡ stepOf a e .answer) × (stepOf (flipped a) (mirroredRecord e) .auction ≡ flipped (stepOf a e .auction))
   pub closes : (a : Auction) → (closeOf (flipped a) .answer ≡ closeOf a .answer) × (closeOf (flipped a) .auction ≡ flipped (closeOf a .auction))
-  -- so a whole auction is the mirror, and a sell's fills are the buy's with mirrored prices
+  -- so a whole auction is the mirror
   pub plays : (o : Order) (es : List Event) → acceptOf o .answer ≡ Accepted → played (mirroredOrder o) (mirroredRecords es) ≡ flipped (played o es)
   pub hears : (o : Order) (es : List Event) → acceptOf o .answer ≡ Accepted → heard (acceptOf (mirroredOrder o) .auction) (mirroredRecords es) ≡ heard (acceptOf o .auction) es
-  pub trades : (a : Auction) → a .head .terms .sell ≡ false → auctionFills (flipped a) ≡ mirroredFills (auctionFills a)
-  pub ranges : (a : Auction) → a .head .terms .sell ≡ false → (rangeOf (flipped a .head) .low ≡ mirrored (rangeOf (a .head) .high)) × (rangeOf (flipped a .head) .high ≡ mirrored (rangeOf (a .head) .low))
+  -- its fills and its range have mirrored prices: from buy to sell of every auction, and back of every one that is sound
+  pub trades : (a : Auction) → (a .head .terms .sell ≡ true → Sound a) → auctionFills (flipped a) ≡ mirroredFills (auctionFills a)
+  pub ranges : (a : Auction) → (a .head .terms .sell ≡ true → Sound a) → rangeOf (flipped a .head) ≡ mirroredRange (rangeOf (a .head))

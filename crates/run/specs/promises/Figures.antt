@@ -3,7 +3,7 @@ use mathlib.Core.Bool.{Bool, true, false, cond}
 use mathlib.Core.List.{List, [], _∷_, map}
 use mathlib.Core.Path.{_≡_}
 use Prim.Native.Nat.{ℕ}
-use Rattle.share.specs.rules.Fills.{Fill}
+use Rattle.share.specs.rules.Fills.{Fill, fill}
 use Rattle.tape.specs.declared.order.Order.{Order}
 use Rattle.tape.specs.declared.event.Event.{Event}
 use Rattle.auction.specs.rules.Accept.{acceptOf}
@@ -15,7 +15,6 @@ use Rattle.auction.specs.declared.Ending.{Ending}
 use Rattle.auction.specs.declared.Ending.the-variants.{Open, Time, Same, Opposite, Improve}
 use Rattle.auction.specs.declared.Entry.{Entry}
 use Rattle.auction.specs.declared.Entry.the-variants.{Accepted, Refused}
-use Rattle.auction.specs.declared.Opening.{Opening}
 
 -- ---- what comes of an order and its events: a refusal, or the ending (after closing by hand, where asked), the range and the fills
 
@@ -78,9 +77,6 @@ bid sequence size price = event 3 sequence 1 size price
 
 abbrev pub market : ℕ → ℕ → ℕ → Event
 market sequence side size = event 4 sequence side size 0
-
-abbrev pub fill : ℕ → ℕ → ℕ → Fill
-fill party price quantity = record { party = party; price = price; quantity = quantity }
 
 abbrev pub contra : ℕ → ℕ → Fill
 contra price quantity = fill 0 price quantity

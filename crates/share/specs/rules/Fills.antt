@@ -11,9 +11,12 @@ pub record Fill : Type 0 where
   pub price : ℕ
   pub quantity : ℕ
 
+abbrev pub fill : ℕ → ℕ → ℕ → Fill
+fill party price quantity = record { party = party; price = price; quantity = quantity }
+
 -- the fill of one party: none of zero
 abbrev pub fillOf : ℕ → ℕ → ℕ → List Fill
-fillOf party price quantity = keep (ltb 0 quantity) (record { party = party; price = price; quantity = quantity }) []
+fillOf party price quantity = keep (ltb 0 quantity) (fill party price quantity) []
 
 abbrev pub sizes : List Response → List ℕ
 sizes [] = []

@@ -6,7 +6,7 @@ use lib.Dec.{leb}
 use lib.ListN.{length, take, drop}
 use Rattle.base.specs.Price.{mirrored}
 use Rattle.board.specs.declared.Board.{Board}
-use Rattle.share.specs.rules.Fills.{Fill, words}
+use Rattle.share.specs.rules.Fills.{Fill, fill, words}
 use Rattle.trade.specs.declared.Deal.{Deal}
 use Rattle.trade.specs.declared.Filled.{Filled}
 use Rattle.trade.specs.declared.Filled.the-variants.{Count, Refused}
@@ -18,7 +18,7 @@ reportedPrice sell p = cond sell (mirrored p) p
 
 abbrev pub reported : Bool → List Fill → List Fill
 reported sell [] = []
-reported sell (f ∷ fs) = record { party = f .party; price = reportedPrice sell (f .price); quantity = f .quantity } ∷ reported sell fs
+reported sell (f ∷ fs) = fill (f .party) (reportedPrice sell (f .price)) (f .quantity) ∷ reported sell fs
 
 -- the fills of an ended auction, as they are written
 unfoldable pub fillsOf : Deal → Board → List Fill

@@ -1,0 +1,34 @@
+-- The promise is kept.
+use Rattle.roundtrip.proofs.TapeBack.{demands}
+use Rattle.run.proofs.Resend.{keeps}
+use Rattle.promise.specs.promises.Promise.{Promise}
+use Rattle.promise.proofs.Answered.{answered, roomed, filling, numbered, event-numbers, without-refused}
+use Rattle.promise.proofs.Resent.{resent, same-records, resends, answered-alike}
+use Rattle.promise.proofs.Tapes.{can-lack, can-mirror}
+use Rattle.promise.proofs.Opening.{opens}
+use Rattle.promise.proofs.Traded.{trades}
+use Rattle.promise.proofs.Mirrored.{mirrors}
+use Rattle.promise.proofs.Below.{below}
+
+pub promise : Promise
+promise =
+    record {
+      answered = answered;
+      roomed = roomed;
+      filling = filling;
+      numbered = numbered;
+      event-numbers = event-numbers;
+      keeps = keeps;
+      can-lack = can-lack;
+      without-refused = without-refused;
+      answered-alike = answered-alike;
+      read-back = demands;
+      opens = opens;
+      trades = trades;
+      resent = resent;
+      same-records = same-records;
+      resends = resends;
+      can-mirror = can-mirror;
+      mirrors = mirrors;
+      below = below;
+    }
