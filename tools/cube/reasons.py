@@ -26,7 +26,7 @@ REASONS = {
     36: ("event", "GTX above the initiating price", "The response's price is worse than the price at which the auction began."),
     37: ("event", "cancel names no live GTX", "There is no such response to cancel: it never stood, or was cancelled before."),
     38: ("event", "a response has to be placed and all 64 places are live", "Sixty-four responses stand already."),
-    24: ("record", "lent bytes too short for the record (writers: after 1 or 32; readers: first)", "A program lent too few bytes for a record. No listing of a tape shows this."),
+    24: ("record", "lent bytes too short for the record (writers: after 1 or 32; readers: first)", "A program lent too few bytes for a record, or for a listing. No listing of a tape shows this."),
     39: ("fills", "fewer than 390 words from the start place, or a start past the end", "A program lent too few words for the fills. No listing of a tape shows this."),
     40: ("fills", "fills asked for before the ending (before 39)", "A program asked for the fills of an auction that is still open. No listing of a tape shows this."),
 }
