@@ -11,6 +11,6 @@ pub mod Shared
 pub mod SharedFigures
 pub mod Standing
 pub mod MarketTrades
-pub mod Traded
+pub mod InRealPrices
 pub mod Mirrored
 pub mod Promise

@@ -23,7 +23,7 @@ use Rattle.auction.specs.rules.Accept.{acceptOf}
 use Rattle.auction.specs.declared.Entry.the-variants.{Accepted}
 use Rattle.fills.specs.rules.Fills.{dealOf}
 use Rattle.run.proofs.SoundLaws.{size-least}
-use Rattle.promise.specs.rules.Sides.{otherSide, taken, last, written, market}
+use Rattle.promise.specs.rules.Sides.{otherSide, takenRecords, atEnd, writtenFills, marketOrder}
 use Rattle.promise.specs.promises.Parts.{Ends}
 use Rattle.promise.proofs.RealLaws.{deal, dealt, demand, size-is, got-is}
 use Rattle.promise.proofs.Resent.{taken-formed, market-ends}
@@ -41,19 +41,19 @@ walk-none d (f ∷ fs) n = go (ltb 0 (d .selling)) (eqb (f .party) (d .market)) 
 
 module _ (o : Order) (es : List Event) (h : acceptOf o .answer ≡ Accepted) where
   -- what the market order trades, where there is one
-  market-got : 0 < market o es .size → got (market o es .sequence) (written o es) ≡ min (o .size) (market o es .size)
+  market-got : 0 < marketOrder o es .size → got (marketOrder o es .sequence) (writtenFills o es) ≡ min (o .size) (marketOrder o es .size)
   unfolding dealOf
   market-got n =
       let d : Deal = deal o es h in
-      let k : ℕ = market o es .sequence in
-      let fills : got k (dealt o es h) ≡ got k (marketFill d (offers (last o es .board)) ++ walked d (dealt o es h)) = ap (got k) (demand o es h .market-trades) in
-      let both = tally-append (λ f. eqb (f .party) k) (marketFill d (offers (last o es .board))) (walked d (dealt o es h)) in
-      let first : got k (marketFill d (offers (last o es .board))) ≡ min (d .size) (d .selling) = got-fill k (marketPrice d (offers (last o es .board))) (min (d .size) (d .selling)) in
+      let k : ℕ = marketOrder o es .sequence in
+      let fills : got k (dealt o es h) ≡ got k (marketFill d (offers (atEnd o es .board)) ++ walked d (dealt o es h)) = ap (got k) (demand o es h .market-trades) in
+      let both = tally-append (λ f. eqb (f .party) k) (marketFill d (offers (atEnd o es .board))) (walked d (dealt o es h)) in
+      let first : got k (marketFill d (offers (atEnd o es .board))) ≡ min (d .size) (d .selling) = got-fill k (marketPrice d (offers (atEnd o es .board))) (min (d .size) (d .selling)) in
       omega (arith, got-is o es h k, fills, both, first, walk-none d (dealt o es h) n, size-is o es h)
 
-  pub market-trades : (e : Event) → In e (taken o es) → e .kind ≡ 4 → e .side ≡ otherSide o → Ends o es e × (got (e .sequence) (written o es) ≡ min (o .size) (sizeOf e))
+  pub market-trades : (e : Event) → In e (takenRecords o es) → e .kind ≡ 4 → e .side ≡ otherSide o → Ends o es e × (got (e .sequence) (writtenFills o es) ≡ min (o .size) (sizeOf e))
   market-trades e i k d =
-      let f : eventFormed e ≡ true = every-in (λ x. eventFormed x ≡ true) (taken o es) e (taken-formed es (acceptOf o .auction)) i in
+      let f : eventFormed e ≡ true = every-in (λ x. eventFormed x ≡ true) (takenRecords o es) e (taken-formed es (acceptOf o .auction)) i in
       let ends : Ends o es e = market-ends o es h e i k d in
       let g = market-got (omega (arith, ends .size, size-least e (inr (inr k)) f)) in
-      (ends, ap (λ (n : ℕ). got n (written o es)) (sym (ends .sequence)) ∙ g ∙ ap (min (o .size)) (ends .size))
+      (ends, ap (λ (n : ℕ). got n (writtenFills o es)) (sym (ends .sequence)) ∙ g ∙ ap (min (o .size)) (ends .size))

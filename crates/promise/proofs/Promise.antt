@@ -6,7 +6,7 @@ use Rattle.promise.proofs.Answered.{answered, roomed, filling, numbered
 use Rattle.promise.proofs.Resent.{resent, same-records, resends, answered-alike}
 use Rattle.promise.proofs.Tapes.{can-lack, can-mirror}
 use Rattle.promise.proofs.Opening.{opens}
-use Rattle.promise.proofs.Traded.{trades}
+use Rattle.promise.proofs.InRealPrices.{trades}
 use Rattle.promise.proofs.Mirrored.{mirrors}
 use Rattle.promise.proofs.Below.{below}
 

@@ -29,9 +29,9 @@ use Rattle.auction.specs.declared.Terms.{Terms}
 use Rattle.auction.specs.declared.Entry.the-variants.{Accepted}
 use Rattle.fills.specs.rules.Fills.{dealOf}
 use Rattle.run.proofs.Accepted.{opened, below-limit}
-use Rattle.promise.specs.rules.Sides.{isSell, better, sent, last, written, there, market, worksAt}
-use Rattle.promise.specs.promises.Parts.{Ended, Party, OneRecord, after}
-use Rattle.promise.specs.promises.Parts.Party.{theContra, aResponse, theMarket}
+use Rattle.promise.specs.rules.Sides.{isSell, better, sent, atEnd, writtenFills, liveAtEnd, marketOrder, workingPrice}
+use Rattle.promise.specs.promises.Parts.{MarketRecord, Trader, OneRecord, after}
+use Rattle.promise.specs.promises.Parts.Trader.{theContra, aResponse, theMarket}
 use Rattle.promise.proofs.RealLaws.{better-shown, shown, Shows, in-shown, sent-in, close-terms, close-board, deal, live, dealt, demand, terms-are, mode-is, written-is, there-is, sent-fits, initiating-fits, price-fits, working-fits, works-is, got-is, was-live, every-written}
 use Rattle.promise.proofs.Resent.{one-record, ended-by}
 
@@ -83,14 +83,14 @@ capped false n m k e = omega (arith, e)
 -- ---- what needs no level of the walk
 
 module _ (o : Order) (es : List Event) (h : acceptOf o .answer ≡ Accepted) where
-  abbrev dealing : demands.Demand3 (deal o es h) (last o es .board) (dealt o es h)
+  abbrev dealing : demands.Demand3 (deal o es h) (atEnd o es .board) (dealt o es h)
   dealing = demand o es h
 
   -- the initiating price is not above the buy's limit, and the stop is the buy's
   in-limit : deal o es h .initiating ≤ reportedPrice (isSell o) (o .limit)
   unfolding dealOf termsOf
   in-limit =
-      let i : last o es .head .terms .initiating ≡ initiatingOf (buyOrder o) = ap (λ (t : Terms). t .initiating) (terms-are o es h) in
+      let i : atEnd o es .head .terms .initiating ≡ initiatingOf (buyOrder o) = ap (λ (t : Terms). t .initiating) (terms-are o es h) in
       omega (arith, i, below-limit (buyOrder o), buy-limit o)
 
   pub stop-is : o .mode ≢ 2 → deal o es h .stop ≡ reportedPrice (isSell o) (o .stop)
@@ -100,19 +100,19 @@ module _ (o : Order) (es : List Event) (h : acceptOf o .answer ≡ Accepted) whe
   from-stop : o .mode ≢ 2 → reportedPrice (isSell o) (o .stop) ≤ entry (deal o es h)
   unfolding dealOf entry
   from-stop n =
-      let m : eqb (last o es .head .terms .mode) 2 ≡ false = ap (λ (k : ℕ). eqb k 2) (mode-is o es h) ∙ ne-eqb (o .mode) 2 n in
+      let m : eqb (atEnd o es .head .terms .mode) 2 ≡ false = ap (λ (k : ℕ). eqb k 2) (mode-is o es h) ∙ ne-eqb (o .mode) 2 n in
       let e : entry (deal o es h) ≡ max (deal o es h .stop) (deal o es h .bound) = simp m in
       omega (arith, e, stop-is n)
 
-  pub own-limit : Every (λ f. better (isSell o) (o .limit) (f .price) ≡ false) (written o es)
+  pub own-limit : Every (λ f. better (isSell o) (o .limit) (f .price) ≡ false) (writtenFills o es)
   own-limit =
       every-written o es h (demands.InRange (deal o es h)) (λ f. better (isSell o) (o .limit) (f .price) ≡ false)
       (λ f _ k. not-below (isSell o) (o .limit) (f .price) (omega (arith, order-bounds o (opened o h .formed) .limit)) (omega (arith, k .high, in-limit))) (dealing .in-range)
 
-  pub some : Every (λ f. 1 ≤ f .quantity) (written o es)
+  pub some : Every (λ f. 1 ≤ f .quantity) (writtenFills o es)
   some = every-written o es h (demands.InRange (deal o es h)) (λ f. 1 ≤ f .quantity) (λ f _ k. k .some) (dealing .in-range)
 
-  pub contra-limit : o .mode ≢ 2 → Every (λ f. f .party ≡ 0 → better (isSell o) (f .price) (o .stop) ≡ false) (written o es)
+  pub contra-limit : o .mode ≢ 2 → Every (λ f. f .party ≡ 0 → better (isSell o) (f .price) (o .stop) ≡ false) (writtenFills o es)
   contra-limit n =
       every-written o es h (λ f. f .party ≡ 0 → entry (deal o es h) ≤ f .price) (λ f. f .party ≡ 0 → better (isSell o) (f .price) (o .stop) ≡ false)
       (λ f _ k z. not-beyond (isSell o) (o .stop) (f .price) (omega (arith, k z, from-stop n))) (dealing .contra-limit)
@@ -120,26 +120,26 @@ module _ (o : Order) (es : List Event) (h : acceptOf o .answer ≡ Accepted) whe
   -- ---- a response that was live
 
   -- what holds of each live response, as it was sent, holds of each that was there
-  each-there : (P : Response → Type 0) → ((r : Response) → In r (live o es h) → P (sent (isSell o) r)) → (r : Response) → In r (there o es) → P r
+  each-there : (P : Response → Type 0) → ((r : Response) → In r (live o es h) → P (sent (isSell o) r)) → (r : Response) → In r (liveAtEnd o es) → P r
   each-there P g r i = let k = was-live o es h r i in subst P (sym (k .is)) (g (k .response) (k .live))
 
-  pub works : (r : Response) → In r (there o es) → Every (λ f. f .party ≡ r .sequence → f .price ≡ worksAt o es r) (written o es)
+  pub works : (r : Response) → In r (liveAtEnd o es) → Every (λ f. f .party ≡ r .sequence → f .price ≡ workingPrice o es r) (writtenFills o es)
   works =
-      each-there (λ r. Every (λ f. f .party ≡ r .sequence → f .price ≡ worksAt o es r) (written o es))
-      (λ r i. every-written o es h (λ f. f .party ≡ r .sequence → f .price ≡ working (deal o es h) r) (λ f. f .party ≡ r .sequence → f .price ≡ worksAt o es (sent (isSell o) r))
+      each-there (λ r. Every (λ f. f .party ≡ r .sequence → f .price ≡ workingPrice o es r) (writtenFills o es))
+      (λ r i. every-written o es h (λ f. f .party ≡ r .sequence → f .price ≡ working (deal o es h) r) (λ f. f .party ≡ r .sequence → f .price ≡ workingPrice o es (sent (isSell o) r))
       (λ f _ k z. ap (reportedPrice (isSell o)) (k z) ∙ sym (works-is o es h r)) (dealing .works-at r i))
 
-  pub fits : (r : Response) → In r (there o es) → got (r .sequence) (written o es) ≤ r .size
-  fits = each-there (λ r. got (r .sequence) (written o es) ≤ r .size) (λ r i. omega (arith, got-is o es h (r .sequence), dealing .response-fits r i))
+  pub fits : (r : Response) → In r (liveAtEnd o es) → got (r .sequence) (writtenFills o es) ≤ r .size
+  fits = each-there (λ r. got (r .sequence) (writtenFills o es) ≤ r .size) (λ r i. omega (arith, got-is o es h (r .sequence), dealing .response-fits r i))
 
-  pub priority : (r : Response) → In r (there o es) → (f : Fill) → In f (written o es) → better (isSell o) (worksAt o es r) (f .price) ≡ true → got (r .sequence) (written o es) ≡ r .size
+  pub priority : (r : Response) → In r (liveAtEnd o es) → (f : Fill) → In f (writtenFills o es) → better (isSell o) (workingPrice o es r) (f .price) ≡ true → got (r .sequence) (writtenFills o es) ≡ r .size
   priority =
-      each-there (λ r. (f : Fill) → In f (written o es) → better (isSell o) (worksAt o es r) (f .price) ≡ true → got (r .sequence) (written o es) ≡ r .size)
+      each-there (λ r. (f : Fill) → In f (writtenFills o es) → better (isSell o) (workingPrice o es r) (f .price) ≡ true → got (r .sequence) (writtenFills o es) ≡ r .size)
       (λ r i f j z.
       let k : Shows (isSell o) (dealt o es h) f = in-shown (isSell o) (dealt o es h) f (subst (In f) (written-is o es h) j) in
       let g : Fill = k .fill in
       let b : better (isSell o) (reportedPrice (isSell o) (working (deal o es h) r)) (reportedPrice (isSell o) (g .price)) ≡ true =
-      sym (ap (λ (p : ℕ). better (isSell o) p (reportedPrice (isSell o) (g .price))) (works-is o es h r)) ∙ sym (ap (λ (x : Fill). better (isSell o) (worksAt o es (sent (isSell o) r)) (x .price)) (k .is)) ∙ z in
+      sym (ap (λ (p : ℕ). better (isSell o) p (reportedPrice (isSell o) (g .price))) (works-is o es h r)) ∙ sym (ap (λ (x : Fill). better (isSell o) (workingPrice o es (sent (isSell o) r)) (x .price)) (k .is)) ∙ z in
       let l : working (deal o es h) r < g .price =
       ltb-true _ _ (sym (better-shown (isSell o) (working (deal o es h) r) (g .price) (omega (arith, working-fits o es h r i)) (omega (arith, price-fits o es h g (k .one-of)))) ∙ b) in
       let q : 1 ≤ g .quantity = every-in (demands.InRange (deal o es h)) (dealt o es h) g (dealing .in-range) (k .one-of) .some in
@@ -148,27 +148,27 @@ module _ (o : Order) (es : List Event) (h : acceptOf o .answer ≡ Accepted) whe
   -- ---- who trades
 
   -- the records of the responses live at the ending
-  still : Every (OneRecord o es) (there o es)
+  still : Every (OneRecord o es) (liveAtEnd o es)
   still =
       subst (λ (rs : List Response). Every (OneRecord o es) rs)
-      (sym (ap (λ (s : Bool). map (sent s) (liveOf (last o es .board))) (ap (λ (t : Terms). t .sell) (close-terms (after o es)))
+      (sym (ap (λ (s : Bool). map (sent s) (liveOf (atEnd o es .board))) (ap (λ (t : Terms). t .sell) (close-terms (after o es)))
       ∙ ap (λ (b : Board). map (sent (after o es .head .terms .sell)) (liveOf b)) (close-board (after o es)))) (one-record o es h)
 
-  party-of : (f : Fill) → In f (dealt o es h) → demands.Party (deal o es h) (last o es .board) (f .party) → Party o es (shown (isSell o) f)
+  party-of : (f : Fill) → In f (dealt o es h) → demands.Party (deal o es h) (atEnd o es .board) (f .party) → Trader o es (shown (isSell o) f)
   unfolding dealOf
   party-of f i (isContra z) = theContra z
   party-of f i (isMarket z n) =
-      let k : Ended o es = ended-by o es h n in
+      let k : MarketRecord o es = ended-by o es h n in
       let e : Event = k .record-of in
-      let s : market o es .sequence ≡ e .sequence = k .ends .sequence in
-      let g : got (e .sequence) (written o es) ≡ got (market o es .sequence) (dealt o es h) = ap (λ (m : ℕ). got m (written o es)) (sym s) ∙ got-is o es h (market o es .sequence) in
+      let s : marketOrder o es .sequence ≡ e .sequence = k .ends .sequence in
+      let g : got (e .sequence) (writtenFills o es) ≡ got (marketOrder o es .sequence) (dealt o es h) = ap (λ (m : ℕ). got m (writtenFills o es)) (sym s) ∙ got-is o es h (marketOrder o es .sequence) in
       theMarket e (k .ends) (z ∙ s) (omega (arith, g, dealing .market-fits n, k .ends .size))
   party-of f i (isResponse r j z) =
-      let t : In (sent (isSell o) r) (there o es) = subst (In (sent (isSell o) r)) (sym (there-is o es h)) (sent-in (isSell o) (live o es h) r j) in
-      let k : OneRecord o es (sent (isSell o) r) = every-in (OneRecord o es) (there o es) (sent (isSell o) r) still t in
+      let t : In (sent (isSell o) r) (liveAtEnd o es) = subst (In (sent (isSell o) r)) (sym (there-is o es h)) (sent-in (isSell o) (live o es h) r j) in
+      let k : OneRecord o es (sent (isSell o) r) = every-in (OneRecord o es) (liveAtEnd o es) (sent (isSell o) r) still t in
       let e : Event = k .record-of in
       let s : r .sequence ≡ e .sequence = k .sends .sequence in
-      let g : got (e .sequence) (written o es) ≡ got (r .sequence) (dealt o es h) = ap (λ (m : ℕ). got m (written o es)) (sym s) ∙ got-is o es h (r .sequence) in
+      let g : got (e .sequence) (writtenFills o es) ≡ got (r .sequence) (dealt o es h) = ap (λ (m : ℕ). got m (writtenFills o es)) (sym s) ∙ got-is o es h (r .sequence) in
       let p : r .price ≤ f .price = every-in (λ x. x .party ≡ r .sequence → r .price ≤ x .price) (dealt o es h) f (dealing .own-limit r j) i (sym z) in
       let b : better (isSell o) (reportedPrice (isSell o) (f .price)) (reportedPrice (isSell o) (r .price)) ≡ false =
       better-shown (isSell o) (f .price) (r .price) (omega (arith, price-fits o es h f i)) (omega (arith, sent-fits o es h r j, initiating-fits o es h)) ∙ le-ltb _ _ p in
@@ -176,5 +176,5 @@ module _ (o : Order) (es : List Event) (h : acceptOf o .answer ≡ Accepted) whe
       (omega (arith, g, dealing .response-fits r j, capped (eqb (e .kind) 1) (sizeOf e) (o .size) (r .size) (k .sends .size)))
       (sym (ap (λ (q : ℕ). better (isSell o) (reportedPrice (isSell o) (f .price)) q) (k .sends .price)) ∙ b)
 
-  pub parties : Every (Party o es) (written o es)
-  parties = every-written o es h (λ f. demands.Party (deal o es h) (last o es .board) (f .party)) (Party o es) party-of (dealing .nobody-else)
+  pub parties : Every (Trader o es) (writtenFills o es)
+  parties = every-written o es h (λ f. demands.Party (deal o es h) (atEnd o es .board) (f .party)) (Trader o es) party-of (dealing .nobody-else)

@@ -36,7 +36,7 @@ use Rattle.demand.specs.promises.Demands as demands
 use Rattle.run.proofs.Accepted.{opened}
 use Rattle.run.proofs.ComesFrom.{run-terms}
 use Rattle.run.proofs.SoundLaws.{sound-opened, sound-run, sound-close, demanded}
-use Rattle.promise.specs.rules.Sides.{isSell, better, sent, responses, last, range, written, there, market, walked, worksAt}
+use Rattle.promise.specs.rules.Sides.{isSell, better, sent, responses, atEnd, rangeAtEnd, writtenFills, liveAtEnd, marketOrder, walkedFills, workingPrice}
 
 -- ---- prices, up to 1,000,000: mirroring loses nothing
 
@@ -153,49 +153,49 @@ close-board a = by (λ (t : Turn). boardAfter (a .board) (t .change) ≡ a .boar
 module _ (o : Order) (es : List Event) (h : acceptOf o .answer ≡ Accepted) where
   -- the deal, the live responses and the fills of the buy that the engine works with
   abbrev pub deal : Deal
-  deal = dealOf (last o es .head)
+  deal = dealOf (atEnd o es .head)
 
   abbrev pub live : List Response
-  live = liveOf (last o es .board)
+  live = liveOf (atEnd o es .board)
 
   abbrev pub dealt : List Fill
-  dealt = fills deal (offers (last o es .board))
+  dealt = fills deal (offers (atEnd o es .board))
 
-  pub sound : Sound (last o es)
+  pub sound : Sound (atEnd o es)
   sound = sound-close (run (acceptOf o .auction) es) (sound-run es (acceptOf o .auction) (sound-opened o h))
 
-  pub ended-well : Trades (last o es)
+  pub ended-well : Trades (atEnd o es)
   ended-well = demanded .demand-3 o es h
 
-  pub demand : Demand3 deal (last o es .board) dealt
+  pub demand : Demand3 deal (atEnd o es .board) dealt
   demand = ended-well .clauses
 
   -- the terms are those of the buy
-  pub terms-are : last o es .head .terms ≡ termsOf (isSell o) (buyOrder o)
+  pub terms-are : atEnd o es .head .terms ≡ termsOf (isSell o) (buyOrder o)
   unfolding openedBy
   terms-are = close-terms (run (acceptOf o .auction) es) ∙ run-terms es (acceptOf o .auction) ∙ ap (λ (a : Auction). a .head .terms) (opened o h .auction)
 
-  pub sell-is : last o es .head .terms .sell ≡ isSell o
+  pub sell-is : atEnd o es .head .terms .sell ≡ isSell o
   unfolding termsOf
   sell-is = ap (λ (t : Terms). t .sell) terms-are
 
-  pub mode-is : last o es .head .terms .mode ≡ o .mode
+  pub mode-is : atEnd o es .head .terms .mode ≡ o .mode
   unfolding termsOf buyOrder mirroredOrder
   mode-is = ap (λ (t : Terms). t .mode) terms-are ∙ by (λ (b : Order). b .mode ≡ o .mode) (isSell o) _ _ (λ _. refl) (λ _. refl)
 
-  pub size-is : last o es .head .terms .size ≡ o .size
+  pub size-is : atEnd o es .head .terms .size ≡ o .size
   unfolding termsOf buyOrder mirroredOrder
   size-is = ap (λ (t : Terms). t .size) terms-are ∙ by (λ (b : Order). b .size ≡ o .size) (isSell o) _ _ (λ _. refl) (λ _. refl)
 
   -- the written fills and the responses that were live
-  pub written-is : written o es ≡ reported (isSell o) dealt
+  pub written-is : writtenFills o es ≡ reported (isSell o) dealt
   unfolding fillsOf dealOf
   written-is = ap (λ (s : Bool). reported s dealt) sell-is
 
-  pub there-is : there o es ≡ map (sent (isSell o)) live
+  pub there-is : liveAtEnd o es ≡ map (sent (isSell o)) live
   there-is = ap (λ (s : Bool). map (sent s) live) sell-is
 
-  pub board-is : last o es .board ≡ run (acceptOf o .auction) es .board
+  pub board-is : atEnd o es .board ≡ run (acceptOf o .auction) es .board
   board-is = close-board (run (acceptOf o .auction) es)
 
   -- every price is at most the initiating price, so a price
@@ -219,34 +219,34 @@ module _ (o : Order) (es : List Event) (h : acceptOf o .answer ≡ Accepted) whe
 
   pub sent-fits : (r : Response) → In r live → r .price ≤ deal .initiating
   unfolding dealOf
-  sent-fits r i = every-in (Stands (last o es .head .sequence) (last o es .head .terms .initiating)) live r (sound .live) i .3
+  sent-fits r i = every-in (Stands (atEnd o es .head .sequence) (atEnd o es .head .terms .initiating)) live r (sound .live) i .3
 
   pub working-fits : (r : Response) → In r live → working deal r ≤ 999999
   working-fits r i = omega (arith, sent-fits r i, bound-fits, initiating-fits)
 
   -- the range in real prices
-  pub low-is : range o es .low ≡ cond (isSell o) (mirrored (deal .initiating)) (deal .bound)
+  pub low-is : rangeAtEnd o es .low ≡ cond (isSell o) (mirrored (deal .initiating)) (deal .bound)
   unfolding rangeOf dealOf
-  low-is = go (last o es .head .terms .sell) ∙ ap (λ (s : Bool). cond s (mirrored (last o es .head .terms .initiating)) (boundNow (last o es .head))) sell-is
+  low-is = go (atEnd o es .head .terms .sell) ∙ ap (λ (s : Bool). cond s (mirrored (atEnd o es .head .terms .initiating)) (boundNow (atEnd o es .head))) sell-is
     where
-      go : (s : Bool) → cond {A = Range} s (record { low = mirrored (last o es .head .terms .initiating); high = mirrored (boundNow (last o es .head)) }) (record { low = boundNow (last o es .head); high = last o es .head .terms .initiating }) .low
-          ≡ cond s (mirrored (last o es .head .terms .initiating)) (boundNow (last o es .head))
+      go : (s : Bool) → cond {A = Range} s (record { low = mirrored (atEnd o es .head .terms .initiating); high = mirrored (boundNow (atEnd o es .head)) }) (record { low = boundNow (atEnd o es .head); high = atEnd o es .head .terms .initiating }) .low
+          ≡ cond s (mirrored (atEnd o es .head .terms .initiating)) (boundNow (atEnd o es .head))
       go true = refl
       go false = refl
 
-  pub high-is : range o es .high ≡ cond (isSell o) (mirrored (deal .bound)) (deal .initiating)
+  pub high-is : rangeAtEnd o es .high ≡ cond (isSell o) (mirrored (deal .bound)) (deal .initiating)
   unfolding rangeOf dealOf
-  high-is = go (last o es .head .terms .sell) ∙ ap (λ (s : Bool). cond s (mirrored (boundNow (last o es .head))) (last o es .head .terms .initiating)) sell-is
+  high-is = go (atEnd o es .head .terms .sell) ∙ ap (λ (s : Bool). cond s (mirrored (boundNow (atEnd o es .head))) (atEnd o es .head .terms .initiating)) sell-is
     where
-      go : (s : Bool) → cond {A = Range} s (record { low = mirrored (last o es .head .terms .initiating); high = mirrored (boundNow (last o es .head)) }) (record { low = boundNow (last o es .head); high = last o es .head .terms .initiating }) .high
-          ≡ cond s (mirrored (boundNow (last o es .head))) (last o es .head .terms .initiating)
+      go : (s : Bool) → cond {A = Range} s (record { low = mirrored (atEnd o es .head .terms .initiating); high = mirrored (boundNow (atEnd o es .head)) }) (record { low = boundNow (atEnd o es .head); high = atEnd o es .head .terms .initiating }) .high
+          ≡ cond s (mirrored (boundNow (atEnd o es .head))) (atEnd o es .head .terms .initiating)
       go true = refl
       go false = refl
 
   -- a response's working price is that of the buy, in real prices
-  pub works-is : (r : Response) → worksAt o es (sent (isSell o) r) ≡ reportedPrice (isSell o) (working deal r)
+  pub works-is : (r : Response) → workingPrice o es (sent (isSell o) r) ≡ reportedPrice (isSell o) (working deal r)
   unfolding mirrored
-  works-is r = go (isSell o) (range o es .low) (range o es .high) low-is high-is
+  works-is r = go (isSell o) (rangeAtEnd o es .low) (rangeAtEnd o es .high) low-is high-is
     where
       go : (s : Bool) (low high : ℕ) → low ≡ cond s (1000000 - deal .initiating) (deal .bound) → high ≡ cond s (1000000 - deal .bound) (deal .initiating)
           → cond s (min (reportedPrice s (r .price)) high) (max (reportedPrice s (r .price)) low) ≡ reportedPrice s (max (r .price) (deal .bound))
@@ -254,20 +254,20 @@ module _ (o : Order) (es : List Event) (h : acceptOf o .answer ≡ Accepted) whe
       go false low high a b = omega (arith, a)
 
   -- the fills of all but the market order
-  pub walked-is : walked o es ≡ reported (isSell o) (demands.walked deal dealt)
+  pub walked-is : walkedFills o es ≡ reported (isSell o) (demands.walked deal dealt)
   unfolding dealOf
   walked-is =
-      ap (filter (λ f. not (ltb 0 (market o es .size) && eqb (f .party) (market o es .sequence)))) written-is
-      ∙ filter-shown (isSell o) (λ f. not (ltb 0 (market o es .size) && eqb (f .party) (market o es .sequence))) (λ f. not (isMarket deal f)) dealt (every-any _ dealt (λ f. refl))
+      ap (filter (λ f. not (ltb 0 (marketOrder o es .size) && eqb (f .party) (marketOrder o es .sequence)))) written-is
+      ∙ filter-shown (isSell o) (λ f. not (ltb 0 (marketOrder o es .size) && eqb (f .party) (marketOrder o es .sequence))) (λ f. not (isMarket deal f)) dealt (every-any _ dealt (λ f. refl))
 
   -- what a party trades, as it is written
-  pub got-is : (k : ℕ) → got k (written o es) ≡ got k dealt
+  pub got-is : (k : ℕ) → got k (writtenFills o es) ≡ got k dealt
   got-is k = ap (got k) written-is ∙ got-shown (isSell o) k dealt
 
   -- the responses as they were sent, one by one
-  pub was-live : (r : Response) → In r (there o es) → Sent (isSell o) live r
+  pub was-live : (r : Response) → In r (liveAtEnd o es) → Sent (isSell o) live r
   was-live r i = in-sent (isSell o) live r (subst (In r) there-is i)
 
   -- a law of the written fills from one of the fills
-  pub every-written : (P Q : Fill → Type 0) → ((f : Fill) → In f dealt → P f → Q (shown (isSell o) f)) → Every P dealt → Every Q (written o es)
+  pub every-written : (P Q : Fill → Type 0) → ((f : Fill) → In f dealt → P f → Q (shown (isSell o) f)) → Every P dealt → Every Q (writtenFills o es)
   every-written P Q g k = subst (Every Q) (sym written-is) (every-shown (isSell o) P Q dealt g k)

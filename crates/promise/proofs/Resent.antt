@@ -53,8 +53,8 @@ use Rattle.run.proofs.SoundLaws.{sound-opened, sound-step, sound-run, demanded}
 use Rattle.run.proofs.ComesFrom.{Sold, run-terms, market-taken, resend}
 use Rattle.promise.specs.rules.Tapes.{Carries, endOf, isRefused, notRefused, notRefusedSaid, Resends}
 use Rattle.promise.specs.rules.Tapes.Resends.{none, more, late}
-use Rattle.promise.specs.rules.Sides.{isSell, otherSide, sent, responses, sentBy, taken, last, market}
-use Rattle.promise.specs.promises.Parts.{Ends, Ended, OneRecord, Resent, after}
+use Rattle.promise.specs.rules.Sides.{isSell, otherSide, sent, responses, sentBy, takenRecords, atEnd, marketOrder}
+use Rattle.promise.specs.promises.Parts.{Ends, MarketRecord, OneRecord, Resent, after}
 use Rattle.promise.proofs.Answered.{refused-stays, without, ends-alike}
 
 -- ---- the records taken
@@ -365,9 +365,9 @@ unfolding closeTurn endedByTime
 closed-market a = by (λ (t : Turn). t .head .market ≡ a .head .market) (isOpen (a .head .ending)) _ _ (λ _. refl) (λ _. refl)
 
 -- a record that ended the auction as a market order
-ends-by : (o : Order) (es : List Event) → acceptOf o .answer ≡ Accepted → (e : Event) → In e (taken o es) → Sold (isSell o) e (run (acceptOf o .auction) es) → Ends o es e
+ends-by : (o : Order) (es : List Event) → acceptOf o .answer ≡ Accepted → (e : Event) → In e (takenRecords o es) → Sold (isSell o) e (run (acceptOf o .auction) es) → Ends o es e
 ends-by o es h e i s =
-    let same : run (acceptOf o .auction) es ≡ last o es = sym (demanded .by-event o es (ap isOpen (s .ending))) in
+    let same : run (acceptOf o .auction) es ≡ atEnd o es = sym (demanded .by-event o es (ap isOpen (s .ending))) in
     record {
       taken = i;
       side = market-side (isSell o) e (s .kind) (s .side);
@@ -378,16 +378,16 @@ ends-by o es h e i s =
       latest = ap (λ (b : Auction). b .head .sequence) (sym same) ∙ s .latest;
     }
 
-pub ended-by : (o : Order) (es : List Event) → acceptOf o .answer ≡ Accepted → 0 < market o es .size → Ended o es
+pub ended-by : (o : Order) (es : List Event) → acceptOf o .answer ≡ Accepted → 0 < marketOrder o es .size → MarketRecord o es
 ended-by o es h n =
     let a : Auction = run (acceptOf o .auction) es in
-    let size : market o es .size ≡ a .head .market .size = ap (λ (m : Market). m .size) (closed-market a) in
+    let size : marketOrder o es .size ≡ a .head .market .size = ap (λ (m : Market). m .size) (closed-market a) in
     let f : MarketFrom (acceptOf o .auction) es a = resend .market-from o es h (omega (arith, size, n)) in
     let side : buyEvent (isSell o) (f .event) .side ≡ 2 = ap (λ (s : Bool). buyEvent s (f .event) .side) (sym (terms-sell o h)) ∙ f .side in
     record { record-of = f .event; ends = ends-by o es h (f .event) (f .taken) (record { kind = f .kind; side = side; sequence = f .sequence; size = f .size; ending = f .ending; latest = f .latest }) }
 
 -- every market order of the other side that was taken ended it
-pub market-ends : (o : Order) (es : List Event) → acceptOf o .answer ≡ Accepted → (e : Event) → In e (taken o es) → e .kind ≡ 4 → e .side ≡ otherSide o → Ends o es e
+pub market-ends : (o : Order) (es : List Event) → acceptOf o .answer ≡ Accepted → (e : Event) → In e (takenRecords o es) → e .kind ≡ 4 → e .side ≡ otherSide o → Ends o es e
 market-ends o es h e i k d =
     let a : Auction = acceptOf o .auction in
     let side : buyEvent (a .head .terms .sell) e .side ≡ 2 = ap (λ (s : Bool). buyEvent s e .side) (terms-sell o h) ∙ side-market (isSell o) e k d in

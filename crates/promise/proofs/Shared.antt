@@ -34,7 +34,7 @@ use Rattle.fills.specs.rules.Fills.{dealOf}
 use Rattle.tape.proofs.FormLaws.{order-bounds}
 use Rattle.run.proofs.Accepted.{opened}
 use Rattle.run.proofs.SoundLaws.{sound-deal}
-use Rattle.promise.specs.rules.Sides.{isSell, better, sent, soldBetter, gotBetter, last, written, there, walked, worksAt, allAt, customersAt, othersAt, guarantee, leftAt, planAt, leftToOthers}
+use Rattle.promise.specs.rules.Sides.{isSell, better, sent, soldBetter, gotBetter, atEnd, writtenFills, liveAtEnd, walkedFills, workingPrice, allAtPrice, customersAtPrice, othersAtPrice, guaranteeAtEnd, leftAtPrice, planAtPrice, leftToOthersAtPrice}
 use Rattle.promise.proofs.RealLaws.{better-shown, same-shown, shown-twice, tally-shown, sold-shown, filter-sent, sizes-sent, deal, dealt, sound, demand, mode-is, size-is, written-is, there-is, initiating-fits, stop-fits, prices-fit, working-fits, works-is, walked-is, got-is, was-live}
 use Rattle.promise.proofs.Real.{stop-is}
 use Rattle.promise.proofs.BuyShares as buy
@@ -70,20 +70,20 @@ module _ (o : Order) (es : List Event) (h : acceptOf o .answer ≡ Accepted) whe
   sell = isSell o
 
   abbrev board : Board
-  board = last o es .board
+  board = atEnd o es .board
 
   -- the buy that the order is or mirrors
   abbrev d : Deal
   d = deal o es h
 
   can-trade : Tradable d board
-  can-trade = sound-deal (last o es) (sound o es h)
+  can-trade = sound-deal (atEnd o es) (sound o es h)
 
   -- 40%, or 50%
-  guarantee-is : guarantee o es ≡ trade.guarantee d (offers board)
+  guarantee-is : guaranteeAtEnd o es ≡ trade.guarantee d (offers board)
   unfolding dealOf
   guarantee-is =
-      ap (λ (n : ℕ). guaranteeOf n (length (there o es))) (sym (size-is o es h))
+      ap (λ (n : ℕ). guaranteeOf n (length (liveAtEnd o es))) (sym (size-is o es h))
       ∙ ap (guaranteeOf (d .size)) (ap length (there-is o es h) ∙ length-map (liveOf board) (sent sell) ∙ sym (shuffles-length (sequence-shuffles (liveOf board))))
 
   -- ---- at a price of the buy, and its real price
@@ -99,23 +99,23 @@ module _ (o : Order) (es : List Event) (h : acceptOf o .answer ≡ Accepted) whe
     walks-fit = every-filter (λ f. f .price ≤ 1000000) _ (dealt o es h) (prices-fit o es h)
 
     -- what trades there, and at better prices
-    sold-is : soldAt real (walked o es) ≡ soldAt q walks
+    sold-is : soldAt real (walkedFills o es) ≡ soldAt q walks
     sold-is = ap (soldAt real) (walked-is o es h) ∙ sold-shown sell q walks fits walks-fit
 
-    better-is : soldBetter sell real (walked o es) ≡ soldBelow q walks
+    better-is : soldBetter sell real (walkedFills o es) ≡ soldBelow q walks
     better-is =
         ap (soldBetter sell real) (walked-is o es h)
         ∙ tally-shown sell (λ f. better sell (f .price) real) (λ f. ltb (f .price) q) walks
         (every-map (λ f. f .price ≤ 1000000) (λ f. better sell (reportedPrice sell (f .price)) real ≡ ltb (f .price) q) walks (λ f z. better-shown sell (f .price) q z fits) walks-fit)
 
-    held-is : gotBetter sell 0 real (written o es) ≡ gotBelow 0 q (dealt o es h)
+    held-is : gotBetter sell 0 real (writtenFills o es) ≡ gotBelow 0 q (dealt o es h)
     held-is =
         ap (gotBetter sell 0 real) (written-is o es h)
         ∙ tally-shown sell (λ f. eqb (f .party) 0 && better sell (f .price) real) (λ f. eqb (f .party) 0 && ltb (f .price) q) (dealt o es h)
         (every-map (λ f. f .price ≤ 1000000) (λ f. (eqb (f .party) 0 && better sell (reportedPrice sell (f .price)) real) ≡ (eqb (f .party) 0 && ltb (f .price) q)) (dealt o es h)
         (λ f z. ap (λ (b : Bool). eqb (f .party) 0 && b) (better-shown sell (f .price) q z fits)) (prices-fit o es h))
 
-    left-is : leftAt o es real ≡ buy.leftAt d board q
+    left-is : leftAtPrice o es real ≡ buy.leftAt d board q
     unfolding dealOf
     left-is = omega (arith, size-is o es h, better-is)
 
@@ -123,11 +123,11 @@ module _ (o : Order) (es : List Event) (h : acceptOf o .answer ≡ Accepted) whe
     abbrev here : List Response
     here = filter (λ r. eqb (working d r) q) (liveOf board)
 
-    all-is : allAt o es real ≡ map (sent sell) here
+    all-is : allAtPrice o es real ≡ map (sent sell) here
     all-is =
-        ap (filter (λ r. eqb (worksAt o es r) real)) (there-is o es h)
-        ∙ filter-sent sell (λ r. eqb (worksAt o es r) real) (λ r. eqb (working d r) q) (liveOf board)
-        (every-map (λ r. r .price ≤ d .initiating) (λ r. eqb (worksAt o es (sent sell r)) real ≡ eqb (working d r) q) (liveOf board)
+        ap (filter (λ r. eqb (workingPrice o es r) real)) (there-is o es h)
+        ∙ filter-sent sell (λ r. eqb (workingPrice o es r) real) (λ r. eqb (working d r) q) (liveOf board)
+        (every-map (λ r. r .price ≤ d .initiating) (λ r. eqb (workingPrice o es (sent sell r)) real ≡ eqb (working d r) q) (liveOf board)
         (λ r z. ap (λ (p : ℕ). eqb p real) (works-is o es h r) ∙ same-shown sell (working d r) q (omega (arith, can-trade .bound-below, initiating-fits o es h)) fits)
         (can-trade .prices))
 
@@ -135,47 +135,47 @@ module _ (o : Order) (es : List Event) (h : acceptOf o .answer ≡ Accepted) whe
     unfolding offersAt
     offers-are = sequence-filter (λ r. eqb (working d r) q) (liveOf board)
 
-    all-sizes : sum (sizes (allAt o es real)) ≡ sum (sizes (offersAt d (offers board) q))
+    all-sizes : sum (sizes (allAtPrice o es real)) ≡ sum (sizes (offersAt d (offers board) q))
     all-sizes =
         ap (λ (rs : List Response). sum (sizes rs)) all-is
         ∙ ap sum (sizes-sent sell here)
         ∙ sym (ap (λ (rs : List Response). sum (sizes rs)) offers-are ∙ sizes-sequence here)
 
     -- the Customers' or the others'
-    some-sizes : (c : Response → Bool) → ((r : Response) → c (sent sell r) ≡ c r) → sum (sizes (filter c (allAt o es real))) ≡ sum (sizes (filter c (offersAt d (offers board) q)))
+    some-sizes : (c : Response → Bool) → ((r : Response) → c (sent sell r) ≡ c r) → sum (sizes (filter c (allAtPrice o es real))) ≡ sum (sizes (filter c (offersAt d (offers board) q)))
     some-sizes c same =
         ap (λ (rs : List Response). sum (sizes (filter c rs))) all-is
         ∙ ap (λ (rs : List Response). sum (sizes rs)) (filter-sent sell c c here (every-any (λ r. c (sent sell r) ≡ c r) here same))
         ∙ ap sum (sizes-sent sell (filter c here))
         ∙ sym (ap (λ (rs : List Response). sum (sizes (filter c rs))) offers-are ∙ ap (λ (rs : List Response). sum (sizes rs)) (sequence-filter c here) ∙ sizes-sequence (filter c here))
 
-    customers-are : sum (sizes (customersAt o es real)) ≡ sum (sizes (filter fromCustomer (offersAt d (offers board) q)))
+    customers-are : sum (sizes (customersAtPrice o es real)) ≡ sum (sizes (filter fromCustomer (offersAt d (offers board) q)))
     customers-are = some-sizes fromCustomer (λ r. refl)
 
-    others-are : sum (sizes (othersAt o es real)) ≡ sum (sizes (demands.othersAt d (offers board) q))
+    others-are : sum (sizes (othersAtPrice o es real)) ≡ sum (sizes (demands.othersAt d (offers board) q))
     others-are = some-sizes fromOther (λ r. refl)
 
     -- what the others trade together
-    together-are : sum (gots (written o es) (othersAt o es real)) ≡ sum (gots (dealt o es h) (demands.othersAt d (offers board) q))
+    together-are : sum (gots (writtenFills o es) (othersAtPrice o es real)) ≡ sum (gots (dealt o es h) (demands.othersAt d (offers board) q))
     together-are =
-        ap (λ (rs : List Response). sum (gots (written o es) (filter fromOther rs))) all-is
-        ∙ ap (λ (rs : List Response). sum (gots (written o es) rs)) (filter-sent sell fromOther fromOther here (every-any (λ r. fromOther (sent sell r) ≡ fromOther r) here (λ r. refl)))
-        ∙ ap sum (gots-sent sell (written o es) (dealt o es h) (got-is o es h) (filter fromOther here))
+        ap (λ (rs : List Response). sum (gots (writtenFills o es) (filter fromOther rs))) all-is
+        ∙ ap (λ (rs : List Response). sum (gots (writtenFills o es) rs)) (filter-sent sell fromOther fromOther here (every-any (λ r. fromOther (sent sell r) ≡ fromOther r) here (λ r. refl)))
+        ∙ ap sum (gots-sent sell (writtenFills o es) (dealt o es h) (got-is o es h) (filter fromOther here))
         ∙ sym (ap (λ (rs : List Response). sum (gots (dealt o es h) (filter fromOther rs))) offers-are ∙ ap (λ (rs : List Response). sum (gots (dealt o es h) rs)) (sequence-filter fromOther here) ∙ gots-sequence (dealt o es h) (filter fromOther here))
 
     -- nothing trades at a higher price of the buy where nothing trades at a worse real one
-    none-above : Every (λ f. better sell real (f .price) ≡ false) (written o es) → soldAbove q (dealt o es h) ≡ 0
+    none-above : Every (λ f. better sell real (f .price) ≡ false) (writtenFills o es) → soldAbove q (dealt o es h) ≡ 0
     none-above n =
         sym (tally-shown sell (λ f. better sell real (f .price)) (λ f. ltb q (f .price)) (dealt o es h)
         (every-map (λ f. f .price ≤ 1000000) (λ f. better sell real (reportedPrice sell (f .price)) ≡ ltb q (f .price)) (dealt o es h) (λ f z. better-shown sell q (f .price) fits z) (prices-fit o es h)))
         ∙ sym (ap (tally (λ f. better sell real (f .price))) (written-is o es h))
-        ∙ none-tally (λ f. better sell real (f .price)) (written o es) n
+        ∙ none-tally (λ f. better sell real (f .price)) (writtenFills o es) n
 
     -- the Contra Order takes part from the stop or limit on
     from-entry : d .bound ≤ q → (o .mode ≢ 2 → better sell real (o .stop) ≡ false) → entry d ≤ q
     unfolding entry dealOf
     from-entry b s =
-        by (λ (n : ℕ). n ≤ q) (eqb (last o es .head .terms .mode) 2) _ _ (λ _. omega arith)
+        by (λ (n : ℕ). n ≤ q) (eqb (atEnd o es .head .terms .mode) 2) _ _ (λ _. omega arith)
         (λ z. let m : o .mode ≢ 2 = λ e. eqb-false _ _ z (mode-is o es h ∙ e) in omega (arith, b, stop-below m (s m)))
       where
         stop-below : o .mode ≢ 2 → better sell real (o .stop) ≡ false → d .stop ≤ q
@@ -185,47 +185,47 @@ module _ (o : Order) (es : List Event) (h : acceptOf o .answer ≡ Accepted) whe
             ltb-false q (d .stop) (sym (better-shown sell q (d .stop) fits (omega (arith, stop-fits o es h, initiating-fits o es h))) ∙ sym (ap (better sell real) e) ∙ n)
 
     -- the plan, and what it leaves
-    plan-is : planAt o es real ≡ buy.planAt d board q
+    plan-is : planAtPrice o es real ≡ buy.planAt d board q
     unfolding dealOf
     plan-is = same-plan (workingStop d) (d .initiating) (sym (mode-is o es h)) guarantee-is (shown-twice sell q fits) left-is held-is all-sizes
 
-    left-to-is : leftToOthers o es real ≡ buy.leftToOthers d board q
+    left-to-is : leftToOthersAtPrice o es real ≡ buy.leftToOthers d board q
     left-to-is = same-left left-is customers-are (ap (λ (x : Plan). x .want) plan-is)
 
   -- ---- a response that is no Customer's, at a price where anything trades
 
   abbrev Filled : Response → ℕ → Type 0
-  Filled r p = 0 < soldAt p (walked o es) → sum (sizes (othersAt o es p)) ≤ leftToOthers o es p → got (r .sequence) (written o es) ≡ r .size
+  Filled r p = 0 < soldAt p (walkedFills o es) → sum (sizes (othersAtPrice o es p)) ≤ leftToOthersAtPrice o es p → got (r .sequence) (writtenFills o es) ≡ r .size
 
   abbrev Short : Response → ℕ → Type 0
-  Short r p = 0 < soldAt p (walked o es) → leftToOthers o es p < sum (sizes (othersAt o es p)) → Near (leftToOthers o es p) (sum (sizes (othersAt o es p))) (r .size) (got (r .sequence) (written o es))
+  Short r p = 0 < soldAt p (walkedFills o es) → leftToOthersAtPrice o es p < sum (sizes (othersAtPrice o es p)) → Near (leftToOthersAtPrice o es p) (sum (sizes (othersAtPrice o es p))) (r .size) (got (r .sequence) (writtenFills o es))
 
   abbrev Guaranteed : Response → ℕ → Type 0
-  Guaranteed r p = planAt o es p .final ≡ true → 0 < got (r .sequence) (written o es) → guarantee o es ≤ got 0 (written o es)
+  Guaranteed r p = planAtPrice o es p .final ≡ true → 0 < got (r .sequence) (writtenFills o es) → guaranteeAtEnd o es ≤ got 0 (writtenFills o es)
 
   -- what holds of each live response at the real price of its working price holds of each as it was sent
   as-sent : (P : Response → ℕ → Type 0) → ((x : Response) → In x (liveOf board) → x .customer ≡ false → working d x ≤ 1000000 → P (sent sell x) (reportedPrice sell (working d x)))
-      → (r : Response) → In r (there o es) → r .customer ≡ false → P r (worksAt o es r)
+      → (r : Response) → In r (liveAtEnd o es) → r .customer ≡ false → P r (workingPrice o es r)
   as-sent P f r i =
       let k = was-live o es h r i in
-      subst (λ (y : Response). y .customer ≡ false → P y (worksAt o es y)) (sym (k .is))
+      subst (λ (y : Response). y .customer ≡ false → P y (workingPrice o es y)) (sym (k .is))
       (λ c. subst (P (sent sell (k .response))) (sym (works-is o es h (k .response))) (f (k .response) (k .live) c (omega (arith, working-fits o es h (k .response) (k .live)))))
 
-  pub filled : (r : Response) → In r (there o es) → r .customer ≡ false → Filled r (worksAt o es r)
+  pub filled : (r : Response) → In r (liveAtEnd o es) → r .customer ≡ false → Filled r (workingPrice o es r)
   filled =
       as-sent Filled
       (λ x m c z t e.
       got-is o es h (x .sequence)
       ∙ buy.filled-at d board can-trade x m c (subst (λ (n : ℕ). 0 < n) (sold-is (working d x) z) t) (omega (arith, others-are (working d x) z, left-to-is (working d x) z)))
 
-  pub short : (r : Response) → In r (there o es) → r .customer ≡ false → Short r (worksAt o es r)
+  pub short : (r : Response) → In r (liveAtEnd o es) → r .customer ≡ false → Short r (workingPrice o es r)
   short =
       as-sent Short
       (λ x m c z t e.
       buy.near (x .size) (sym (left-to-is (working d x) z)) (sym (others-are (working d x) z)) (sym (got-is o es h (x .sequence)))
       (buy.short-at d board can-trade x m c (subst (λ (n : ℕ). 0 < n) (sold-is (working d x) z) t) (omega (arith, others-are (working d x) z, left-to-is (working d x) z))))
 
-  pub guaranteed : (r : Response) → In r (there o es) → r .customer ≡ false → Guaranteed r (worksAt o es r)
+  pub guaranteed : (r : Response) → In r (liveAtEnd o es) → r .customer ≡ false → Guaranteed r (workingPrice o es r)
   guaranteed =
       as-sent Guaranteed
       (λ x m c z f t.
@@ -235,27 +235,27 @@ module _ (o : Order) (es : List Event) (h : acceptOf o .answer ≡ Accepted) whe
   -- ---- whatever the plan
 
   abbrev Shares : Response → ℕ → Type 0
-  Shares r p = Near (sum (gots (written o es) (othersAt o es p))) (sum (sizes (othersAt o es p))) (r .size) (got (r .sequence) (written o es))
+  Shares r p = Near (sum (gots (writtenFills o es) (othersAtPrice o es p))) (sum (sizes (othersAtPrice o es p))) (r .size) (got (r .sequence) (writtenFills o es))
 
   abbrev Covered : Response → ℕ → Type 0
-  Covered r p = got (r .sequence) (written o es) < r .size → got 0 (written o es) ≤ max (guarantee o es) (gotBetter sell 0 p (written o es))
+  Covered r p = got (r .sequence) (writtenFills o es) < r .size → got 0 (writtenFills o es) ≤ max (guaranteeAtEnd o es) (gotBetter sell 0 p (writtenFills o es))
 
   abbrev Last : Response → ℕ → Type 0
-  Last r p = (o .mode ≢ 2 → better sell p (o .stop) ≡ false) → Every (λ f. better sell p (f .price) ≡ false) (written o es) → 0 < got (r .sequence) (written o es) → guarantee o es ≤ got 0 (written o es)
+  Last r p = (o .mode ≢ 2 → better sell p (o .stop) ≡ false) → Every (λ f. better sell p (f .price) ≡ false) (writtenFills o es) → 0 < got (r .sequence) (writtenFills o es) → guaranteeAtEnd o es ≤ got 0 (writtenFills o es)
 
-  pub share : (r : Response) → In r (there o es) → r .customer ≡ false → Shares r (worksAt o es r)
+  pub share : (r : Response) → In r (liveAtEnd o es) → r .customer ≡ false → Shares r (workingPrice o es r)
   share =
       as-sent Shares
       (λ x m c z. buy.near (x .size) (sym (together-are (working d x) z)) (sym (others-are (working d x) z)) (sym (got-is o es h (x .sequence))) (demand o es h .share x m c))
 
-  pub covered : (r : Response) → In r (there o es) → r .customer ≡ false → Covered r (worksAt o es r)
+  pub covered : (r : Response) → In r (liveAtEnd o es) → r .customer ≡ false → Covered r (workingPrice o es r)
   covered =
       as-sent Covered
       (λ x m c z t.
       let g = demand o es h .covered x m c (subst (λ (n : ℕ). n < x .size) (got-is o es h (x .sequence)) t) in
       omega (arith, g, guarantee-is, held-is (working d x) z, got-is o es h 0))
 
-  pub guaranteed-last : (r : Response) → In r (there o es) → r .customer ≡ false → Last r (worksAt o es r)
+  pub guaranteed-last : (r : Response) → In r (liveAtEnd o es) → r .customer ≡ false → Last r (workingPrice o es r)
   guaranteed-last =
       as-sent Last
       (λ x m c z s n t.

@@ -8,7 +8,7 @@ use Rattle.tape.specs.declared.event.Event.{Event}
 use Rattle.run.specs.promises.Figures.{order, gtx, event, market}
 use Rattle.run.proofs.Figures.{Computed}
 use Rattle.trade.specs.rules.Plan.{cleanUp}
-use Rattle.promise.specs.rules.Sides.{leftAt, planAt, customersAt, othersAt, leftToOthers}
+use Rattle.promise.specs.rules.Sides.{leftAtPrice, planAtPrice, customersAtPrice, othersAtPrice, leftToOthersAtPrice}
 
 -- a. 100 to buy, the stop at 108: Contra 40 there, and 30 for the others' 100
 abbrev responsesA : List Event
@@ -17,11 +17,11 @@ responsesA = gtx 1 30 105 ∷ gtx 2 60 108 ∷ gtx 3 40 108 ∷ []
 abbrev orderA : Order
 orderA = order 1 1 100 110 108
 
-left-a : leftAt orderA responsesA 108 ∷ leftToOthers orderA responsesA 108 ∷ sum (sizes (othersAt orderA responsesA 108)) ∷ leftToOthers orderA responsesA 105 ∷ [] ≡ 70 ∷ 30 ∷ 100 ∷ 100 ∷ []
+left-a : leftAtPrice orderA responsesA 108 ∷ leftToOthersAtPrice orderA responsesA 108 ∷ sum (sizes (othersAtPrice orderA responsesA 108)) ∷ leftToOthersAtPrice orderA responsesA 105 ∷ [] ≡ 70 ∷ 30 ∷ 100 ∷ 100 ∷ []
 unfolding Computed
 left-a = refl
 
-plan-a : planAt orderA responsesA 108 ≡ cleanUp 40
+plan-a : planAtPrice orderA responsesA 108 ≡ cleanUp 40
 unfolding Computed
 plan-a = refl
 
@@ -32,11 +32,11 @@ bidsA = event 1 1 1 30 105 ∷ event 1 2 1 60 102 ∷ event 1 3 1 40 102 ∷ []
 abbrev sellA : Order
 sellA = order 2 1 100 100 102
 
-left-sell : leftAt sellA bidsA 102 ∷ leftToOthers sellA bidsA 102 ∷ sum (sizes (othersAt sellA bidsA 102)) ∷ leftToOthers sellA bidsA 105 ∷ [] ≡ 70 ∷ 30 ∷ 100 ∷ 100 ∷ []
+left-sell : leftAtPrice sellA bidsA 102 ∷ leftToOthersAtPrice sellA bidsA 102 ∷ sum (sizes (othersAtPrice sellA bidsA 102)) ∷ leftToOthersAtPrice sellA bidsA 105 ∷ [] ≡ 70 ∷ 30 ∷ 100 ∷ 100 ∷ []
 unfolding Computed
 left-sell = refl
 
-plan-sell : planAt sellA bidsA 102 ≡ cleanUp 40
+plan-sell : planAtPrice sellA bidsA 102 ≡ cleanUp 40
 unfolding Computed
 plan-sell = refl
 
@@ -47,7 +47,7 @@ responsesH = gtx 1 20 101 ∷ gtx 2 80 104 ∷ gtx 3 30 106 ∷ []
 abbrev orderH : Order
 orderH = order 1 3 200 110 103
 
-left-h : leftAt orderH responsesH 104 ∷ leftToOthers orderH responsesH 104 ∷ leftAt orderH responsesH 106 ∷ leftToOthers orderH responsesH 106 ∷ [] ≡ 180 ∷ 100 ∷ 20 ∷ 20 ∷ []
+left-h : leftAtPrice orderH responsesH 104 ∷ leftToOthersAtPrice orderH responsesH 104 ∷ leftAtPrice orderH responsesH 106 ∷ leftToOthersAtPrice orderH responsesH 106 ∷ [] ≡ 180 ∷ 100 ∷ 20 ∷ 20 ∷ []
 unfolding Computed
 left-h = refl
 
@@ -58,7 +58,7 @@ customer e = record { sequence = e .sequence; time = e .time; kind = e .kind; ma
 abbrev soldTo : List Event
 soldTo = customer (gtx 1 10 108) ∷ gtx 2 60 108 ∷ gtx 3 40 108 ∷ market 4 2 20 ∷ []
 
-left-sold : leftAt orderA soldTo 108 ∷ sum (sizes (customersAt orderA soldTo 108)) ∷ leftToOthers orderA soldTo 108 ∷ sum (sizes (othersAt orderA soldTo 108)) ∷ [] ≡ 80 ∷ 10 ∷ 30 ∷ 100 ∷ []
+left-sold : leftAtPrice orderA soldTo 108 ∷ sum (sizes (customersAtPrice orderA soldTo 108)) ∷ leftToOthersAtPrice orderA soldTo 108 ∷ sum (sizes (othersAtPrice orderA soldTo 108)) ∷ [] ≡ 80 ∷ 10 ∷ 30 ∷ 100 ∷ []
 unfolding Computed
 left-sold = refl
 
@@ -66,6 +66,6 @@ left-sold = refl
 abbrev boughtFrom : List Event
 boughtFrom = customer (event 1 1 1 10 102) ∷ event 1 2 1 60 102 ∷ event 1 3 1 40 102 ∷ market 4 1 20 ∷ []
 
-left-bought : leftAt sellA boughtFrom 102 ∷ sum (sizes (customersAt sellA boughtFrom 102)) ∷ leftToOthers sellA boughtFrom 102 ∷ sum (sizes (othersAt sellA boughtFrom 102)) ∷ [] ≡ 80 ∷ 10 ∷ 30 ∷ 100 ∷ []
+left-bought : leftAtPrice sellA boughtFrom 102 ∷ sum (sizes (customersAtPrice sellA boughtFrom 102)) ∷ leftToOthersAtPrice sellA boughtFrom 102 ∷ sum (sizes (othersAtPrice sellA boughtFrom 102)) ∷ [] ≡ 80 ∷ 10 ∷ 30 ∷ 100 ∷ []
 unfolding Computed
 left-bought = refl

@@ -39,7 +39,7 @@ use Rattle.run.proofs.BoardSteps.{sees}
 use Rattle.run.proofs.Accepted.{opened}
 use Rattle.run.proofs.SoundLaws.{sound-opened, sound-step}
 use Rattle.run.proofs.ComesFrom.{side-in, sided, buy-form, terms-stay, untaken, made-gtx, made-limit}
-use Rattle.promise.specs.rules.Sides.{isSell, otherSide, better, sent, sentBy, takesPlace, standsAfter, standingFrom, standingOf, taken, there as live-at-end}
+use Rattle.promise.specs.rules.Sides.{isSell, otherSide, better, sent, sentBy, takesPlace, standsAfter, standingFrom, standingOf, takenRecords, liveAtEnd}
 use Rattle.promise.proofs.RealLaws.{better-shown, board-is, there-is}
 use Rattle.promise.proofs.Resent.{terms-sell, terms-size, sent-price, sent-is, others-apart, found-is}
 
@@ -257,11 +257,11 @@ none-live : (s : Bool) (b : Order) → liveOf (openedBy s b .board) ≡ []
 unfolding openedBy
 none-live s b = empty-live
 
-pub stand : (o : Order) (es : List Event) → acceptOf o .answer ≡ Accepted → Shuffles (standingOf o (taken o es)) (live-at-end o es)
+pub stand : (o : Order) (es : List Event) → acceptOf o .answer ≡ Accepted → Shuffles (standingOf o (takenRecords o es)) (liveAtEnd o es)
 stand o es h =
     let a : Auction = acceptOf o .auction in
     let nobody : liveOf (a .board) ≡ [] = ap (λ (x : Auction). liveOf (x .board)) (opened o h .auction) ∙ none-live (isSell o) (buyOrder o) in
     let start : Shuffles [] (onBoard (isSell o) (a .board)) = subst (λ (rs : List Response). Shuffles [] (map (sent (isSell o)) rs)) (sym nobody) none in
-    let end : live-at-end o es ≡ onBoard (isSell o) (run a es .board) = there-is o es h ∙ ap (onBoard (isSell o)) (board-is o es h) in
-    subst (Shuffles (standingOf o (taken o es))) (sym end)
+    let end : liveAtEnd o es ≡ onBoard (isSell o) (run a es .board) = there-is o es h ∙ ap (onBoard (isSell o)) (board-is o es h) in
+    subst (Shuffles (standingOf o (takenRecords o es))) (sym end)
     (stands-run o es a [] (sound-opened o h) (record { sell = terms-sell o h; size = terms-size o h; initiating = refl }) start)

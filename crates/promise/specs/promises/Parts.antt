@@ -43,7 +43,7 @@ use Rattle.listing.specs.rules.Text.{text, newline}
 use Rattle.listing.specs.rules.Listing.{field, answerText, endText, refusedLine, auctionLine, eventLines, endLines, listingOf, roomOf, listedOf, lengthIn, bytesOf}
 use Rattle.promise.specs.rules.Answers.{Paper, no, yes, openedIs, orderIs, eventIs, trailerIs, writtenIs, entryIs, answerIs, endingIs, filledIs, runIs, listedIs}
 use Rattle.promise.specs.rules.Tapes.{Carries}
-use Rattle.promise.specs.rules.Sides.{isSell, otherSide, better, gotBetter, responses, taken, last, range, written, there, market, walked, worksAt, othersAt, guarantee, planAt, leftToOthers, standingOf}
+use Rattle.promise.specs.rules.Sides.{isSell, otherSide, better, gotBetter, responses, takenRecords, atEnd, rangeAtEnd, writtenFills, liveAtEnd, marketOrder, walkedFills, workingPrice, othersAtPrice, guaranteeAtEnd, planAtPrice, leftToOthersAtPrice, standingOf}
 
 -- ---- 1. every tape is answered
 
@@ -100,7 +100,7 @@ EventNumber x = (n : ℕ) → answerIs (x .answer) ≡ no n → In n (31 ∷ 32 
 module _ (o : Order) (es : List Event) where
   -- the response r is that of the record e: taken, on the other side, a GTX response (its size capped at the CUBE size) or a limit order
   pub record Sends (e : Event) (r : Response) : Type 0 where
-    pub taken : In e (taken o es)
+    pub taken : In e (takenRecords o es)
     pub side : e .side ≡ otherSide o
     pub kind : (e .kind ≡ 1) ⊎ (e .kind ≡ 3)
     pub sequence : r .sequence ≡ e .sequence
@@ -111,65 +111,65 @@ module _ (o : Order) (es : List Event) where
 
   -- the record e is the market order that ended the auction: the last that was taken, on the other side
   pub record Ends (e : Event) : Type 0 where
-    pub taken : In e (taken o es)
+    pub taken : In e (takenRecords o es)
     pub side : e .side ≡ otherSide o
     pub kind : e .kind ≡ 4
-    pub sequence : market o es .sequence ≡ e .sequence
-    pub size : market o es .size ≡ sizeOf e
-    pub ending : last o es .head .ending ≡ Opposite
-    pub latest : last o es .head .sequence ≡ e .sequence
+    pub sequence : marketOrder o es .sequence ≡ e .sequence
+    pub size : marketOrder o es .size ≡ sizeOf e
+    pub ending : atEnd o es .head .ending ≡ Opposite
+    pub latest : atEnd o es .head .sequence ≡ e .sequence
 
   -- it is one of the records
-  pub record Ended : Type 0 where
+  pub record MarketRecord : Type 0 where
     pub record-of : Event
     pub ends : Ends record-of
 
   -- who trades: the Contra Order, the response of a record, or the market order that ended the auction; no more than the record's size field, and a response not beyond its price field
-  pub data Party (f : Fill) : Type 0 where
-    theContra : f .party ≡ 0 → Party f
-    aResponse : (e : Event) (r : Response) → In r (there o es) → Sends e r → f .party ≡ e .sequence → got (e .sequence) (written o es) ≤ sizeOf e → better (isSell o) (f .price) (priceOf e) ≡ false → Party f
-    theMarket : (e : Event) → Ends e → f .party ≡ e .sequence → got (e .sequence) (written o es) ≤ sizeOf e → Party f
+  pub data Trader (f : Fill) : Type 0 where
+    theContra : f .party ≡ 0 → Trader f
+    aResponse : (e : Event) (r : Response) → In r (liveAtEnd o es) → Sends e r → f .party ≡ e .sequence → got (e .sequence) (writtenFills o es) ≤ sizeOf e → better (isSell o) (f .price) (priceOf e) ≡ false → Trader f
+    theMarket : (e : Event) → Ends e → f .party ≡ e .sequence → got (e .sequence) (writtenFills o es) ≤ sizeOf e → Trader f
 
-  pub record Traded : Type 0 where
+  pub record InRealPrices : Type 0 where
     -- the fills add up to the order's size field
-    pub adds-up : traded (written o es) ≡ o .size
+    pub adds-up : traded (writtenFills o es) ≡ o .size
     -- each price lies in the range that the END line shows, and not beyond the order's limit field; no fill is of zero
-    pub in-range : Every (Within (range o es)) (written o es)
-    pub own-limit : Every (λ f. better (isSell o) (o .limit) (f .price) ≡ false) (written o es)
-    pub some : Every (λ f. 1 ≤ f .quantity) (written o es)
+    pub in-range : Every (Within (rangeAtEnd o es)) (writtenFills o es)
+    pub own-limit : Every (λ f. better (isSell o) (o .limit) (f .price) ≡ false) (writtenFills o es)
+    pub some : Every (λ f. 1 ≤ f .quantity) (writtenFills o es)
     -- they are those of demand 3's clauses, which hold of the buy that the order is or mirrors, with a sell's prices mirrored back
-    pub clauses : Trades (last o es)
-    pub link : written o es ≡ reported (isSell o) (fills (dealOf (last o es .head)) (offers (last o es .board)))
+    pub clauses : Trades (atEnd o es)
+    pub link : writtenFills o es ≡ reported (isSell o) (fills (dealOf (atEnd o es .head)) (offers (atEnd o es .board)))
     -- the responses are those that the records taken leave standing
-    pub stand : Shuffles (standingOf o (taken o es)) (there o es)
+    pub stand : Shuffles (standingOf o (takenRecords o es)) (liveAtEnd o es)
     -- each party is the Contra Order, or exactly one record
-    pub parties : Every Party (written o es)
-    pub one-record : (e f : Event) → In e (taken o es) → In f (taken o es) → e .sequence ≡ f .sequence → e ≡ f
+    pub parties : Every Trader (writtenFills o es)
+    pub told-apart : (e f : Event) → In e (takenRecords o es) → In f (takenRecords o es) → e .sequence ≡ f .sequence → e ≡ f
     -- a market order of the other side that is taken ends the auction, and trades as far as sizes go
-    pub market-trades : (e : Event) → In e (taken o es) → e .kind ≡ 4 → e .side ≡ otherSide o → Ends e × (got (e .sequence) (written o es) ≡ min (o .size) (sizeOf e))
+    pub market-trades : (e : Event) → In e (takenRecords o es) → e .kind ≡ 4 → e .side ≡ otherSide o → Ends e × (got (e .sequence) (writtenFills o es) ≡ min (o .size) (sizeOf e))
     -- the Contra Order does not trade beyond its stop or auto-match limit
-    pub contra-limit : o .mode ≢ 2 → Every (λ f. f .party ≡ 0 → better (isSell o) (f .price) (o .stop) ≡ false) (written o es)
+    pub contra-limit : o .mode ≢ 2 → Every (λ f. f .party ≡ 0 → better (isSell o) (f .price) (o .stop) ≡ false) (writtenFills o es)
     -- a response trades at its working price alone, and at most its size
-    pub works : (r : Response) → In r (there o es) → Every (λ f. f .party ≡ r .sequence → f .price ≡ worksAt o es r) (written o es)
-    pub fits : (r : Response) → In r (there o es) → got (r .sequence) (written o es) ≤ r .size
+    pub works : (r : Response) → In r (liveAtEnd o es) → Every (λ f. f .party ≡ r .sequence → f .price ≡ workingPrice o es r) (writtenFills o es)
+    pub fits : (r : Response) → In r (liveAtEnd o es) → got (r .sequence) (writtenFills o es) ≤ r .size
     -- where anything trades, every response with a better working price is filled
-    pub priority : (r : Response) → In r (there o es) → (f : Fill) → In f (written o es) → better (isSell o) (worksAt o es r) (f .price) ≡ true → got (r .sequence) (written o es) ≡ r .size
+    pub priority : (r : Response) → In r (liveAtEnd o es) → (f : Fill) → In f (writtenFills o es) → better (isSell o) (workingPrice o es r) (f .price) ≡ true → got (r .sequence) (writtenFills o es) ≡ r .size
     -- the others at a price where anything trades are all filled where what is left to them covers them, and otherwise each gets the whole part, or one more
-    pub filled : (r : Response) → In r (there o es) → r .customer ≡ false → 0 < soldAt (worksAt o es r) (walked o es)
-        → sum (sizes (othersAt o es (worksAt o es r))) ≤ leftToOthers o es (worksAt o es r) → got (r .sequence) (written o es) ≡ r .size
-    pub short : (r : Response) → In r (there o es) → r .customer ≡ false → 0 < soldAt (worksAt o es r) (walked o es)
-        → leftToOthers o es (worksAt o es r) < sum (sizes (othersAt o es (worksAt o es r)))
-        → Near (leftToOthers o es (worksAt o es r)) (sum (sizes (othersAt o es (worksAt o es r)))) (r .size) (got (r .sequence) (written o es))
+    pub filled : (r : Response) → In r (liveAtEnd o es) → r .customer ≡ false → 0 < soldAt (workingPrice o es r) (walkedFills o es)
+        → sum (sizes (othersAtPrice o es (workingPrice o es r))) ≤ leftToOthersAtPrice o es (workingPrice o es r) → got (r .sequence) (writtenFills o es) ≡ r .size
+    pub short : (r : Response) → In r (liveAtEnd o es) → r .customer ≡ false → 0 < soldAt (workingPrice o es r) (walkedFills o es)
+        → leftToOthersAtPrice o es (workingPrice o es r) < sum (sizes (othersAtPrice o es (workingPrice o es r)))
+        → Near (leftToOthersAtPrice o es (workingPrice o es r)) (sum (sizes (othersAtPrice o es (workingPrice o es r)))) (r .size) (got (r .sequence) (writtenFills o es))
     -- of what the others at a price trade together, each trades the whole part of its share, or one more; where one is not filled, the Contra Order has no more than its guarantee, or than it has at better prices
-    pub share : (r : Response) → In r (there o es) → r .customer ≡ false
-        → Near (sum (gots (written o es) (othersAt o es (worksAt o es r)))) (sum (sizes (othersAt o es (worksAt o es r)))) (r .size) (got (r .sequence) (written o es))
-    pub covered : (r : Response) → In r (there o es) → r .customer ≡ false → got (r .sequence) (written o es) < r .size
-        → got 0 (written o es) ≤ max (guarantee o es) (gotBetter (isSell o) 0 (worksAt o es r) (written o es))
+    pub share : (r : Response) → In r (liveAtEnd o es) → r .customer ≡ false
+        → Near (sum (gots (writtenFills o es) (othersAtPrice o es (workingPrice o es r)))) (sum (sizes (othersAtPrice o es (workingPrice o es r)))) (r .size) (got (r .sequence) (writtenFills o es))
+    pub covered : (r : Response) → In r (liveAtEnd o es) → r .customer ≡ false → got (r .sequence) (writtenFills o es) < r .size
+        → got 0 (writtenFills o es) ≤ max (guaranteeAtEnd o es) (gotBetter (isSell o) 0 (workingPrice o es r) (writtenFills o es))
     -- where one of them trades at the guarantee price the Contra Order has its guarantee
-    pub guaranteed : (r : Response) → In r (there o es) → r .customer ≡ false → planAt o es (worksAt o es r) .final ≡ true → 0 < got (r .sequence) (written o es) → guarantee o es ≤ got 0 (written o es)
+    pub guaranteed : (r : Response) → In r (liveAtEnd o es) → r .customer ≡ false → planAtPrice o es (workingPrice o es r) .final ≡ true → 0 < got (r .sequence) (writtenFills o es) → guaranteeAtEnd o es ≤ got 0 (writtenFills o es)
     -- which is where nothing trades at a worse price, from the stop or limit on
-    pub guaranteed-last : (r : Response) → In r (there o es) → r .customer ≡ false → (o .mode ≢ 2 → better (isSell o) (worksAt o es r) (o .stop) ≡ false)
-        → Every (λ f. better (isSell o) (worksAt o es r) (f .price) ≡ false) (written o es) → 0 < got (r .sequence) (written o es) → guarantee o es ≤ got 0 (written o es)
+    pub guaranteed-last : (r : Response) → In r (liveAtEnd o es) → r .customer ≡ false → (o .mode ≢ 2 → better (isSell o) (workingPrice o es r) (o .stop) ≡ false)
+        → Every (λ f. better (isSell o) (workingPrice o es r) (f .price) ≡ false) (writtenFills o es) → 0 < got (r .sequence) (writtenFills o es) → guaranteeAtEnd o es ≤ got 0 (writtenFills o es)
 
 -- ---- 4. a response that stands on the board is never counted twice
 
@@ -177,7 +177,7 @@ module _ (o : Order) (es : List Event) where
 pub record OneRecord (o : Order) (es : List Event) (r : Response) : Type 0 where
   pub record-of : Event
   pub sends : Sends o es record-of r
-  pub only : (f : Event) → In f (taken o es) → f .sequence ≡ r .sequence → f ≡ record-of
+  pub only : (f : Event) → In f (takenRecords o es) → f .sequence ≡ r .sequence → f ≡ record-of
 
 module _ (o : Order) where
   -- the order's auction after some records
@@ -186,7 +186,7 @@ module _ (o : Order) where
 
   pub record Resent : Type 0 where
     -- once a record was taken, every record with its sequence or a lower one is refused, whatever else it says, and changes nothing: 31 once ended; else 32 where it is out of form, and 33
-    pub refused : (before : List Event) (e f : Event) → In e (taken o before) → f .sequence ≤ e .sequence
+    pub refused : (before : List Event) (e f : Event) → In e (takenRecords o before) → f .sequence ≤ e .sequence
         → stepOf (after before) f ≡ gives (Refused (cond (isOpen (after before .head .ending)) (cond (eventFormed f) 33 32) 31)) (after before)
     -- each live response comes from one record
     pub one-record : (es : List Event) → acceptOf o .answer ≡ Accepted → Every (OneRecord o es) (responses (after es))

@@ -19,7 +19,7 @@ use Rattle.roundtrip.specs.promises.Demands.{Demands}
 use Rattle.listing.specs.rules.Listing.{listingOf}
 use Rattle.promise.specs.rules.Tapes.{Carries, SomeTape, endOf, notRefused, notRefusedSaid, Resends, mirroredLines}
 use Rattle.promise.specs.rules.Sides.{isSell, buyRange, sellRange}
-use Rattle.promise.specs.promises.Parts.{Answered, Roomed, Filling, Numbered, EventNumber, Traded, Resent}
+use Rattle.promise.specs.promises.Parts.{Answered, Roomed, Filling, Numbered, EventNumber, InRealPrices, Resent}
 use Rattle.promise.specs.promises.Below.{Below}
 
 pub record Promise : Type 0 where
@@ -38,7 +38,7 @@ pub record Promise : Type 0 where
   pub read-back : Demands
   -- 3. Of every order that is accepted and every list of records after it, once ended; its range at the opening is that of its own fields
   pub opens : (o : Order) → acceptOf o .answer ≡ Accepted → rangeOf (acceptOf o .auction .head) ≡ cond (isSell o) (sellRange o) (buyRange o)
-  pub trades : (o : Order) (es : List Event) → acceptOf o .answer ≡ Accepted → Traded o es
+  pub trades : (o : Order) (es : List Event) → acceptOf o .answer ≡ Accepted → InRealPrices o es
   -- 4. A response that stands on the board is never counted twice: a tape with any number of resent records put in has the same END, FILL and TOTAL lines
   pub resent : (o : Order) → Resent o
   pub same-records : (a : Auction) (es fs : List Event) → Resends a es fs → notRefused a fs ≡ notRefused a es

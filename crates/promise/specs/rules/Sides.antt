@@ -116,58 +116,58 @@ gotBetter sell k p fs = tally (λ f. eqb (f .party) k && better sell (f .price) 
 
 module _ (o : Order) (es : List Event) where
   -- the records taken
-  abbrev pub taken : List Event
-  taken = takenOf (acceptOf o .auction) es
+  abbrev pub takenRecords : List Event
+  takenRecords = takenOf (acceptOf o .auction) es
 
   -- the auction at its end, the range that the END line shows, and the fills of the FILL lines
-  abbrev pub last : Auction
-  last = played o es
+  abbrev pub atEnd : Auction
+  atEnd = played o es
 
-  abbrev pub range : Range
-  range = rangeOf (last .head)
+  abbrev pub rangeAtEnd : Range
+  rangeAtEnd = rangeOf (atEnd .head)
 
-  abbrev pub written : List Fill
-  written = auctionFills last
+  abbrev pub writtenFills : List Fill
+  writtenFills = auctionFills atEnd
 
   -- the responses live at the ending
-  abbrev pub there : List Response
-  there = responses last
+  abbrev pub liveAtEnd : List Response
+  liveAtEnd = responses atEnd
 
   -- the market order that ended it, of size 0 where none did; and the fills of all others
-  abbrev pub market : Market
-  market = last .head .market
+  abbrev pub marketOrder : Market
+  marketOrder = atEnd .head .market
 
-  abbrev pub walked : List Fill
-  walked = filter (λ f. not (ltb 0 (market .size) && eqb (f .party) (market .sequence))) written
+  abbrev pub walkedFills : List Fill
+  walkedFills = filter (λ f. not (ltb 0 (marketOrder .size) && eqb (f .party) (marketOrder .sequence))) writtenFills
 
   -- a response's working price: its own, or the bound where its own is better
-  abbrev pub worksAt : Response → ℕ
-  worksAt r = cond (isSell o) (min (r .price) (range .high)) (max (r .price) (range .low))
+  abbrev pub workingPrice : Response → ℕ
+  workingPrice r = cond (isSell o) (min (r .price) (rangeAtEnd .high)) (max (r .price) (rangeAtEnd .low))
 
   -- the responses at a price, the Customers among them, and the others
-  abbrev pub allAt : ℕ → List Response
-  allAt p = filter (λ r. eqb (worksAt r) p) there
+  abbrev pub allAtPrice : ℕ → List Response
+  allAtPrice p = filter (λ r. eqb (workingPrice r) p) liveAtEnd
 
-  abbrev pub customersAt : ℕ → List Response
-  customersAt p = filter fromCustomer (allAt p)
+  abbrev pub customersAtPrice : ℕ → List Response
+  customersAtPrice p = filter fromCustomer (allAtPrice p)
 
-  abbrev pub othersAt : ℕ → List Response
-  othersAt p = filter fromOther (allAt p)
+  abbrev pub othersAtPrice : ℕ → List Response
+  othersAtPrice p = filter fromOther (allAtPrice p)
 
-  -- 40%, or 50% where exactly one response is live
-  abbrev pub guarantee : ℕ
-  guarantee = guaranteeOf (o .size) (length there)
+  -- the greater of one contract and 40% of the size, rounded down; 50% where exactly one response is live
+  abbrev pub guaranteeAtEnd : ℕ
+  guaranteeAtEnd = guaranteeOf (o .size) (length liveAtEnd)
 
   -- the size left on arriving at a price: what the market order and better prices leave
-  abbrev pub leftAt : ℕ → ℕ
-  leftAt p = o .size - (min (o .size) (market .size) + soldBetter (isSell o) p walked)
+  abbrev pub leftAtPrice : ℕ → ℕ
+  leftAtPrice p = o .size - (min (o .size) (marketOrder .size) + soldBetter (isSell o) p walkedFills)
 
   -- document 01's plan at a price, for the buy that the order is or mirrors: what the Contra Order takes there before the others, and whether it is the guarantee price, where the rest goes to it too
-  abbrev pub planAt : ℕ → Plan
-  planAt p = planOf (o .mode) (workingStop (dealOf (last .head))) (last .head .terms .initiating) guarantee (reportedPrice (isSell o) p) (leftAt p) (gotBetter (isSell o) 0 p written) (sum (sizes (allAt p)))
+  abbrev pub planAtPrice : ℕ → Plan
+  planAtPrice p = planOf (o .mode) (workingStop (dealOf (atEnd .head))) (atEnd .head .terms .initiating) guaranteeAtEnd (reportedPrice (isSell o) p) (leftAtPrice p) (gotBetter (isSell o) 0 p writtenFills) (sum (sizes (allAtPrice p)))
 
   -- what is left to the others at a price, after Customers and the Contra Order's first part
-  abbrev pub leftToOthers : ℕ → ℕ
-  leftToOthers p =
-      let left = leftAt p - sum (sizes (customersAt p)) in
-      left - min left (planAt p .want)
+  abbrev pub leftToOthersAtPrice : ℕ → ℕ
+  leftToOthersAtPrice p =
+      let left = leftAtPrice p - sum (sizes (customersAtPrice p)) in
+      left - min left (planAtPrice p .want)

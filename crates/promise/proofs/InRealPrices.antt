@@ -6,14 +6,14 @@ use Rattle.tape.specs.declared.event.Event.{Event}
 use Rattle.auction.specs.rules.Accept.{acceptOf}
 use Rattle.auction.specs.declared.Entry.the-variants.{Accepted}
 use Rattle.run.proofs.Resend.{one}
-use Rattle.promise.specs.promises.Parts.{Traded}
+use Rattle.promise.specs.promises.Parts.{InRealPrices}
 use Rattle.promise.proofs.RealLaws.{ended-well, size-is, written-is}
 use Rattle.promise.proofs.Real.{own-limit, some, parties, contra-limit, works, fits, priority}
 use Rattle.promise.proofs.Standing.{stand}
 use Rattle.promise.proofs.MarketTrades.{market-trades}
 use Rattle.promise.proofs.Shared.{filled, short, share, covered, guaranteed, guaranteed-last}
 
-pub trades : (o : Order) (es : List Event) → acceptOf o .answer ≡ Accepted → Traded o es
+pub trades : (o : Order) (es : List Event) → acceptOf o .answer ≡ Accepted → InRealPrices o es
 trades o es h =
     record {
       adds-up = ended-well o es h .adds-up ∙ size-is o es h;
@@ -24,7 +24,7 @@ trades o es h =
       link = written-is o es h;
       stand = stand o es h;
       parties = parties o es h;
-      one-record = one (acceptOf o .auction) es;
+      told-apart = one (acceptOf o .auction) es;
       market-trades = market-trades o es h;
       contra-limit = contra-limit o es h;
       works = works o es h;
