@@ -6,16 +6,15 @@ use native.Mathlib.Omega.{arith}
 use lib.Dec.{ltb, eqb}
 use Rattle.base.specs.Price.{mirrored}
 use Rattle.tape.specs.declared.order.Order.{Order}
-use Rattle.tape.specs.rules.Form.{orderFormed}
 use Rattle.tape.proofs.FormLaws.{OrderBounds, order-bounds}
-use Rattle.mirror.specs.rules.Mirror.{mirroredMarks, mirroredOrder, buyOrder}
+use Rattle.mirror.specs.rules.Mirror.{mirroredOrder, buyOrder}
 use Rattle.mirror.proofs.MirrorForm.{records-mirror}
 use Rattle.auction.specs.declared.Auction.{Auction}
 use Rattle.auction.specs.declared.Range.{Range}
 use Rattle.auction.specs.declared.Entry.the-variants.{Accepted}
 use Rattle.auction.specs.rules.Accept.{initiatingOf, tickOf, boundOf, bidMark, offerMark, termsOf, quotesOf, openedBy, acceptOf}
 use Rattle.auction.specs.rules.Range.{word, boundNow, rangeOf}
-use Rattle.run.proofs.Accepted.{Opened, opened}
+use Rattle.run.proofs.Accepted.{opened}
 use Rattle.promise.specs.rules.Sides.{isSell, buyRange, sellRange}
 
 abbrev from : ℕ → ℕ → Range

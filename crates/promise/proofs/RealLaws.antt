@@ -36,7 +36,7 @@ use Rattle.demand.specs.promises.Demands as demands
 use Rattle.run.proofs.Accepted.{opened}
 use Rattle.run.proofs.ComesFrom.{run-terms}
 use Rattle.run.proofs.SoundLaws.{sound-opened, sound-run, sound-close, demanded}
-use Rattle.promise.specs.rules.Sides.{isSell, better, sent, responses, atEnd, rangeAtEnd, writtenFills, liveAtEnd, marketOrder, walkedFills, workingPrice}
+use Rattle.promise.specs.rules.Sides.{isSell, better, sent, atEnd, rangeAtEnd, writtenFills, liveAtEnd, marketOrder, walkedFills, workingPrice}
 
 -- ---- prices, up to 1,000,000: mirroring loses nothing
 

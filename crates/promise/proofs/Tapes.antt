@@ -2,7 +2,7 @@
 use mathlib.Core.Path.{_≡_, refl, ap, sym, _∙_}
 use mathlib.Core.Bool.{Bool, true, false, cond, not}
 use mathlib.Core.List.{List, [], _∷_, _++_, map, append-nil}
-use Prim.Native.Nat.{ℕ, _*_, _≤_}
+use Prim.Native.Nat.{ℕ, _≤_}
 use native.Mathlib.Omega.{arith}
 use lib.ListN.{length, take, drop, length-append, length-drop, take-append-drop}
 use lib.Seq.{length-take-le}
@@ -11,7 +11,7 @@ use Rattle.words.specs.rules.Bytes.{AllBytes, wordBytes, wordAt}
 use Rattle.words.proofs.ByteLaws.{length-wordBytes, word-alone, bytes-take, bytes-append, bytes-words}
 use Rattle.tape.specs.rules.Form.{orderFormed, eventFormed}
 use Rattle.tape.specs.rules.Records.{orderWords, eventWords, readOrder, readEvent, recordAt}
-use Rattle.tape.specs.rules.Tape.{lengthOf, openTape, trailerFor}
+use Rattle.tape.specs.rules.Tape.{openTape, trailerFor}
 use Rattle.tape.specs.declared.order.Order.{Order}
 use Rattle.tape.specs.declared.order.ReadOrder.{ReadOrder}
 use Rattle.tape.specs.declared.order.ReadOrder.the-variants.{Order as GotOrder}

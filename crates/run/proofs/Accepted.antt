@@ -1,22 +1,20 @@
 -- What is known of an order that was accepted. Assumes nothing.
 use mathlib.Core.Path.{_≡_, refl, sym, ap, _∙_}
 use mathlib.Core.Bool.{Bool, true, false, cond, not, _&&_, _||_}
-use mathlib.Core.List.{List}
 use Prim.Native.Nat.{ℕ, _+_, _-_, _≤_, _<_, min, max}
 use native.Mathlib.Omega.{arith}
 use lib.Dec.{leb, ltb, eqb}
-use lib.ListN.{getD}
-use borrow.Author.Tests.{ltb-true, ltb-false, leb-true, leb-false, eqb-true, eqb-false, le-ltb, lt-ltb, eq-eqb, not-false}
+use borrow.Author.Tests.{ltb-false, leb-false, eqb-true, eqb-false, not-false}
 use Rattle.words.specs.rules.Bits.{bitAt}
 use Rattle.tape.specs.declared.order.Order.{Order}
-use Rattle.tape.specs.rules.Form.{orderTests, orderFormed}
+use Rattle.tape.specs.rules.Form.{orderFormed}
 use Rattle.base.proofs.Bools.{or-left, or-right}
-use Rattle.tape.proofs.FormLaws.{each, within-ge, within-le, order-bounds}
+use Rattle.tape.proofs.FormLaws.{order-bounds}
 use Rattle.base.specs.Price.{mirrored}
 use Rattle.mirror.specs.rules.Mirror.{mirroredOrder, buyOrder}
-use Rattle.auction.specs.rules.Accept.{initiatingOf, tickOf, boundOf, firstBound, guaranteedOf, rangeRefusal, buyRefusal, orderRefusal, openedBy, acceptOf, bidMark}
+use Rattle.auction.specs.rules.Accept.{initiatingOf, tickOf, boundOf, firstBound, rangeRefusal, buyRefusal, orderRefusal, openedBy, acceptOf, bidMark}
 use Rattle.auction.specs.declared.Opening.{Opening}
-use Rattle.auction.specs.declared.Entry.the-variants.{Accepted, Refused}
+use Rattle.auction.specs.declared.Entry.the-variants.{Accepted}
 use Rattle.base.proofs.Bools.{by, no}
 
 -- what no refusal of a buy says of it

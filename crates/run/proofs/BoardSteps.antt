@@ -1,16 +1,16 @@
 -- What seating and clearing keep of the live responses, and what an event sees of a board. Assumes nothing.
 use mathlib.Core.Path.{_≡_, refl, sym, subst}
-use mathlib.Core.Bool.{Bool, true, false, cond}
-use mathlib.Core.List.{List, [], _∷_}
+use mathlib.Core.Bool.{Bool, true, false}
+use mathlib.Core.List.{List}
 use mathlib.Core.Logic.{_≢_}
-use Prim.Native.Nat.{ℕ, _≤_, _<_}
+use Prim.Native.Nat.{ℕ, _<_}
 use native.Mathlib.Omega.{arith}
 use Rattle.base.specs.Lists.{Every, Inserts}
 use Rattle.base.specs.Lists.Inserts.{here, there}
 use Rattle.base.proofs.ListLaws.{inserts-every, every-inserts}
 use Rattle.base.proofs.Bools.{by}
-use Rattle.board.specs.rules.Board.{responseAt, isLive, firstFree, liveOf, seatedAt, cleared, findGtx}
-use Rattle.board.specs.promises.Board.{Good, GtxAt}
+use Rattle.board.specs.rules.Board.{isLive, liveOf, seatedAt, cleared, findGtx}
+use Rattle.board.specs.promises.Board.{Good}
 use Rattle.board.specs.declared.Board.{Board}
 use Rattle.board.specs.declared.Response.{Response}
 use Rattle.board.proofs.BoardLaws.{seating, clearing, cleared-dead, find-gtx}

@@ -1,6 +1,6 @@
 -- Each live response comes from one event taken, and so does a market order that ended the auction. Assumes nothing.
 use mathlib.Core.Path.{_≡_, refl, sym, ap, subst, _∙_}
-use mathlib.Core.Bool.{Bool, true, false, cond}
+use mathlib.Core.Bool.{Bool, true, false}
 use mathlib.Core.List.{List, [], _∷_}
 use mathlib.Core.Logic.{_⊎_, inl, inr}
 use Prim.Native.Nat.{ℕ, _≤_, _<_, min}
@@ -8,14 +8,13 @@ use lib.Dec.{eqb}
 use native.Mathlib.Omega.{arith}
 use borrow.Author.Tests.{eq-eqb, ne-eqb, eqb-true, eqb-false}
 use Rattle.base.specs.Lists.{In, Every, keep}
-use Rattle.base.proofs.Bools.{by, no}
+use Rattle.base.proofs.Bools.{no}
 use Rattle.base.proofs.ListLaws.{every-map}
 use Rattle.board.specs.rules.Board.{liveOf}
 use Rattle.board.specs.declared.Response.{Response}
 use Rattle.board.proofs.BoardLaws.{empty-live}
 use Rattle.tape.specs.declared.order.Order.{Order}
 use Rattle.tape.specs.declared.event.Event.{Event}
-use Rattle.demand.specs.promises.Demands.{Distinct}
 use Rattle.mirror.specs.rules.Mirror.{mirroredMarket, buyOrder, buyEvent}
 use Rattle.auction.specs.rules.Accept.{openedBy, acceptOf}
 use Rattle.auction.specs.rules.Range.{isOpen}
@@ -29,17 +28,15 @@ use Rattle.run.specs.promises.Demands.{madeBy, ComesFrom, MarketFrom, So
 use Rattle.auction.specs.declared.Auction.{Auction}
 use Rattle.auction.specs.declared.Terms.{Terms}
 use Rattle.auction.specs.declared.Market.{Market}
-use Rattle.auction.specs.declared.Ending.{Ending}
 use Rattle.auction.specs.declared.Ending.the-variants.{Opposite}
 use Rattle.events.specs.declared.Stepped.{Stepped}
 use Rattle.events.specs.declared.Sight.{Sight}
-use Rattle.events.specs.declared.Turn.{Turn}
 use Rattle.auction.specs.declared.Entry.the-variants.{Accepted}
-use Rattle.run.proofs.StepLaws.{Leaves, Outcomes, Ordinary, Cases, cases}
+use Rattle.run.proofs.StepLaws.{Leaves, Outcomes, cases}
 use Rattle.mirror.proofs.EventLaws.{buy-sequence, buy-kind, mirror-four}
 use Rattle.mirror.proofs.MirrorForm.{event-form}
 use Rattle.run.proofs.BoardSteps.{sees, seat-every, clear-every}
-use Rattle.run.proofs.Accepted.{Opened, opened}
+use Rattle.run.proofs.Accepted.{opened}
 use Rattle.run.proofs.Resend.{any-change, taken-any, keeps, older, again, rising, one}
 use Rattle.run.proofs.SoundLaws.{sound-opened, sound-step, sound-run}
 

@@ -2,7 +2,7 @@
 use mathlib.Core.Path.{_≡_, refl, sym, ap, subst, _∙_}
 use mathlib.Core.Bool.{Bool, true, false, cond, not, _&&_, _||_}
 use mathlib.Core.List.{List, [], _∷_}
-use mathlib.Core.Logic.{_⊎_, inl, inr, ⊎-elim}
+use mathlib.Core.Logic.{inl, inr}
 use Prim.Native.Nat.{ℕ, _+_, _≤_, _<_}
 use native.Mathlib.Nat.{le-refl, le-trans, le-of-lt}
 use native.Mathlib.Omega.{arith}
@@ -15,7 +15,7 @@ use Rattle.tape.specs.declared.order.Order.{Order}
 use Rattle.tape.specs.rules.Form.{orderFormed, eventFormed}
 use Rattle.base.proofs.Bools.{by, no}
 use Rattle.base.proofs.ListLaws.{every-in, every-map}
-use Rattle.mirror.specs.rules.Mirror.{buyOrder, buyEvent}
+use Rattle.mirror.specs.rules.Mirror.{buyOrder}
 use Rattle.auction.specs.rules.Accept.{initiatingOf, firstBound, guaranteedOf, rangeRefusal, buyRefusal, orderRefusal, acceptOf}
 use Rattle.auction.specs.rules.Range.{isOpen}
 use Rattle.events.specs.rules.Step.{sightOf, eventRefusal, headAfter, endedByTime, turnOf, closeTurn, gives, seatedOn, stepBy, stepOf, closeOf}
@@ -25,8 +25,7 @@ use Rattle.auction.specs.declared.Auction.{Auction}
 use Rattle.auction.specs.declared.Terms.{Terms}
 use Rattle.auction.specs.declared.Quotes.{Quotes}
 use Rattle.auction.specs.declared.Ending.{Ending}
-use Rattle.events.specs.declared.Answer.{Answer}
-use Rattle.events.specs.declared.Answer.the-variants.{Taken, Ended, Late, Refused}
+use Rattle.events.specs.declared.Answer.the-variants.{Taken, Ended, Refused}
 use Rattle.events.specs.declared.Stepped.{Stepped}
 use Rattle.events.specs.declared.Sight.{Sight}
 use Rattle.events.specs.declared.Turn.{Turn}
@@ -36,7 +35,7 @@ use Rattle.events.specs.declared.Change.{Change}
 use Rattle.events.specs.declared.Change.the-variants.{Nothing, Seat, Free, Quote, Sell}
 use Rattle.events.specs.declared.Outcome.{Outcome}
 use Rattle.events.specs.declared.Outcome.the-variants.{Refuses, Does}
-use Rattle.run.proofs.StepLaws.{EventNumber, Outcomes, Ordinary, Cases, cases}
+use Rattle.run.proofs.StepLaws.{EventNumber, Outcomes, Cases, cases}
 
 -- where only refusing or not matters: any change, any ending
 pub any-change : (t : Terms) (q : Quotes) (s : Sight) (m : Event) (P : Outcome → Type 0) → ((n : ℕ) → EventNumber n → P (Refuses n)) → ((c : Change) (g : Ending) → P (Does c g)) → Outcomes t q s m P

@@ -1,19 +1,16 @@
 -- What every auction that was opened has, every step and closing keep; so demand 3 holds of every one that has ended. Assumes nothing.
 use mathlib.Core.Path.{_≡_, refl, sym, ap, subst, _∙_}
-use mathlib.Core.Bool.{Bool, true, false, cond, not}
+use mathlib.Core.Bool.{Bool, true, false, cond}
 use mathlib.Core.List.{List, [], _∷_}
 use mathlib.Core.Logic.{_⊎_, inl, inr, _≢_}
-use Prim.Native.Nat.{ℕ, _+_, _-_, _≤_, _<_, min, max}
-use native.Mathlib.Nat.{le-refl, le-of-lt}
+use Prim.Native.Nat.{ℕ, _+_, _-_, _≤_, _<_, min}
 use native.Mathlib.Omega.{arith}
-use lib.Dec.{leb, ltb, eqb}
-use borrow.Author.Tests.{eqb-true}
+use lib.Dec.{eqb}
 use Rattle.base.specs.Lists.{Every}
 use Rattle.base.proofs.Bools.{by, no}
 use Rattle.base.proofs.ListLaws.{every-map}
-use Rattle.board.specs.rules.Board.{emptyBoard, liveOf, seatedAt, cleared}
+use Rattle.board.specs.rules.Board.{liveOf}
 use Rattle.board.specs.promises.Board.{Good}
-use Rattle.board.specs.declared.Board.{Board}
 use Rattle.board.specs.declared.Response.{Response}
 use Rattle.board.proofs.BoardLaws.{empty-good, empty-live, seated-good, cleared-good}
 use Rattle.share.specs.rules.Fills.{Fill}
@@ -21,24 +18,22 @@ use Rattle.tape.specs.declared.event.Event.{Event}
 use Rattle.tape.specs.declared.order.Order.{Order}
 use Rattle.tape.specs.rules.Form.{eventFormed, shapeOf, shapeTests, orderFormed}
 use Rattle.tape.proofs.FormLaws.{each, within-ge, order-bounds}
-use Rattle.trade.specs.declared.Deal.{Deal}
 use Rattle.trade.specs.rules.Trade.{offers, fills, traded}
 use Rattle.trade.specs.rules.Write.{reportedPrice, reported, fillsOf}
-use Rattle.demand.specs.promises.Demands.{Absent, Distinct, InRange, Demand3, Tradable as SoundDeal}
+use Rattle.demand.specs.promises.Demands.{Absent, Distinct, InRange, Tradable as SoundDeal}
 use Rattle.demand.proofs.Theorems.{demand3}
 use Rattle.base.specs.Price.{mirrored}
 use Rattle.mirror.specs.rules.Mirror.{mirroredOrder, buyOrder, buyEvent}
-use Rattle.auction.specs.rules.Accept.{initiatingOf, boundOf, firstBound, termsOf, quotesOf, openedBy, acceptOf}
+use Rattle.auction.specs.rules.Accept.{initiatingOf, termsOf, quotesOf, openedBy, acceptOf}
 use Rattle.auction.specs.rules.Range.{isOpen, boundBy}
 use Rattle.tape.specs.rules.Fields.{sizeOf}
 use Rattle.events.specs.rules.Step.{sightOf, boardAfter, quotesAfter, marketAfter, headAfter, endedByTime, carried, closeTurn, seatedOn, stepBy, stepOf, closeOf}
 use Rattle.events.specs.rules.Decide.{responseOf}
-use Rattle.auction.specs.rules.Range.{word, boundNow, rangeOf}
-use Rattle.fills.specs.rules.Fills.{dealOf, auctionFills}
+use Rattle.auction.specs.rules.Range.{boundNow, rangeOf}
+use Rattle.fills.specs.rules.Fills.{dealOf}
 use Rattle.run.specs.rules.Run.{run, played}
 use Rattle.run.specs.promises.Demands.{Fits, Stands, Sound, Within, Trades, Demanded}
 use Rattle.auction.specs.declared.Auction.{Auction}
-use Rattle.auction.specs.declared.Range.{Range}
 use Rattle.auction.specs.declared.Ending.{Ending}
 use Rattle.auction.specs.declared.Ending.the-variants.{Open, Opposite}
 use Rattle.events.specs.declared.Change.{Change}
@@ -47,10 +42,10 @@ use Rattle.events.specs.declared.Stepped.{Stepped}
 use Rattle.events.specs.declared.Sight.{Sight}
 use Rattle.events.specs.declared.Turn.{Turn}
 use Rattle.auction.specs.declared.Entry.the-variants.{Accepted}
-use Rattle.run.proofs.StepLaws.{Outcomes, Ordinary, Cases, cases}
+use Rattle.run.proofs.StepLaws.{Outcomes, Ordinary, cases}
 use Rattle.mirror.proofs.EventLaws.{buy-sequence, buy-kind, mirror-one, mirror-three, priced-size}
 use Rattle.run.proofs.BoardSteps.{sees, seat-every, clear-every, seat-distinct, clear-distinct}
-use Rattle.run.proofs.Accepted.{Passed, bound-fits, Opened, opened, price-fits}
+use Rattle.run.proofs.Accepted.{Passed, bound-fits, opened, price-fits}
 use Rattle.run.proofs.Resend.{keeps}
 
 -- ---- at the opening

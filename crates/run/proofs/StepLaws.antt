@@ -15,9 +15,9 @@ use Rattle.auction.specs.declared.Head.{Head}
 use Rattle.auction.specs.declared.Terms.{Terms}
 use Rattle.auction.specs.declared.Quotes.{Quotes}
 use Rattle.auction.specs.declared.Ending.{Ending}
-use Rattle.auction.specs.declared.Ending.the-variants.{Open, Time, Same, Opposite, Improve}
+use Rattle.auction.specs.declared.Ending.the-variants.{Open, Same, Opposite, Improve}
 use Rattle.events.specs.rules.Step.{eventRefusal, stays, endedByTime, carried, turnOf}
-use Rattle.events.specs.rules.Decide.{isCancel, isCustomer, isNonRoutable, responseOf, seats, gtxOutcome, cancelOutcome, sellLimitOutcome, bidQuotes, moves, buyLimitOutcome, limitOutcome, marketOutcome, newQuotes, quotesOutcome, outcomeOf}
+use Rattle.events.specs.rules.Decide.{isCustomer, isNonRoutable, responseOf, gtxOutcome, cancelOutcome, sellLimitOutcome, bidQuotes, moves, buyLimitOutcome, limitOutcome, marketOutcome, newQuotes, quotesOutcome, outcomeOf}
 use Rattle.tape.specs.rules.Fields.{sizeOf, priceOf}
 use Rattle.events.specs.declared.Answer.the-variants.{Late, Refused}
 use Rattle.events.specs.declared.Sight.{Sight}

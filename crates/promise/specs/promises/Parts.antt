@@ -1,6 +1,6 @@
 -- The parts of the promise.
 use mathlib.Core.Path.{_≡_}
-use mathlib.Core.Bool.{Bool, true, false, cond, _&&_}
+use mathlib.Core.Bool.{true, false, cond, _&&_}
 use mathlib.Core.List.{List, [], _∷_, _++_}
 use mathlib.Core.Logic.{_⊎_, _≢_}
 use Prim.Native.Nat.{ℕ, _+_, _*_, _≤_, _<_, min, max}
@@ -41,7 +41,7 @@ use Rattle.run.specs.rules.Run.{Said, run, heard, played, runOf}
 use Rattle.run.specs.promises.Demands.{Within, Trades}
 use Rattle.listing.specs.rules.Text.{text, newline}
 use Rattle.listing.specs.rules.Listing.{field, answerText, endText, refusedLine, auctionLine, eventLines, endLines, listingOf, roomOf, listedOf, lengthIn, bytesOf}
-use Rattle.promise.specs.rules.Answers.{Paper, no, yes, openedIs, orderIs, eventIs, trailerIs, writtenIs, entryIs, answerIs, endingIs, filledIs, runIs, listedIs}
+use Rattle.promise.specs.rules.Answers.{no, yes, openedIs, orderIs, eventIs, trailerIs, writtenIs, entryIs, answerIs, endingIs, filledIs, runIs, listedIs}
 use Rattle.promise.specs.rules.Tapes.{Carries}
 use Rattle.promise.specs.rules.Sides.{isSell, otherSide, better, gotBetter, responses, takenRecords, atEnd, rangeAtEnd, writtenFills, liveAtEnd, marketOrder, walkedFills, workingPrice, othersAtPrice, guaranteeAtEnd, planAtPrice, leftToOthersAtPrice, standingOf}
 

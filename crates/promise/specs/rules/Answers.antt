@@ -1,5 +1,4 @@
 -- What document 01 has for each case of each answer: a number for "no", or what is answered.
-use mathlib.Core.List.{List}
 use Prim.Native.Nat.{ℕ}
 use Prim.Native.String.{String}
 use Rattle.tape.specs.declared.Written.{Written}

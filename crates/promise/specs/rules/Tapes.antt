@@ -1,12 +1,11 @@
 -- Tapes beside one another: what a tape carries, and which records another has more, fewer, or mirrored.
 use mathlib.Core.Path.{_≡_}
-use mathlib.Core.Bool.{Bool, true, false, cond, not}
+use mathlib.Core.Bool.{Bool, true, false, not}
 use mathlib.Core.List.{List, [], _∷_, _++_}
 use Prim.Native.Nat.{ℕ, _≤_}
 use Rattle.base.specs.Lists.{In, keep, filter}
 use Rattle.words.specs.rules.Bytes.{AllBytes}
 use Rattle.tape.specs.rules.Tape.{openTape, orderIn, recordsOf}
-use Rattle.tape.specs.declared.order.Order.{Order}
 use Rattle.tape.specs.declared.order.ReadOrder.{ReadOrder}
 use Rattle.tape.specs.declared.event.Event.{Event}
 use Rattle.tape.specs.declared.trailer.Trailer.{Trailer}
