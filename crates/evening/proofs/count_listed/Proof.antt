@@ -16,9 +16,6 @@ enum-known-l c = search needs
 count-ending-requires : tie.Need-count-ending-requires
 count-ending-requires c κs = search needs
 
-enum-told-2 : tie.Need-enum-told-2
-enum-told-2 c = search needs
-
 returns : tie.Need-returns
 returns c =
     let t = c .before .before .before .args .t in
@@ -29,9 +26,6 @@ returns-2 c =
     let t = c .before .before .before .before .args .t in
     c .count-ending .ensures ∙ ap (countedListed t) (sym (c .before .before .l .given .1))
 
-returns-3 : tie.Need-returns-3
-returns-3 c = search needs
-
 pub count-listed-spec : {M : Type 1} → statement M
 count-listed-spec =
     tie.close
@@ -40,7 +34,5 @@ count-listed-spec =
     one-more-requires
     enum-known-l
     count-ending-requires
-    enum-told-2
     returns
-    returns-2
-    returns-3)
+    returns-2)
