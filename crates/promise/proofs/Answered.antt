@@ -54,6 +54,7 @@ use Rattle.listing.specs.declared.Listed.the-variants.{Refused as NoAuction}
 use Rattle.listing.proofs.Theorems.{length-answer, demands}
 use Rattle.promise.specs.rules.Answers.{no, yes, openedIs, orderIs, eventIs, trailerIs, writtenIs, entryIs, answerIs, endingIs, runIs, listedIs}
 use Rattle.promise.specs.rules.Tapes.{Carries, endIn, endOf, isRefused, notRefused}
+use Rattle.promise.proofs.Carried.{tape-at, order-at, carry}
 use Rattle.promise.specs.promises.Parts.{Answered, Roomed, Filling, Numbered, EventNumber}
 use Rattle.promise.specs.promises.Parts.Answered.{no-tape, no-order, not-accepted, auction}
 
@@ -148,8 +149,8 @@ opened-run s p e = ap (runTape s) e
 ordered-run : (s : List ℕ) (t : Trailer) (r : ReadOrder) → openTape s ≡ Tape t → orderIn s t ≡ r → runOf s ≡ runOrder (recordsOf s t) r
 ordered-run s t r h e = opened-run s (Tape t) h ∙ ap (runOrder (recordsOf s t)) e
 
-pub run-carries : (s : List ℕ) (o : Order) (es : List Event) → Carries s (GotOrder o) es → runOf s ≡ runEntry es (acceptOf o .auction) (acceptOf o .answer)
-run-carries s o es c = ordered-run s (c .trailer) (GotOrder o) (c .opens) (c .order) ∙ ap (λ (fs : List Event). runEntry fs (acceptOf o .auction) (acceptOf o .answer)) (c .records)
+pub run-carries : (s : List ℕ) (o : Order) (es : List Event) → Carries s o es → runOf s ≡ runEntry es (acceptOf o .auction) (acceptOf o .answer)
+run-carries s o es c = ordered-run s (c .trailer) (GotOrder o) (tape-at c) (order-at c) ∙ ap (λ (fs : List Event). runEntry fs (acceptOf o .auction) (acceptOf o .answer)) (c .records)
 
 lines-run : (s : List ℕ) → listingOf s ≡ linesOf (runOf s)
 unfolding listingOf
@@ -160,14 +161,14 @@ answered s = open-by (openTape s) refl
   where
     entry-by : (t : Trailer) (o : Order) → openTape s ≡ Tape t → orderIn s t ≡ GotOrder o → orderFormed o ≡ true → (x : Entry) → acceptOf o .answer ≡ x → Answered s
     entry-by t o h e f Accepted z =
-        let c : Carries s (GotOrder o) (recordsOf s t) = record { trailer = t; opens = h; order = e; records = refl } in
+        let c : Carries s o (recordsOf s t) = carry s o (recordsOf s t) t h e refl in
         auction o (recordsOf s t) c (ap entryIs z) (lines-run s ∙ ap linesOf (run-carries s o (recordsOf s t) c ∙ ap (runEntry (recordsOf s t) (acceptOf o .auction)) z))
     entry-by t o h e f (NotAccepted n) z =
-        let c : Carries s (GotOrder o) (recordsOf s t) = record { trailer = t; opens = h; order = e; records = refl } in
+        let c : Carries s o (recordsOf s t) = carry s o (recordsOf s t) t h e refl in
         not-accepted o (recordsOf s t) n c (ap entryIs z) (order-number o n f z) (lines-run s ∙ ap linesOf (run-carries s o (recordsOf s t) c ∙ ap (runEntry (recordsOf s t) (acceptOf o .auction)) z))
 
     order-by : (t : Trailer) → openTape s ≡ Tape t → (r : ReadOrder) → orderIn s t ≡ r → (r ≡ NoOrder 1) ⊎ ((r ≡ GotOrder (orderOf (drop (t .order) s))) × (orderFormed (orderOf (drop (t .order) s)) ≡ true)) → Answered s
-    order-by t h r e (inl z) = no-order t h (ap orderIs (e ∙ z)) (lines-run s ∙ ap linesOf (ordered-run s t (NoOrder 1) h (e ∙ z)))
+    order-by t h r e (inl z) = no-order t (ap openedIs h) (ap orderIs (e ∙ z)) (lines-run s ∙ ap linesOf (ordered-run s t (NoOrder 1) h (e ∙ z)))
     order-by t h r e (inr (z, f)) = entry-by t (orderOf (drop (t .order) s)) h (e ∙ z) f (acceptOf (orderOf (drop (t .order) s)) .answer) refl
 
     open-by : (p : Opened) → openTape s ≡ p → Answered s
@@ -317,12 +318,12 @@ without (e ∷ es) a = go (isRefused (stepOf a e .answer)) refl (without es (ste
     go false z ih = ih
 
 -- two tapes of one order, whose records make the same auction, end alike
-pub ends-alike : (s t : List ℕ) (o : Order) (es fs : List Event) → Carries s (GotOrder o) es → Carries t (GotOrder o) fs → run (acceptOf o .auction) fs ≡ run (acceptOf o .auction) es → endOf t ≡ endOf s
+pub ends-alike : (s t : List ℕ) (o : Order) (es fs : List Event) → Carries s o es → Carries t o fs → run (acceptOf o .auction) fs ≡ run (acceptOf o .auction) es → endOf t ≡ endOf s
 ends-alike s t o es fs c d z = ap endIn (run-carries t o fs d) ∙ go (acceptOf o .answer) ∙ sym (ap endIn (run-carries s o es c))
   where
     go : (x : Entry) → endIn (runEntry fs (acceptOf o .auction) x) ≡ endIn (runEntry es (acceptOf o .auction) x)
     go Accepted = ap (λ (a : Auction). endLines (closed a)) z
     go (NotAccepted n) = refl
 
-pub without-refused : (s t : List ℕ) (o : Order) (es : List Event) → Carries s (GotOrder o) es → Carries t (GotOrder o) (notRefused (acceptOf o .auction) es) → endOf t ≡ endOf s
+pub without-refused : (s t : List ℕ) (o : Order) (es : List Event) → Carries s o es → Carries t o (notRefused (acceptOf o .auction) es) → endOf t ≡ endOf s
 without-refused s t o es c d = ends-alike s t o es (notRefused (acceptOf o .auction) es) c d (without es (acceptOf o .auction))

@@ -1,11 +1,15 @@
 -- Demand 3 of every accepted order and every list of records, in real prices: its parts put together. Assumes nothing.
 use mathlib.Core.Path.{_≡_, _∙_}
 use mathlib.Core.List.{List}
+use Prim.Native.Nat.{_<_}
+use native.Mathlib.Omega.{arith}
+use Rattle.base.proofs.ListLaws.{every-in}
 use Rattle.tape.specs.declared.order.Order.{Order}
 use Rattle.tape.specs.declared.event.Event.{Event}
 use Rattle.auction.specs.rules.Accept.{acceptOf}
 use Rattle.auction.specs.declared.Entry.the-variants.{Accepted}
-use Rattle.run.proofs.Resend.{one}
+use Rattle.run.proofs.Resend.{one, above}
+use Rattle.promise.specs.rules.Sides.{takenRecords}
 use Rattle.promise.specs.promises.Parts.{InRealPrices}
 use Rattle.promise.proofs.RealLaws.{ended-well, size-is, written-is}
 use Rattle.promise.proofs.Real.{own-limit, some, parties, contra-limit, works, fits, priority}
@@ -16,6 +20,7 @@ use Rattle.promise.proofs.Shared.{filled, short, share, covered, guaran
 pub trades : (o : Order) (es : List Event) → acceptOf o .answer ≡ Accepted → InRealPrices o es
 trades o es h =
     record {
+      ended = ended-well o es h .ended;
       adds-up = ended-well o es h .adds-up ∙ size-is o es h;
       in-range = ended-well o es h .in-range;
       own-limit = own-limit o es h;
@@ -25,6 +30,7 @@ trades o es h =
       stand = stand o es h;
       parties = parties o es h;
       told-apart = one (acceptOf o .auction) es;
+      not-contra = λ e i. omega (arith, every-in (λ x. acceptOf o .auction .head .sequence < x .sequence) (takenRecords o es) e (above es (acceptOf o .auction)) i);
       market-trades = market-trades o es h;
       contra-limit = contra-limit o es h;
       works = works o es h;

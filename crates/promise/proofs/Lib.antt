@@ -1,5 +1,6 @@
 -- The proofs of the promise.
 pub mod Below
+pub mod Carried
 pub mod Answered
 pub mod Resent
 pub mod Tapes

@@ -6,7 +6,6 @@ use Prim.Native.Nat.{ℕ}
 use lib.ListN.{drop}
 use Rattle.share.specs.rules.Fills.{Fill}
 use Rattle.tape.specs.declared.order.Order.{Order}
-use Rattle.tape.specs.declared.order.ReadOrder.the-variants.{Order as GotOrder}
 use Rattle.tape.specs.declared.event.Event.{Event}
 use Rattle.tape.specs.rules.Form.{orderFormed, eventFormed}
 use Rattle.tape.specs.rules.Tape.{orderIn}
@@ -28,6 +27,7 @@ use Rattle.run.proofs.SoundLaws.{sound-opened, sound-run, sound-close, reported
 use Rattle.run.proofs.Mirrors.{mirrors as auctions}
 use Rattle.listing.specs.rules.Listing.{field, rangeText, sideText, auctionLine, eventLines, endText, endLine, fillLines, totalLine, endLines, linesOf, listingOf}
 use Rattle.promise.specs.rules.Tapes.{Carries, mirroredLines}
+use Rattle.promise.proofs.Carried.{order-at}
 use Rattle.promise.proofs.Answered.{run-carries}
 
 -- ---- the lines of the same auction for the other side
@@ -74,11 +74,11 @@ module _ (o : Order) (es : List Event) where
       go Accepted e = accepted-mirrored e
       go (Refused n) e = refl
 
-pub mirrors : (s t : List ℕ) (o : Order) (es : List Event) → Carries s (GotOrder o) es → Carries t (GotOrder (mirroredOrder o)) (mirroredRecords es) → listingOf t ≡ mirroredLines (runOf s)
+pub mirrors : (s t : List ℕ) (o : Order) (es : List Event) → Carries s o es → Carries t (mirroredOrder o) (mirroredRecords es) → listingOf t ≡ mirroredLines (runOf s)
 unfolding listingOf orderIn
 mirrors s t o es c d =
     ap linesOf (run-carries t (mirroredOrder o) (mirroredRecords es) d)
-    ∙ order-mirrored o es (order-formed (drop (c .trailer .order) s) o (c .order))
+    ∙ order-mirrored o es (order-formed (drop (c .trailer .order) s) o (order-at c))
     ∙ ap mirroredLines (sym (run-carries s o es c))
 
 -- ---- mirrored again
@@ -95,9 +95,9 @@ records-twice [] = refl
 records-twice (e ∷ es) = ap₂ {C = List Event} (λ (x : Event) (xs : List Event). x ∷ xs) (record-twice e) (records-twice es)
 
 -- the mirror of the mirrored tape is the listing
-pub mirrors-back : (s t : List ℕ) (o : Order) (es : List Event) → Carries s (GotOrder o) es → Carries t (GotOrder (mirroredOrder o)) (mirroredRecords es) → mirroredLines (runOf t) ≡ listingOf s
+pub mirrors-back : (s t : List ℕ) (o : Order) (es : List Event) → Carries s o es → Carries t (mirroredOrder o) (mirroredRecords es) → mirroredLines (runOf t) ≡ listingOf s
 unfolding orderIn
 mirrors-back s t o es c d =
-    let f : orderFormed o ≡ true = order-formed (drop (c .trailer .order) s) o (c .order) in
-    let back : Carries s (GotOrder (mirroredOrder (mirroredOrder o))) (mirroredRecords (mirroredRecords es)) = rw (order-twice o f, records-twice es) c in
+    let f : orderFormed o ≡ true = order-formed (drop (c .trailer .order) s) o (order-at c) in
+    let back : Carries s (mirroredOrder (mirroredOrder o)) (mirroredRecords (mirroredRecords es)) = rw (order-twice o f, records-twice es) c in
     sym (mirrors t s (mirroredOrder o) (mirroredRecords es) d back)

@@ -14,8 +14,10 @@ use Rattle.auction.specs.declared.Range.{Range}
 use Rattle.auction.specs.declared.Entry.the-variants.{Accepted}
 use Rattle.auction.specs.rules.Accept.{initiatingOf, tickOf, boundOf, bidMark, offerMark, termsOf, quotesOf, openedBy, acceptOf}
 use Rattle.auction.specs.rules.Range.{word, boundNow, rangeOf}
+use Rattle.trade.specs.rules.Write.{reportedPrice}
+use Rattle.base.proofs.Bools.{no}
 use Rattle.run.proofs.Accepted.{opened}
-use Rattle.promise.specs.rules.Sides.{isSell, buyRange, sellRange}
+use Rattle.promise.specs.rules.Sides.{isSell, buyRange, sellRange, initiatingPrice}
 
 abbrev from : ℕ → ℕ → Range
 from low high = record { low = low; high = high }
@@ -91,3 +93,17 @@ opens o h = let m = opened o h in ap (λ (a : Auction). rangeOf (a .head)) (m .a
     go : (b : Bool) → eqb (o .side) 2 ≡ b → OrderBounds o → rangeOf (openedBy (eqb (o .side) 2) (buyOrder o) .head) ≡ cond b (sellRange o) (buyRange o)
     go true z k = rw z (sell o k)
     go false z k = rw z (buy o k)
+
+-- the initiating price, by the order's own fields
+pub initiating-is : (o : Order) → acceptOf o .answer ≡ Accepted → initiatingPrice o ≡ reportedPrice (isSell o) (acceptOf o .auction .head .terms .initiating)
+unfolding rangeOf openedBy termsOf
+initiating-is o h =
+    go (isSell o) (acceptOf o .auction .head .terms .sell) (ap (λ (a : Auction). a .head .terms .sell) (opened o h .auction)) (opens o h)
+  where
+    go : (s t : Bool) → t ≡ s
+        → cond {A = Range} t (record { low = mirrored (acceptOf o .auction .head .terms .initiating); high = mirrored (boundNow (acceptOf o .auction .head)) }) (record { low = boundNow (acceptOf o .auction .head); high = acceptOf o .auction .head .terms .initiating }) ≡ cond s (sellRange o) (buyRange o)
+        → cond s (sellRange o .low) (buyRange o .high) ≡ reportedPrice s (acceptOf o .auction .head .terms .initiating)
+    go true true e z = sym (ap (λ (r : Range). r .low) z)
+    go false false e z = sym (ap (λ (r : Range). r .high) z)
+    go true false e z = no (sym e)
+    go false true e z = no e

@@ -5,6 +5,7 @@ use Rattle.promise.specs.promises.Promise.{Promise}
 use Rattle.promise.proofs.Answered.{answered, roomed, filling, numbered, event-numbers, without-refused}
 use Rattle.promise.proofs.Resent.{resent, same-records, resends, answered-alike}
 use Rattle.promise.proofs.Tapes.{can-lack, can-mirror}
+use Rattle.promise.proofs.Carried.{accepted}
 use Rattle.promise.proofs.Opening.{opens}
 use Rattle.promise.proofs.InRealPrices.{trades}
 use Rattle.promise.proofs.Mirrored.{mirrors}
@@ -23,8 +24,8 @@ promise =
       without-refused = without-refused;
       answered-alike = answered-alike;
       read-back = demands;
-      opens = opens;
-      trades = trades;
+      first-range = λ o h. opens o (accepted o h);
+      trades = λ o es h. trades o es (accepted o h);
       resent = resent;
       same-records = same-records;
       resends = resends;

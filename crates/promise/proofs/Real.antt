@@ -29,11 +29,11 @@ use Rattle.auction.specs.declared.Terms.{Terms}
 use Rattle.auction.specs.declared.Entry.the-variants.{Accepted}
 use Rattle.fills.specs.rules.Fills.{dealOf}
 use Rattle.run.proofs.Accepted.{opened, below-limit}
-use Rattle.promise.specs.rules.Sides.{isSell, better, sent, atEnd, writtenFills, liveAtEnd, marketOrder, workingPrice}
-use Rattle.promise.specs.promises.Parts.{MarketRecord, Trader, OneRecord, after}
+use Rattle.promise.specs.rules.Sides.{isSell, better, sent, atEnd, writtenFills, liveAtEnd, marketOrder, workingPrice, sentBy}
+use Rattle.promise.specs.promises.Parts.{Trader, OneRecord, auctionAfter}
 use Rattle.promise.specs.promises.Parts.Trader.{theContra, aResponse, theMarket}
 use Rattle.promise.proofs.RealLaws.{better-shown, shown, Shows, in-shown, sent-in, close-terms, close-board, deal, live, dealt, demand, terms-are, mode-is, written-is, there-is, sent-fits, initiating-fits, price-fits, working-fits, works-is, got-is, was-live, every-written}
-use Rattle.promise.proofs.Resent.{one-record, ended-by}
+use Rattle.promise.proofs.Resent.{one-record, ended-by, MarketRecord}
 
 -- ---- a price against a field of the order
 
@@ -151,8 +151,8 @@ module _ (o : Order) (es : List Event) (h : acceptOf o .answer ≡ Accepted) whe
   still : Every (OneRecord o es) (liveAtEnd o es)
   still =
       subst (λ (rs : List Response). Every (OneRecord o es) rs)
-      (sym (ap (λ (s : Bool). map (sent s) (liveOf (atEnd o es .board))) (ap (λ (t : Terms). t .sell) (close-terms (after o es)))
-      ∙ ap (λ (b : Board). map (sent (after o es .head .terms .sell)) (liveOf b)) (close-board (after o es)))) (one-record o es h)
+      (sym (ap (λ (s : Bool). map (sent s) (liveOf (atEnd o es .board))) (ap (λ (t : Terms). t .sell) (close-terms (auctionAfter o es)))
+      ∙ ap (λ (b : Board). map (sent (auctionAfter o es .head .terms .sell)) (liveOf b)) (close-board (auctionAfter o es)))) (one-record o es h)
 
   party-of : (f : Fill) → In f (dealt o es h) → demands.Party (deal o es h) (atEnd o es .board) (f .party) → Trader o es (shown (isSell o) f)
   unfolding dealOf
@@ -167,14 +167,15 @@ module _ (o : Order) (es : List Event) (h : acceptOf o .answer ≡ Accepted) whe
       let t : In (sent (isSell o) r) (liveAtEnd o es) = subst (In (sent (isSell o) r)) (sym (there-is o es h)) (sent-in (isSell o) (live o es h) r j) in
       let k : OneRecord o es (sent (isSell o) r) = every-in (OneRecord o es) (liveAtEnd o es) (sent (isSell o) r) still t in
       let e : Event = k .record-of in
-      let s : r .sequence ≡ e .sequence = k .sends .sequence in
+      let is : sent (isSell o) r ≡ sentBy o e = k .sends .response in
+      let s : r .sequence ≡ e .sequence = ap (λ (x : Response). x .sequence) is in
       let g : got (e .sequence) (writtenFills o es) ≡ got (r .sequence) (dealt o es h) = ap (λ (m : ℕ). got m (writtenFills o es)) (sym s) ∙ got-is o es h (r .sequence) in
       let p : r .price ≤ f .price = every-in (λ x. x .party ≡ r .sequence → r .price ≤ x .price) (dealt o es h) f (dealing .own-limit r j) i (sym z) in
       let b : better (isSell o) (reportedPrice (isSell o) (f .price)) (reportedPrice (isSell o) (r .price)) ≡ false =
       better-shown (isSell o) (f .price) (r .price) (omega (arith, price-fits o es h f i)) (omega (arith, sent-fits o es h r j, initiating-fits o es h)) ∙ le-ltb _ _ p in
       aResponse e (sent (isSell o) r) t (k .sends) (sym z ∙ s)
-      (omega (arith, g, dealing .response-fits r j, capped (eqb (e .kind) 1) (sizeOf e) (o .size) (r .size) (k .sends .size)))
-      (sym (ap (λ (q : ℕ). better (isSell o) (reportedPrice (isSell o) (f .price)) q) (k .sends .price)) ∙ b)
+      (omega (arith, g, dealing .response-fits r j, capped (eqb (e .kind) 1) (sizeOf e) (o .size) (r .size) (ap (λ (x : Response). x .size) is)))
+      (sym (ap (λ (q : ℕ). better (isSell o) (reportedPrice (isSell o) (f .price)) q) (ap (λ (x : Response). x .price) is)) ∙ b)
 
   pub parties : Every (Trader o es) (writtenFills o es)
   parties = every-written o es h (λ f. demands.Party (deal o es h) (atEnd o es .board) (f .party)) (Trader o es) party-of (dealing .nobody-else)

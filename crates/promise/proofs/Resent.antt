@@ -21,7 +21,6 @@ use Rattle.board.specs.promises.Board.{GtxAt}
 use Rattle.board.proofs.BoardLaws.{clearing, find-gtx}
 use Rattle.tape.specs.declared.order.Order.{Order}
 use Rattle.tape.specs.declared.event.Event.{Event}
-use Rattle.tape.specs.declared.order.ReadOrder.the-variants.{Order as GotOrder}
 use Rattle.tape.specs.rules.Form.{eventFormed}
 use Rattle.tape.specs.rules.Fields.{sizeOf, priceOf, nameOf}
 use Rattle.mirror.specs.rules.Mirror.{mirroredSide, mirroredOrder, mirroredPriced, mirroredMarket, mirroredEvent, buyOrder, buyEvent}
@@ -51,10 +50,12 @@ use Rattle.run.proofs.BoardSteps.{sees, seat-every, clear-every}
 use Rattle.run.proofs.Accepted.{opened}
 use Rattle.run.proofs.SoundLaws.{sound-opened, sound-step, sound-run, demanded}
 use Rattle.run.proofs.ComesFrom.{Sold, run-terms, market-taken, resend}
-use Rattle.promise.specs.rules.Tapes.{Carries, endOf, isRefused, notRefused, notRefusedSaid, Resends}
-use Rattle.promise.specs.rules.Tapes.Resends.{none, more, late}
+use Rattle.promise.specs.rules.Tapes.{Carries, endOf, isRefused, notRefused, notRefusedSaid, WithResent}
+use Rattle.promise.specs.rules.Tapes.WithResent.{none, more, past-end}
 use Rattle.promise.specs.rules.Sides.{isSell, otherSide, sent, responses, sentBy, takenRecords, atEnd, marketOrder}
-use Rattle.promise.specs.promises.Parts.{Ends, MarketRecord, OneRecord, Resent, after}
+use Rattle.promise.specs.promises.Parts.{Ends, OneRecord, OlderRefused, auctionAfter}
+use Rattle.promise.specs.rules.Answers.{answerIs, endingIs}
+use Rattle.promise.proofs.Carried.{accepted, taken-is as is-taken}
 use Rattle.promise.proofs.Answered.{refused-stays, without, ends-alike}
 
 -- ---- the records taken
@@ -98,13 +99,13 @@ refused-out : (before : List Event) (f : Event) (rest : List Event) (a : Auction
 refused-out [] f rest a n z = ap (λ (p : Stepped). keep (not (isRefused (p .answer))) f (notRefused (p .auction) rest)) z
 refused-out (e ∷ before) f rest a n z = ap (keep (not (isRefused (stepOf a e .answer))) e) (refused-out before f rest (stepOf a e .auction) n z)
 
-pub same-records : (a : Auction) (es fs : List Event) → Resends a es fs → notRefused a fs ≡ notRefused a es
+pub same-records : (a : Auction) (es fs : List Event) → WithResent a es fs → notRefused a fs ≡ notRefused a es
 same-records a es fs none = refl
 same-records a es fs (more before e f rest i h r) = refused-out before f rest a _ (refused a before e f i h) ∙ same-records a es (before ++ rest) r
-same-records a es fs (late before f rest z r) = refused-out before f rest a 31 (keeps .ended (sightOf (run a before .board) f) (run a before) f z) ∙ same-records a es (before ++ rest) r
+same-records a es fs (past-end before f rest z r) = refused-out before f rest a 31 (keeps .ended (sightOf (run a before .board) f) (run a before) f z) ∙ same-records a es (before ++ rest) r
 
 -- so the auction comes out the same
-pub resends : (s t : List ℕ) (o : Order) (es fs : List Event) → Carries s (GotOrder o) es → Carries t (GotOrder o) fs → Resends (acceptOf o .auction) es fs → endOf t ≡ endOf s
+pub resends : (s t : List ℕ) (o : Order) (es fs : List Event) → Carries s o es → Carries t o fs → WithResent (acceptOf o .auction) es fs → endOf t ≡ endOf s
 resends s t o es fs c d r =
     let a : Auction = acceptOf o .auction in
     ends-alike s t o es fs c d (sym (without fs a) ∙ ap (run a) (same-records a es fs r) ∙ without es a)
@@ -238,11 +239,7 @@ module _ (o : Order) (es : List Event) (h : acceptOf o .answer ≡ Accepted) whe
               taken = c .taken;
               side = priced-side (isSell o) e (c .kind) (ap (λ (s : Bool). buyEvent s e .side) (sym (terms-sell o h)) ∙ c .side);
               kind = c .kind;
-              sequence = c .named;
-              price = ap (λ (x : Response). x .price) z;
-              customer = ap (λ (x : Response). x .customer) z;
-              gtx = ap (λ (x : Response). x .gtx) z;
-              size = ap (λ (x : Response). x .size) z;
+              response = z;
             };
         only = λ g i q. resend .one first es g e i (c .taken) (q ∙ c .named);
       }
@@ -252,7 +249,7 @@ every-sent : (P : Response → Type 0) (sell : Bool) (rs : List Response) → Ev
 every-sent P sell [] a = tt
 every-sent P sell (r ∷ rs) a = (a .0, every-sent P sell rs (a .1))
 
-pub one-record : (o : Order) (es : List Event) → acceptOf o .answer ≡ Accepted → Every (OneRecord o es) (responses (after o es))
+pub one-record : (o : Order) (es : List Event) → acceptOf o .answer ≡ Accepted → Every (OneRecord o es) (responses (auctionAfter o es))
 one-record o es h =
     let live : List Response = liveOf (run (acceptOf o .auction) es .board) in
     let sell : run (acceptOf o .auction) es .head .terms .sell ≡ isSell o = ap (λ (t : Terms). t .sell) (run-terms es (acceptOf o .auction)) ∙ terms-sell o h in
@@ -265,8 +262,8 @@ distinct-sent : (sell : Bool) (rs : List Response) → Distinct rs → Distinct 
 distinct-sent sell [] d = tt
 distinct-sent sell (r ∷ rs) d = (every-sent (λ x. x .sequence ≢ r .sequence) sell rs (d .0), distinct-sent sell rs (d .1))
 
-apart : (o : Order) (es : List Event) → acceptOf o .answer ≡ Accepted → Distinct (responses (after o es))
-apart o es h = distinct-sent (after o es .head .terms .sell) (liveOf (after o es .board)) (resend .apart o es h)
+apart : (o : Order) (es : List Event) → acceptOf o .answer ≡ Accepted → Distinct (responses (auctionAfter o es))
+apart o es h = distinct-sent (auctionAfter o es .head .terms .sell) (liveOf (auctionAfter o es .board)) (resend .apart o es h)
 
 -- ---- a cancelled response
 
@@ -347,16 +344,22 @@ run-gone : (k : ℕ) (es : List Event) (a : Auction) → Sound a → Gone k a �
 run-gone k [] a s g = g
 run-gone k (e ∷ es) a s g = run-gone k es (stepOf a e .auction) (sound-step a e s) (stays-gone k a e s g)
 
-pub never-back : (o : Order) (before : List Event) (e : Event) (es : List Event) → acceptOf o .answer ≡ Accepted → e .kind ≡ 2 → stepOf (after o before) e .answer ≡ Taken
-    → Absent (nameOf e) (liveOf (after o (before ++ (e ∷ es)) .board))
+pub never-back : (o : Order) (before : List Event) (e : Event) (es : List Event) → acceptOf o .answer ≡ Accepted → e .kind ≡ 2 → stepOf (auctionAfter o before) e .answer ≡ Taken
+    → Absent (nameOf e) (liveOf (auctionAfter o (before ++ (e ∷ es)) .board))
 never-back o before e es h k z =
     let a : Auction = run (acceptOf o .auction) before in
     let s : Sound a = sound-run before (acceptOf o .auction) (sound-opened o h) in
     subst (λ (b : Auction). Absent (nameOf e) (liveOf (b .board))) (sym (run-append before (e ∷ es) (acceptOf o .auction)))
     (run-gone (nameOf e) es (stepOf a e .auction) (sound-step a e s) (cancelled a e s k z) .1)
 
-pub resent : (o : Order) → Resent o
-resent o = record { refused = refused (acceptOf o .auction); one-record = one-record o; apart = apart o; never-back = never-back o }
+pub resent : (o : Order) → OlderRefused o
+resent o =
+    record {
+      refused = λ before e g i h. (ap (λ (p : Stepped). answerIs (p .answer)) (refused (acceptOf o .auction) before e g i h), ap (λ (p : Stepped). p .auction) (refused (acceptOf o .auction) before e g i h));
+      one-record = λ es h. one-record o es (accepted o h);
+      apart = λ es h. apart o es (accepted o h);
+      never-back = λ before e es h k z. never-back o before e es (accepted o h) k (is-taken (stepOf (auctionAfter o before) e .answer) z);
+    }
 
 -- ---- the market order that ended an auction
 
@@ -374,9 +377,14 @@ ends-by o es h e i s =
       kind = s .kind;
       sequence = ap (λ (b : Auction). b .head .market .sequence) (sym same) ∙ s .sequence;
       size = ap (λ (b : Auction). b .head .market .size) (sym same) ∙ s .size;
-      ending = ap (λ (b : Auction). b .head .ending) (sym same) ∙ s .ending;
+      ending = ap endingIs (ap (λ (b : Auction). b .head .ending) (sym same) ∙ s .ending);
       latest = ap (λ (b : Auction). b .head .sequence) (sym same) ∙ s .latest;
     }
+
+-- the market order that ended it is one of the records
+pub record MarketRecord (o : Order) (es : List Event) : Type 0 where
+  pub record-of : Event
+  pub ends : Ends o es record-of
 
 pub ended-by : (o : Order) (es : List Event) → acceptOf o .answer ≡ Accepted → 0 < marketOrder o es .size → MarketRecord o es
 ended-by o es h n =

@@ -39,7 +39,8 @@ use Rattle.run.proofs.BoardSteps.{sees}
 use Rattle.run.proofs.Accepted.{opened}
 use Rattle.run.proofs.SoundLaws.{sound-opened, sound-step}
 use Rattle.run.proofs.ComesFrom.{side-in, sided, buy-form, terms-stay, untaken, made-gtx, made-limit}
-use Rattle.promise.specs.rules.Sides.{isSell, otherSide, better, sent, sentBy, takesPlace, standsAfter, standingFrom, standingOf, takenRecords, liveAtEnd}
+use Rattle.promise.specs.rules.Sides.{isSell, otherSide, better, initiatingPrice, sent, sentBy, takesPlace, standsAfter, standingFrom, standingOf, takenRecords, liveAtEnd}
+use Rattle.promise.proofs.Opening.{initiating-is}
 use Rattle.promise.proofs.RealLaws.{better-shown, board-is, there-is}
 use Rattle.promise.proofs.Resent.{terms-sell, terms-size, sent-price, sent-is, others-apart, found-is}
 
@@ -164,7 +165,7 @@ frees-one sell b k rs g d l s =
 record Ours (o : Order) (t : Terms) : Type 0 where
   sell : t .sell ≡ isSell o
   size : t .size ≡ o .size
-  initiating : t .initiating ≡ acceptOf o .auction .head .terms .initiating
+  initiating : initiatingPrice o ≡ reportedPrice (isSell o) (t .initiating)
 
 module _ (o : Order) (a : Auction) (e : Event) (s : Sound a) (w : Ours o (a .head .terms)) (rs : List Response) (sh : Shuffles rs (onBoard (isSell o) (a .board))) where
   abbrev terms : Terms
@@ -179,11 +180,10 @@ module _ (o : Order) (a : Auction) (e : Event) (s : Sound a) (w : Ours o (a .hea
   -- a limit order takes a place by the order's own fields where it does by the auction's
   takes-is : e .kind ≡ 3 → eventFormed e ≡ true → takesPlace o e ≡ (not (eqb (m .side) 1) && leb (priceOf m) (terms .initiating))
   takes-is k f =
-      let i : ℕ = acceptOf o .auction .head .terms .initiating in
       let z : eqb (e .side) (otherSide o) ≡ not (eqb (m .side) 1) = place-side (isSell o) e k f ∙ ap (λ (b : Bool). not (eqb (buyEvent b e .side) 1)) (sym (w .sell)) in
-      let p : not (better (isSell o) (reportedPrice (isSell o) i) (priceOf e)) ≡ leb (priceOf m) (terms .initiating) =
-      place-price (isSell o) e i (omega (arith, w .initiating, s .price)) k f ∙ ap (λ (b : Bool). leb (priceOf (buyEvent b e)) i) (sym (w .sell)) ∙ ap (leb (priceOf m)) (sym (w .initiating)) in
-      ap (λ (b : Bool). b && not (better (isSell o) (reportedPrice (isSell o) i) (priceOf e))) z ∙ ap (λ (b : Bool). not (eqb (m .side) 1) && b) p
+      let p : not (better (isSell o) (initiatingPrice o) (priceOf e)) ≡ leb (priceOf m) (terms .initiating) =
+      ap (λ (x : ℕ). not (better (isSell o) x (priceOf e))) (w .initiating) ∙ place-price (isSell o) e (terms .initiating) (s .price) k f ∙ ap (λ (b : Bool). leb (priceOf (buyEvent b e)) (terms .initiating)) (sym (w .sell)) in
+      ap (λ (b : Bool). b && not (better (isSell o) (initiatingPrice o) (priceOf e))) z ∙ ap (λ (b : Bool). not (eqb (m .side) 1) && b) p
 
   -- a record that takes no place and frees none
   leaves-all : eventFormed e ≡ true → Leaves terms m → standsAfter o rs e ≡ rs
@@ -264,4 +264,4 @@ stand o es h =
     let start : Shuffles [] (onBoard (isSell o) (a .board)) = subst (λ (rs : List Response). Shuffles [] (map (sent (isSell o)) rs)) (sym nobody) none in
     let end : liveAtEnd o es ≡ onBoard (isSell o) (run a es .board) = there-is o es h ∙ ap (onBoard (isSell o)) (board-is o es h) in
     subst (Shuffles (standingOf o (takenRecords o es))) (sym end)
-    (stands-run o es a [] (sound-opened o h) (record { sell = terms-sell o h; size = terms-size o h; initiating = refl }) start)
+    (stands-run o es a [] (sound-opened o h) (record { sell = terms-sell o h; size = terms-size o h; initiating = initiating-is o h }) start)

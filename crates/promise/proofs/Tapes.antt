@@ -13,7 +13,6 @@ use Rattle.tape.specs.rules.Form.{orderFormed, eventFormed}
 use Rattle.tape.specs.rules.Records.{orderWords, eventWords, readOrder, readEvent, recordAt}
 use Rattle.tape.specs.rules.Tape.{openTape, trailerFor}
 use Rattle.tape.specs.declared.order.Order.{Order}
-use Rattle.tape.specs.declared.order.ReadOrder.{ReadOrder}
 use Rattle.tape.specs.declared.order.ReadOrder.the-variants.{Order as GotOrder}
 use Rattle.tape.specs.declared.event.Event.{Event}
 use Rattle.tape.specs.declared.trailer.Trailer.{Trailer}
@@ -31,6 +30,7 @@ use Rattle.auction.specs.rules.Accept.{acceptOf}
 use Rattle.auction.specs.declared.Auction.{Auction}
 use Rattle.events.specs.rules.Step.{stepOf}
 use Rattle.run.specs.promises.Demands.{mirroredRecords}
+use Rattle.promise.proofs.Carried.{tape-at, order-at, carry}
 use Rattle.promise.specs.rules.Tapes.{Carries, SomeTape, isRefused, notRefused}
 
 -- ---- records in which given events stand, made of the records rs: no more of them, and bytes where those are
@@ -118,19 +118,19 @@ module _ (s : List ℕ) (t : Trailer) (h : openTape s ≡ Tape t) (order : List 
   remade-bytes : AllBytes s → AllBytes order → AllBytes remade
   remade-bytes b c = tape-bytes (ownBytes s t) order (st .records) (own-bytes s t b) c (st .bytes (records-bytes s t b))
 
-  remake : (o : ReadOrder) (fs : List Event) → AllBytes s → AllBytes order → readOrder order ≡ o → es ≡ fs → SomeTape o fs
+  remake : (o : Order) (fs : List Event) → AllBytes s → AllBytes order → readOrder order ≡ GotOrder o → es ≡ fs → SomeTape o fs
   remake o fs b c eo ee =
       record {
         bytes = remade;
         all-bytes = remade-bytes b c;
-        carries = record { trailer = trailerFor (ownBytes s t) (st .records); opens = remade-any .opens; order = remade-any .ordered ∙ eo; records = remade-any .records ∙ st .stand ∙ ee };
+        carries = carry remade o fs (trailerFor (ownBytes s t) (st .records)) (remade-any .opens) (remade-any .ordered ∙ eo) (remade-any .records ∙ st .stand ∙ ee);
       }
 
 -- ---- what is promised
 
-module _ (s : List ℕ) (o : Order) (es : List Event) (b : AllBytes s) (c : Carries s (GotOrder o) es) where
+module _ (s : List ℕ) (o : Order) (es : List Event) (b : AllBytes s) (c : Carries s o es) where
   made : MadeOf s (c .trailer)
-  made = made-of s (c .trailer) (c .opens)
+  made = made-of s (c .trailer) (tape-at c)
 
   there : map recordAt (recordsBytes s (c .trailer)) ≡ es
   there = sym (made .records) ∙ c .records
@@ -141,15 +141,15 @@ module _ (s : List ℕ) (o : Order) (es : List Event) (b : AllBytes s) (c : Carr
   mirrors : Stand (recordsBytes s (c .trailer)) (mirroredRecords (map recordAt (recordsBytes s (c .trailer))))
   mirrors = mirroring (recordsBytes s (c .trailer)) (made .fitting .each-long)
 
-  pub can-lack : SomeTape (GotOrder o) (notRefused (acceptOf o .auction) es)
+  pub can-lack : SomeTape o (notRefused (acceptOf o .auction) es)
   can-lack =
-      remake s (c .trailer) (c .opens) (orderBytes s (c .trailer)) (made .fitting .order-long) lacks (GotOrder o) (notRefused (acceptOf o .auction) es)
-      b (order-bytes s (c .trailer) b) (sym (made .ordered) ∙ c .order) (ap (notRefused (acceptOf o .auction)) there)
+      remake s (c .trailer) (tape-at c) (orderBytes s (c .trailer)) (made .fitting .order-long) lacks o (notRefused (acceptOf o .auction) es)
+      b (order-bytes s (c .trailer) b) (sym (made .ordered) ∙ order-at c) (ap (notRefused (acceptOf o .auction)) there)
 
   formed : orderFormed o ≡ true
-  formed = order-formed (orderBytes s (c .trailer)) o (sym (made .ordered) ∙ c .order)
+  formed = order-formed (orderBytes s (c .trailer)) o (sym (made .ordered) ∙ order-at c)
 
-  pub can-mirror : SomeTape (GotOrder (mirroredOrder o)) (mirroredRecords es)
+  pub can-mirror : SomeTape (mirroredOrder o) (mirroredRecords es)
   can-mirror =
-      remake s (c .trailer) (c .opens) (wordBytes (orderWords (mirroredOrder o))) (order-64 (mirroredOrder o)) mirrors (GotOrder (mirroredOrder o)) (mirroredRecords es)
+      remake s (c .trailer) (tape-at c) (wordBytes (orderWords (mirroredOrder o))) (order-64 (mirroredOrder o)) mirrors (mirroredOrder o) (mirroredRecords es)
       b (bytes-words (orderWords (mirroredOrder o))) (order-stands (mirroredOrder o) (order-form o formed)) (ap mirroredRecords there)

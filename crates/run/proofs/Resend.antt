@@ -186,7 +186,7 @@ keeps = record { refused = refused-stays; not-closed = closed-stays; order-numbe
 
 -- ---- the sequences of the events taken rise, so no two are the same
 
-above : (es : List Event) (a : Auction) → Every (λ e. a .head .sequence < e .sequence) (takenOf a es)
+pub above : (es : List Event) (a : Auction) → Every (λ e. a .head .sequence < e .sequence) (takenOf a es)
 above [] a = tt
 above (e ∷ es) a =
     go (isTaken (stepOf a e .answer)) refl

@@ -1,4 +1,4 @@
--- The theorems below the promise, crate by crate. One that goes missing is missed here.
+-- The theorems that the crates below the promise state. One that goes missing is missed here.
 use mathlib.Core.List.{List}
 use Prim.Native.Nat.{ℕ}
 use denote.Ref.{RefT}

@@ -17,8 +17,6 @@ use Rattle.share.specs.promises.Share.{Near}
 use Rattle.tape.specs.declared.order.Order.{Order}
 use Rattle.tape.specs.declared.event.Event.{Event}
 use Rattle.tape.specs.declared.trailer.Trailer.{Trailer}
-use Rattle.tape.specs.declared.trailer.Opened.the-variants.{Tape}
-use Rattle.tape.specs.declared.order.ReadOrder.the-variants.{Order as GotOrder}
 use Rattle.tape.specs.rules.Form.{orderFormed, eventFormed}
 use Rattle.tape.specs.rules.Records.{cubt, orderOf, orderSpare, readOrder, orderAnswer, eventOf, eventSpare, readEvent, eventAnswer, trailerOf, readTrailer, trailerAnswer}
 use Rattle.tape.specs.rules.Fields.{sizeOf, priceOf, nameOf}
@@ -30,20 +28,16 @@ use Rattle.auction.specs.rules.Accept.{acceptOf}
 use Rattle.auction.specs.rules.Range.{isOpen}
 use Rattle.auction.specs.declared.Auction.{Auction}
 use Rattle.auction.specs.declared.Ending.{Ending}
-use Rattle.auction.specs.declared.Ending.the-variants.{Opposite}
-use Rattle.auction.specs.declared.Entry.the-variants.{Accepted}
-use Rattle.events.specs.rules.Decide.{isCustomer}
-use Rattle.events.specs.rules.Step.{gives, stepOf}
+use Rattle.events.specs.rules.Step.{stepOf}
 use Rattle.events.specs.declared.Answer.{Answer}
-use Rattle.events.specs.declared.Answer.the-variants.{Taken, Refused}
 use Rattle.fills.specs.rules.Fills.{dealOf, auctionFills, fillsAnswer, fillsAfter}
 use Rattle.run.specs.rules.Run.{Said, run, heard, played, runOf}
 use Rattle.run.specs.promises.Demands.{Within, Trades}
 use Rattle.listing.specs.rules.Text.{text, newline}
 use Rattle.listing.specs.rules.Listing.{field, answerText, endText, refusedLine, auctionLine, eventLines, endLines, listingOf, roomOf, listedOf, lengthIn, bytesOf}
-use Rattle.promise.specs.rules.Answers.{no, yes, openedIs, orderIs, eventIs, trailerIs, writtenIs, entryIs, answerIs, endingIs, filledIs, runIs, listedIs}
+use Rattle.promise.specs.rules.Answers.{Accepts, no, yes, openedIs, orderIs, eventIs, trailerIs, writtenIs, entryIs, answerIs, endingIs, filledIs, runIs, listedIs}
 use Rattle.promise.specs.rules.Tapes.{Carries}
-use Rattle.promise.specs.rules.Sides.{isSell, otherSide, better, gotBetter, responses, takenRecords, atEnd, rangeAtEnd, writtenFills, liveAtEnd, marketOrder, walkedFills, workingPrice, othersAtPrice, guaranteeAtEnd, planAtPrice, leftToOthersAtPrice, standingOf}
+use Rattle.promise.specs.rules.Sides.{isSell, otherSide, better, gotBetter, responses, takenRecords, atEnd, rangeAtEnd, writtenFills, liveAtEnd, marketOrder, walkedFills, workingPrice, othersAtPrice, guaranteeAtEnd, planAtPrice, leftToOthersAtPrice, sentBy, standingOf}
 
 -- ---- 1. every tape is answered
 
@@ -52,11 +46,11 @@ pub data Answered (s : List ℕ) : Type 0 where
   -- 21, 22 or 23: the bytes are no tape
   no-tape : (n : ℕ) → openedIs (openTape s) ≡ no n → In n (21 ∷ 22 ∷ 23 ∷ []) → listingOf s ≡ refusedLine n → Answered s
   -- 1: the order's record is out of form
-  no-order : (t : Trailer) → openTape s ≡ Tape t → orderIs (orderIn s t) ≡ no 1 → listingOf s ≡ refusedLine 1 → Answered s
+  no-order : (t : Trailer) → openedIs (openTape s) ≡ yes t → orderIs (orderIn s t) ≡ no 1 → listingOf s ≡ refusedLine 1 → Answered s
   -- 2 to 12: the order is not accepted
-  not-accepted : (o : Order) (es : List Event) (n : ℕ) → Carries s (GotOrder o) es → entryIs (acceptOf o .answer) ≡ no n → In n (2 ∷ 3 ∷ 4 ∷ 5 ∷ 6 ∷ 7 ∷ 8 ∷ 9 ∷ 10 ∷ 11 ∷ 12 ∷ []) → listingOf s ≡ refusedLine n → Answered s
+  not-accepted : (o : Order) (es : List Event) (n : ℕ) → Carries s o es → entryIs (acceptOf o .answer) ≡ no n → In n (2 ∷ 3 ∷ 4 ∷ 5 ∷ 6 ∷ 7 ∷ 8 ∷ 9 ∷ 10 ∷ 11 ∷ 12 ∷ []) → listingOf s ≡ refusedLine n → Answered s
   -- the auction: its opening, a line for each record, its end
-  auction : (o : Order) (es : List Event) → Carries s (GotOrder o) es → entryIs (acceptOf o .answer) ≡ yes tt
+  auction : (o : Order) (es : List Event) → Carries s o es → Accepts o
       → listingOf s ≡ auctionLine (acceptOf o .auction .head) ++ (eventLines (heard (acceptOf o .auction) es) ++ endLines (played o es)) → Answered s
 
 -- and the room lent for it
@@ -103,11 +97,7 @@ module _ (o : Order) (es : List Event) where
     pub taken : In e (takenRecords o es)
     pub side : e .side ≡ otherSide o
     pub kind : (e .kind ≡ 1) ⊎ (e .kind ≡ 3)
-    pub sequence : r .sequence ≡ e .sequence
-    pub price : r .price ≡ priceOf e
-    pub customer : r .customer ≡ isCustomer e
-    pub gtx : r .gtx ≡ eqb (e .kind) 1
-    pub size : r .size ≡ cond (eqb (e .kind) 1) (min (sizeOf e) (o .size)) (sizeOf e)
+    pub response : r ≡ sentBy o e
 
   -- the record e is the market order that ended the auction: the last that was taken, on the other side
   pub record Ends (e : Event) : Type 0 where
@@ -116,13 +106,8 @@ module _ (o : Order) (es : List Event) where
     pub kind : e .kind ≡ 4
     pub sequence : marketOrder o es .sequence ≡ e .sequence
     pub size : marketOrder o es .size ≡ sizeOf e
-    pub ending : atEnd o es .head .ending ≡ Opposite
+    pub ending : endingIs (atEnd o es .head .ending) ≡ "opposite"
     pub latest : atEnd o es .head .sequence ≡ e .sequence
-
-  -- it is one of the records
-  pub record MarketRecord : Type 0 where
-    pub record-of : Event
-    pub ends : Ends record-of
 
   -- who trades: the Contra Order, the response of a record, or the market order that ended the auction; no more than the record's size field, and a response not beyond its price field
   pub data Trader (f : Fill) : Type 0 where
@@ -131,6 +116,8 @@ module _ (o : Order) (es : List Event) where
     theMarket : (e : Event) → Ends e → f .party ≡ e .sequence → got (e .sequence) (writtenFills o es) ≤ sizeOf e → Trader f
 
   pub record InRealPrices : Type 0 where
+    -- the auction has ended
+    pub ended : isOpen (atEnd o es .head .ending) ≡ false
     -- the fills add up to the order's size field
     pub adds-up : traded (writtenFills o es) ≡ o .size
     -- each price lies in the range that the END line shows, and not beyond the order's limit field; no fill is of zero
@@ -144,7 +131,8 @@ module _ (o : Order) (es : List Event) where
     pub stand : Shuffles (standingOf o (takenRecords o es)) (liveAtEnd o es)
     -- each party is the Contra Order, or exactly one record
     pub parties : Every Trader (writtenFills o es)
-    pub told-apart : (e f : Event) → In e (takenRecords o es) → In f (takenRecords o es) → e .sequence ≡ f .sequence → e ≡ f
+    pub told-apart : (e g : Event) → In e (takenRecords o es) → In g (takenRecords o es) → e .sequence ≡ g .sequence → e ≡ g
+    pub not-contra : (e : Event) → In e (takenRecords o es) → 0 < e .sequence
     -- a market order of the other side that is taken ends the auction, and trades as far as sizes go
     pub market-trades : (e : Event) → In e (takenRecords o es) → e .kind ≡ 4 → e .side ≡ otherSide o → Ends e × (got (e .sequence) (writtenFills o es) ≡ min (o .size) (sizeOf e))
     -- the Contra Order does not trade beyond its stop or auto-match limit
@@ -167,31 +155,31 @@ module _ (o : Order) (es : List Event) where
         → got 0 (writtenFills o es) ≤ max (guaranteeAtEnd o es) (gotBetter (isSell o) 0 (workingPrice o es r) (writtenFills o es))
     -- where one of them trades at the guarantee price the Contra Order has its guarantee
     pub guaranteed : (r : Response) → In r (liveAtEnd o es) → r .customer ≡ false → planAtPrice o es (workingPrice o es r) .final ≡ true → 0 < got (r .sequence) (writtenFills o es) → guaranteeAtEnd o es ≤ got 0 (writtenFills o es)
-    -- which is where nothing trades at a worse price, from the stop or limit on
+    -- it also has it where one of them trades, from the stop or limit on, and nothing trades at a worse price
     pub guaranteed-last : (r : Response) → In r (liveAtEnd o es) → r .customer ≡ false → (o .mode ≢ 2 → better (isSell o) (workingPrice o es r) (o .stop) ≡ false)
         → Every (λ f. better (isSell o) (workingPrice o es r) (f .price) ≡ false) (writtenFills o es) → 0 < got (r .sequence) (writtenFills o es) → guaranteeAtEnd o es ≤ got 0 (writtenFills o es)
 
 -- ---- 4. a response that stands on the board is never counted twice
 
--- the response r is live after the records es, and is that of one record
+-- the response r is that of one record of es that was taken, and of no other
 pub record OneRecord (o : Order) (es : List Event) (r : Response) : Type 0 where
   pub record-of : Event
   pub sends : Sends o es record-of r
-  pub only : (f : Event) → In f (takenRecords o es) → f .sequence ≡ r .sequence → f ≡ record-of
+  pub only : (g : Event) → In g (takenRecords o es) → g .sequence ≡ r .sequence → g ≡ record-of
 
 module _ (o : Order) where
   -- the order's auction after some records
-  abbrev pub after : List Event → Auction
-  after es = run (acceptOf o .auction) es
+  abbrev pub auctionAfter : List Event → Auction
+  auctionAfter es = run (acceptOf o .auction) es
 
-  pub record Resent : Type 0 where
-    -- once a record was taken, every record with its sequence or a lower one is refused, whatever else it says, and changes nothing: 31 once ended; else 32 where it is out of form, and 33
-    pub refused : (before : List Event) (e f : Event) → In e (takenRecords o before) → f .sequence ≤ e .sequence
-        → stepOf (after before) f ≡ gives (Refused (cond (isOpen (after before .head .ending)) (cond (eventFormed f) 33 32) 31)) (after before)
+  pub record OlderRefused : Type 0 where
+    -- once a record was taken, or ended the auction, every record with its sequence or a lower one is refused, whatever else it says, and changes nothing: 31 once ended; else 32 where it is out of form, and 33
+    pub refused : (before : List Event) (e g : Event) → In e (takenRecords o before) → g .sequence ≤ e .sequence
+        → (answerIs (stepOf (auctionAfter before) g .answer) ≡ no (cond (isOpen (auctionAfter before .head .ending)) (cond (eventFormed g) 33 32) 31)) × (stepOf (auctionAfter before) g .auction ≡ auctionAfter before)
     -- each live response comes from one record
-    pub one-record : (es : List Event) → acceptOf o .answer ≡ Accepted → Every (OneRecord o es) (responses (after es))
+    pub one-record : (es : List Event) → Accepts o → Every (OneRecord o es) (responses (auctionAfter es))
     -- no two of them bear one sequence
-    pub apart : (es : List Event) → acceptOf o .answer ≡ Accepted → Distinct (responses (after es))
+    pub apart : (es : List Event) → Accepts o → Distinct (responses (auctionAfter es))
     -- a cancelled one never comes back
-    pub never-back : (before : List Event) (e : Event) (es : List Event) → acceptOf o .answer ≡ Accepted → e .kind ≡ 2 → stepOf (after before) e .answer ≡ Taken
-        → Absent (nameOf e) (liveOf (after (before ++ (e ∷ es)) .board))
+    pub never-back : (before : List Event) (e : Event) (es : List Event) → Accepts o → e .kind ≡ 2 → answerIs (stepOf (auctionAfter before) e .answer) ≡ yes "taken"
+        → Absent (nameOf e) (liveOf (auctionAfter (before ++ (e ∷ es)) .board))

@@ -7,19 +7,18 @@ use Rattle.base.specs.Lists.{Every}
 use Rattle.words.specs.rules.Bytes.{AllBytes}
 use Rattle.tape.specs.declared.order.Order.{Order}
 use Rattle.tape.specs.declared.event.Event.{Event}
-use Rattle.tape.specs.declared.order.ReadOrder.the-variants.{Order as GotOrder}
 use Rattle.mirror.specs.rules.Mirror.{mirroredOrder}
 use Rattle.auction.specs.rules.Accept.{acceptOf}
 use Rattle.auction.specs.rules.Range.{rangeOf}
 use Rattle.auction.specs.declared.Auction.{Auction}
-use Rattle.auction.specs.declared.Entry.the-variants.{Accepted}
 use Rattle.run.specs.rules.Run.{heard, runOf}
 use Rattle.run.specs.promises.Demands.{Keeps, mirroredRecords}
 use Rattle.roundtrip.specs.promises.Demands.{Demands}
 use Rattle.listing.specs.rules.Listing.{listingOf}
-use Rattle.promise.specs.rules.Tapes.{Carries, SomeTape, endOf, notRefused, notRefusedSaid, Resends, mirroredLines}
+use Rattle.promise.specs.rules.Tapes.{Carries, SomeTape, endOf, notRefused, notRefusedSaid, WithResent, mirroredLines}
+use Rattle.promise.specs.rules.Answers.{Accepts}
 use Rattle.promise.specs.rules.Sides.{isSell, buyRange, sellRange}
-use Rattle.promise.specs.promises.Parts.{Answered, Roomed, Filling, Numbered, EventNumber, InRealPrices, Resent}
+use Rattle.promise.specs.promises.Parts.{Answered, Roomed, Filling, Numbered, EventNumber, InRealPrices, OlderRefused}
 use Rattle.promise.specs.promises.Below.{Below}
 
 pub record Promise : Type 0 where
@@ -31,20 +30,20 @@ pub record Promise : Type 0 where
   pub event-numbers : (a : Auction) (es : List Event) → Every EventNumber (heard a es)
   -- a refusal changes nothing: the tape without its refused records has the same END, FILL and TOTAL lines, and the other records are answered as before
   pub keeps : Keeps
-  pub can-lack : (s : List ℕ) (o : Order) (es : List Event) → AllBytes s → Carries s (GotOrder o) es → SomeTape (GotOrder o) (notRefused (acceptOf o .auction) es)
-  pub without-refused : (s t : List ℕ) (o : Order) (es : List Event) → Carries s (GotOrder o) es → Carries t (GotOrder o) (notRefused (acceptOf o .auction) es) → endOf t ≡ endOf s
+  pub can-lack : (s : List ℕ) (o : Order) (es : List Event) → AllBytes s → Carries s o es → SomeTape o (notRefused (acceptOf o .auction) es)
+  pub without-refused : (s t : List ℕ) (o : Order) (es : List Event) → Carries s o es → Carries t o (notRefused (acceptOf o .auction) es) → endOf t ≡ endOf s
   pub answered-alike : (a : Auction) (es : List Event) → heard a (notRefused a es) ≡ notRefusedSaid (heard a es)
   -- 2. Records read and write back to the same values and the same bytes: order, event, trailer, whole tape
   pub read-back : Demands
-  -- 3. Of every order that is accepted and every list of records after it, once ended; its range at the opening is that of its own fields
-  pub opens : (o : Order) → acceptOf o .answer ≡ Accepted → rangeOf (acceptOf o .auction .head) ≡ cond (isSell o) (sellRange o) (buyRange o)
-  pub trades : (o : Order) (es : List Event) → acceptOf o .answer ≡ Accepted → InRealPrices o es
-  -- 4. A response that stands on the board is never counted twice: a tape with any number of resent records put in has the same END, FILL and TOTAL lines
-  pub resent : (o : Order) → Resent o
-  pub same-records : (a : Auction) (es fs : List Event) → Resends a es fs → notRefused a fs ≡ notRefused a es
-  pub resends : (s t : List ℕ) (o : Order) (es fs : List Event) → Carries s (GotOrder o) es → Carries t (GotOrder o) fs → Resends (acceptOf o .auction) es fs → endOf t ≡ endOf s
-  -- 5. Sells mirror buys: the tape whose order and records in form are mirrored has the mirrored listing
-  pub can-mirror : (s : List ℕ) (o : Order) (es : List Event) → AllBytes s → Carries s (GotOrder o) es → SomeTape (GotOrder (mirroredOrder o)) (mirroredRecords es)
-  pub mirrors : (s t : List ℕ) (o : Order) (es : List Event) → Carries s (GotOrder o) es → Carries t (GotOrder (mirroredOrder o)) (mirroredRecords es) → listingOf t ≡ mirroredLines (runOf s)
+  -- 3. Demand 3 in real prices, of every order that is accepted and every list of records after it; where none of them ends the auction it is closed by hand. The range at the opening is that of the order's own fields
+  pub first-range : (o : Order) → Accepts o → rangeOf (acceptOf o .auction .head) ≡ cond (isSell o) (sellRange o) (buyRange o)
+  pub trades : (o : Order) (es : List Event) → Accepts o → InRealPrices o es
+  -- 4. A response that stands on the board is never counted twice: a tape with any number of resent records put in, or of any records after the ending, has the same END, FILL and TOTAL lines (a tape has at most 2,045 records)
+  pub resent : (o : Order) → OlderRefused o
+  pub same-records : (a : Auction) (es fs : List Event) → WithResent a es fs → notRefused a fs ≡ notRefused a es
+  pub resends : (s t : List ℕ) (o : Order) (es fs : List Event) → Carries s o es → Carries t o fs → WithResent (acceptOf o .auction) es fs → endOf t ≡ endOf s
+  -- 5. Sells mirror buys: the tape whose order and records in form are mirrored (a record out of form stays as it is) has the mirrored listing
+  pub can-mirror : (s : List ℕ) (o : Order) (es : List Event) → AllBytes s → Carries s o es → SomeTape (mirroredOrder o) (mirroredRecords es)
+  pub mirrors : (s t : List ℕ) (o : Order) (es : List Event) → Carries s o es → Carries t (mirroredOrder o) (mirroredRecords es) → listingOf t ≡ mirroredLines (runOf s)
   -- and the theorems below
   pub below : Below

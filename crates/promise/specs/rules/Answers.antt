@@ -1,4 +1,6 @@
 -- What document 01 has for each case of each answer: a number for "no", or what is answered.
+use mathlib.Core.Path.{_≡_}
+use mathlib.Core.Bool.{Bool, true, false}
 use Prim.Native.Nat.{ℕ}
 use Prim.Native.String.{String}
 use Rattle.tape.specs.declared.Written.{Written}
@@ -14,6 +16,7 @@ use Rattle.tape.specs.declared.trailer.ReadTrailer.{ReadTrailer}
 use Rattle.tape.specs.declared.trailer.ReadTrailer.the-variants.{Trailer as GotTrailer, Refused as NoTrailer}
 use Rattle.tape.specs.declared.trailer.Opened.{Opened}
 use Rattle.tape.specs.declared.trailer.Opened.the-variants.{Tape, Refused as NotOpened}
+use Rattle.auction.specs.rules.Accept.{acceptOf}
 use Rattle.auction.specs.declared.Entry.{Entry}
 use Rattle.auction.specs.declared.Entry.the-variants.{Accepted, Refused as NotAccepted}
 use Rattle.auction.specs.declared.Ending.{Ending}
@@ -30,6 +33,10 @@ use Rattle.listing.specs.declared.Listed.the-variants.{Refused as NoAuction, En
 pub data Paper (A : Type 0) : Type 0 where
   no : ℕ → Paper A
   yes : A → Paper A
+
+abbrev pub isNo : {A : Type 0} → Paper A → Bool
+isNo (no n) = true
+isNo (yes a) = false
 
 -- an opened tape: 21, 22, 23; where the order stands, and how many events there are
 abbrev pub openedIs : Opened → Paper Trailer
@@ -59,6 +66,10 @@ abbrev pub entryIs : Entry → Paper (Unit {0})
 entryIs Accepted = yes tt
 entryIs (NotAccepted n) = no n
 
+-- the order is accepted
+abbrev pub Accepts : Order → Type 0
+Accepts o = entryIs (acceptOf o .answer) ≡ yes tt
+
 -- an event: 31 to 38, or the word that its line has
 abbrev pub answerIs : Answer → Paper String
 answerIs Taken = yes "taken"
@@ -66,7 +77,7 @@ answerIs Ended = yes "ended"
 answerIs Late = yes "late"
 answerIs (NotTaken n) = no n
 
--- why an auction ended, as the END line has it
+-- why an auction ended, as the END line has it; document 01 has no word for an open one, and no END line has it
 abbrev pub endingIs : Ending → String
 endingIs Open = "open"
 endingIs Time = "time"

@@ -1,4 +1,4 @@
--- An ended auction in real prices, buys and sells alike: the fills as they are written, the responses as they were sent.
+-- An ended auction in real prices, buys and sells alike: the fills as they are written, the responses with their prices as they were sent.
 use mathlib.Core.Bool.{Bool, cond, not, _&&_, _||_}
 use mathlib.Core.List.{List, [], _∷_, map}
 use Prim.Native.Nat.{ℕ, _+_, _-_, min, max}
@@ -39,7 +39,7 @@ better sell p q = cond sell (ltb q p) (ltb p q)
 abbrev pub sent : Bool → Response → Response
 sent sell r = record { sequence = r .sequence; size = r .size; price = reportedPrice sell (r .price); customer = r .customer; gtx = r .gtx }
 
--- the live responses of an auction, as they were sent
+-- the live responses of an auction, with their prices as they were sent; a GTX response's size is capped at the CUBE size
 abbrev pub responses : Auction → List Response
 responses a = map (sent (a .head .terms .sell)) (liveOf (a .board))
 
@@ -81,7 +81,7 @@ module _ (o : Order) where
 
   -- the initiating price
   abbrev pub initiatingPrice : ℕ
-  initiatingPrice = reportedPrice (isSell o) (acceptOf o .auction .head .terms .initiating)
+  initiatingPrice = cond (isSell o) (sellRange o .low) (buyRange o .high)
 
   -- a limit order of the other side, at the initiating price or better
   abbrev pub takesPlace : Event → Bool
@@ -115,7 +115,7 @@ gotBetter sell k p fs = tally (λ f. eqb (f .party) k && better sell (f .price) 
 -- ---- an order, and the records after it: the auction once ended
 
 module _ (o : Order) (es : List Event) where
-  -- the records taken
+  -- the records taken, and the one that ended it (lines `taken` and `ended`); no late one
   abbrev pub takenRecords : List Event
   takenRecords = takenOf (acceptOf o .auction) es
 
@@ -162,7 +162,7 @@ module _ (o : Order) (es : List Event) where
   abbrev pub leftAtPrice : ℕ → ℕ
   leftAtPrice p = o .size - (min (o .size) (marketOrder .size) + soldBetter (isSell o) p walkedFills)
 
-  -- document 01's plan at a price, for the buy that the order is or mirrors: what the Contra Order takes there before the others, and whether it is the guarantee price, where the rest goes to it too
+  -- document 01's plan at a price, for the buy that the order is or mirrors: what the Contra Order takes there before the others, and whether the rest goes to it too: so at the guarantee price, and past it, where nothing trades
   abbrev pub planAtPrice : ℕ → Plan
   planAtPrice p = planOf (o .mode) (workingStop (dealOf (atEnd .head))) (atEnd .head .terms .initiating) guaranteeAtEnd (reportedPrice (isSell o) p) (leftAtPrice p) (gotBetter (isSell o) 0 p writtenFills) (sum (sizes (allAtPrice p)))
 

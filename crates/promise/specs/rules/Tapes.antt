@@ -1,35 +1,34 @@
 -- Tapes beside one another: what a tape carries, and which records another has more, fewer, or mirrored.
 use mathlib.Core.Path.{_≡_}
-use mathlib.Core.Bool.{Bool, true, false, not}
+use mathlib.Core.Bool.{Bool, false, not}
 use mathlib.Core.List.{List, [], _∷_, _++_}
 use Prim.Native.Nat.{ℕ, _≤_}
 use Rattle.base.specs.Lists.{In, keep, filter}
 use Rattle.words.specs.rules.Bytes.{AllBytes}
 use Rattle.tape.specs.rules.Tape.{openTape, orderIn, recordsOf}
-use Rattle.tape.specs.declared.order.ReadOrder.{ReadOrder}
+use Rattle.tape.specs.declared.order.Order.{Order}
 use Rattle.tape.specs.declared.event.Event.{Event}
 use Rattle.tape.specs.declared.trailer.Trailer.{Trailer}
-use Rattle.tape.specs.declared.trailer.Opened.the-variants.{Tape}
 use Rattle.trade.specs.rules.Trade.{traded}
 use Rattle.auction.specs.rules.Range.{isOpen, rangeOf}
 use Rattle.auction.specs.declared.Auction.{Auction}
 use Rattle.events.specs.rules.Step.{stepOf}
 use Rattle.events.specs.declared.Answer.{Answer}
-use Rattle.events.specs.declared.Answer.the-variants.{Taken, Ended, Late, Refused}
 use Rattle.fills.specs.rules.Fills.{auctionFills}
 use Rattle.run.specs.rules.Run.{Said, Run, refused, ended, runOf, run, takenOf}
 use Rattle.run.specs.promises.Demands.{mirroredFills, mirroredRange}
+use Rattle.promise.specs.rules.Answers.{yes, isNo, openedIs, orderIs, answerIs}
 use Rattle.listing.specs.rules.Listing.{field, refusedLine, rangeText, sideText, eventLines, endText, fillLines, totalLine, endLines}
 
--- the bytes s are a tape that opens: what is read of its order's record, and the events that stand in its records, in form or not
-pub record Carries (s : List ℕ) (o : ReadOrder) (es : List Event) : Type 0 where
+-- the bytes s are a tape that opens: the order that is read of its record, and the events that stand in its records, in form or not
+pub record Carries (s : List ℕ) (o : Order) (es : List Event) : Type 0 where
   pub trailer : Trailer
-  pub opens : openTape s ≡ Tape trailer
-  pub order : orderIn s trailer ≡ o
+  pub opened : openedIs (openTape s) ≡ yes trailer
+  pub order : orderIs (orderIn s trailer) ≡ yes o
   pub records : recordsOf s trailer ≡ es
 
 -- there is a tape that carries an order and records
-pub record SomeTape (o : ReadOrder) (es : List Event) : Type 0 where
+pub record SomeTape (o : Order) (es : List Event) : Type 0 where
   pub bytes : List ℕ
   pub all-bytes : AllBytes bytes
   pub carries : Carries bytes o es
@@ -45,10 +44,7 @@ endOf s = endIn (runOf s)
 -- ---- fewer records, and more
 
 abbrev pub isRefused : Answer → Bool
-isRefused Taken = false
-isRefused Ended = false
-isRefused Late = false
-isRefused (Refused n) = true
+isRefused x = isNo (answerIs x)
 
 -- the records that the auction a does not refuse
 abbrev pub notRefused : Auction → List Event → List Event
@@ -60,11 +56,11 @@ abbrev pub notRefusedSaid : List Said → List Said
 notRefusedSaid xs = filter (λ x. not (isRefused (x .answer))) xs
 
 -- fs is es with resent records put in, one after the other: each bears the sequence of a record that was taken before it, or a lower one, whatever else it says
-pub data Resends (a : Auction) (es : List Event) : List Event → Type 0 where
-  none : Resends a es es
-  more : (before : List Event) (e f : Event) (after : List Event) → In e (takenOf a before) → f .sequence ≤ e .sequence → Resends a es (before ++ after) → Resends a es (before ++ (f ∷ after))
+pub data WithResent (a : Auction) (es : List Event) : List Event → Type 0 where
+  none : WithResent a es es
+  more : (before : List Event) (e g : Event) (rest : List Event) → In e (takenOf a before) → g .sequence ≤ e .sequence → WithResent a es (before ++ rest) → WithResent a es (before ++ (g ∷ rest))
   -- or it is put in after the ending, whatever it says
-  late : (before : List Event) (f : Event) (after : List Event) → isOpen (run a before .head .ending) ≡ false → Resends a es (before ++ after) → Resends a es (before ++ (f ∷ after))
+  past-end : (before : List Event) (g : Event) (rest : List Event) → isOpen (run a before .head .ending) ≡ false → WithResent a es (before ++ rest) → WithResent a es (before ++ (g ∷ rest))
 
 -- ---- the mirror
 
