@@ -185,8 +185,7 @@ module _ (d : Deal) (b : Board) where
             where
               at : (t : Bool) → ltb 0 (soldAt p all) ≡ t → soldAt p (walked d all) ≡ 0
               at true e = absurd (n (omega (arith, demand3 d b s .priority r m p (ltb-true 0 (soldAt p all) e) h, got-walked, z)))
-              at false e =
-                  omega (arith, ltb-false 0 (soldAt p all) e, ap (soldAt p) (demand3 d b s .market-trades), sold-append p (marketFill d (offers b)) (walked d all))
+              at false e = omega (arith, ltb-false 0 (soldAt p all) e, ap (soldAt p) (demand3 d b s .market-trades), sold-append p (marketFill d (offers b)) (walked d all))
 
           total : marketTakes d (offers b) + traded (walked d all) ≡ d .size
           total =
@@ -196,35 +195,31 @@ module _ (d : Deal) (b : Board) where
           go true e = inl (eqb-true (r .size) 0 e)
           go false e = inr (omega (arith, total, z, by-price works (walked d all), none-higher works (walked d all) (none-at (eqb-false (r .size) 0 e))))
 
+      -- a level has its working price; or it gets nothing, and has no size or nothing is left
+      cases : Priced (levels d (offers b)) works ⊎ ((got (r .sequence) all ≡ 0) × ((r .size ≡ 0) ⊎ (leftAt works ≡ 0)))
+      cases = go (ltb 0 (soldAt works (walked d all))) refl
+        where
+          go : (t : Bool) → ltb 0 (soldAt works (walked d all)) ≡ t → Priced (levels d (offers b)) works ⊎ ((got (r .sequence) all ≡ 0) × ((r .size ≡ 0) ⊎ (leftAt works ≡ 0)))
+          go true e = inl (priced works (ltb-true 0 (soldAt works (walked d all)) e))
+          go false e =
+              let z : soldAt works (walked d all) ≡ 0 = omega (arith, ltb-false 0 (soldAt works (walked d all)) e) in
+              inr (omega (arith, got-walked), idle z)
+
       -- it is one of the others there
       is-there : In r (othersAt d (offers b) works)
       unfolding offersAt
       is-there = in-filter fromOther _ r (in-filter (λ x. eqb (working d x) works) (offers b) r (in-sequence r (liveOf b) m) (eq-eqb works works refl)) (ap not c)
 
       pub filled-at : sum (sizes (othersAt d (offers b) works)) ≤ leftToOthers works → got (r .sequence) all ≡ r .size
-      filled-at h = go (ltb 0 (soldAt works (walked d all))) refl
-        where
-          go : (t : Bool) → ltb 0 (soldAt works (walked d all)) ≡ t → got (r .sequence) all ≡ r .size
-          go true e =
-              let k = priced works (ltb-true 0 (soldAt works (walked d all)) e) in
-              by-level (k .level) (k .one) .filled r m c (sym (k .price)) (rw (others-at works k, shared-at works k) h)
-          go false e =
-              let z : soldAt works (walked d all) ≡ 0 = omega (arith, ltb-false 0 (soldAt works (walked d all)) e) in
-              let g : got (r .sequence) all ≡ 0 = omega (arith, got-walked) in
-              ⊎-elim (λ n. omega arith) (λ n. omega (arith, size-in (othersAt d (offers b) works) r is-there)) (idle z)
+      filled-at h =
+          ⊎-elim (λ (k : Priced (levels d (offers b)) works). by-level (k .level) (k .one) .filled r m c (sym (k .price)) (rw (others-at works k, shared-at works k) h))
+          (λ g. ⊎-elim (λ n. omega (arith, g .0)) (λ n. omega (arith, g .0, size-in (othersAt d (offers b) works) r is-there)) (g .1)) cases
 
       pub short-at : leftToOthers works < sum (sizes (othersAt d (offers b) works)) → Near (leftToOthers works) (sum (sizes (othersAt d (offers b) works))) (r .size) (got (r .sequence) all)
-      short-at h = go (ltb 0 (soldAt works (walked d all))) refl
-        where
-          go : (t : Bool) → ltb 0 (soldAt works (walked d all)) ≡ t → Near (leftToOthers works) (sum (sizes (othersAt d (offers b) works))) (r .size) (got (r .sequence) all)
-          go true e =
-              let k = priced works (ltb-true 0 (soldAt works (walked d all)) e) in
-              near (r .size) (shared-at works k) (others-at works k) refl (by-level (k .level) (k .one) .short r m c (sym (k .price)) (rw (others-at works k, shared-at works k) h))
-          go false e =
-              let z : soldAt works (walked d all) ≡ 0 = omega (arith, ltb-false 0 (soldAt works (walked d all)) e) in
-              let g : got (r .sequence) all ≡ 0 = omega (arith, got-walked) in
-              ⊎-elim (λ n. inl (g ∙ sym (none-of (leftToOthers works) (sum (sizes (othersAt d (offers b) works))) (r .size) n)))
-              (λ n. inl (g ∙ sym (of-none (leftToOthers works) (sum (sizes (othersAt d (offers b) works))) (r .size) (omega arith)))) (idle z)
+      short-at h =
+          let T : ℕ = sum (sizes (othersAt d (offers b) works)) in
+          ⊎-elim (λ (k : Priced (levels d (offers b)) works). near (r .size) (shared-at works k) (others-at works k) refl (by-level (k .level) (k .one) .short r m c (sym (k .price)) (rw (others-at works k, shared-at works k) h)))
+          (λ g. inl (g .0 ∙ sym (⊎-elim (none-of (leftToOthers works) T (r .size)) (λ n. of-none (leftToOthers works) T (r .size) (omega arith)) (g .1)))) cases
 
       pub guaranteed-at : planAt works .final ≡ true → 0 < got (r .sequence) all → guarantee d (offers b) ≤ got 0 all
       guaranteed-at e t =
