@@ -1,14 +1,15 @@
 -- The others at a price of the buy: what is left to them, by the price alone. Assumes nothing.
-use mathlib.Core.Path.{_≡_, refl, sym, ap, _∙_}
-use mathlib.Core.Bool.{Bool, true, false, cond}
+use mathlib.Core.Path.{_≡_, refl, sym, ap, subst, _∙_}
+use mathlib.Core.Bool.{Bool, true, false, cond, not}
 use mathlib.Core.List.{List, [], _∷_}
-use mathlib.Core.Logic.{inl, inr, _≢_}
-use Prim.Native.Nat.{ℕ, _+_, _-_, _≤_, _<_, min}
+use mathlib.Core.Logic.{_⊎_, inl, inr, ⊎-elim, _≢_}
+use Prim.Native.Nat.{ℕ, _+_, _*_, _-_, _/_, _≤_, _<_, min}
+use native.Mathlib.Nat.{zero-mul, mul-zero, zero-div}
 use native.Mathlib.Omega.{arith}
-use borrow.Author.Tests.{eqb-true, eqb-false, eq-eqb}
-use lib.Dec.{eqb}
+use borrow.Author.Tests.{eqb-true, eqb-false, eq-eqb, ltb-true, ltb-false, lt-ltb, le-ltb}
+use lib.Dec.{ltb, eqb}
 use Rattle.base.specs.Lists.{In, Every, filter, sum}
-use Rattle.base.proofs.ListLaws.{every-in, every-filter}
+use Rattle.base.proofs.ListLaws.{every-in, every-filter, in-filter}
 use Rattle.board.specs.declared.Response.{Response}
 use Rattle.board.specs.declared.Board.{Board}
 use Rattle.board.specs.rules.Board.{liveOf}
@@ -16,9 +17,11 @@ use Rattle.share.specs.promises.Share.{Near}
 use Rattle.share.specs.rules.Fills.{Fill, sizes}
 use Rattle.trade.specs.declared.Deal.{Deal}
 use Rattle.trade.specs.rules.Plan.{Plan, planOf}
-use Rattle.trade.specs.rules.Trade.{Level, fromCustomer, fromOther, shared, others, levelFills, flat, offers, offersAt, working, workingStop, guarantee, marketPrice, marketTakes, marketFill, levels, fills}
-use Rattle.demand.specs.promises.Demands.{Tradable, ByLevel, got, gotBelow, soldAt, soldBelow, walked, othersAt, planOn}
+use Rattle.trade.specs.rules.Trade.{Level, fromCustomer, fromOther, shared, others, levelFills, traded, flat, offers, offersAt, working, workingStop, guarantee, marketPrice, marketTakes, marketFill, levels, fills}
+use Rattle.trade.proofs.Lists.{total-append, total-fill}
+use Rattle.demand.specs.promises.Demands.{Tradable, ByLevel, got, gotBelow, soldAt, soldBelow, soldAbove, walked, othersAt, planOn}
 use Rattle.demand.proofs.Lists.{soldAt-none, got-none, all-fill}
+use Rattle.demand.proofs.Order.{in-sequence}
 use Rattle.demand.proofs.Levels.{all-level}
 use Rattle.demand.proofs.Walk.{Run}
 use Rattle.demand.proofs.Runs.{got-append, sold-append, run-each}
@@ -49,6 +52,44 @@ got-sold k p (f ∷ fs) a = go (eqb (f .party) k) refl (got-sold k p fs (a .1))
     go : (b : Bool) → eqb (f .party) k ≡ b → got k fs ≤ soldAt p fs → cond b (f .quantity) 0 + got k fs ≤ soldAt p (f ∷ fs)
     go true e h = rw (eq-eqb (f .price) p (a .0 (eqb-true (f .party) k e))) (omega arith)
     go false e h = omega arith
+
+-- what trades below a price, at it and above it is all
+by-price : (p : ℕ) (fs : List Fill) → soldBelow p fs + soldAt p fs + soldAbove p fs ≡ traded fs
+by-price p [] = refl
+by-price p (f ∷ fs) = go (ltb (f .price) p) refl (eqb (f .price) p) refl (by-price p fs)
+  where
+    go : (b : Bool) → ltb (f .price) p ≡ b → (c : Bool) → eqb (f .price) p ≡ c → soldBelow p fs + soldAt p fs + soldAbove p fs ≡ traded fs
+        → cond b (f .quantity) 0 + soldBelow p fs + (cond c (f .quantity) 0 + soldAt p fs) + soldAbove p (f ∷ fs) ≡ traded (f ∷ fs)
+    go true e true q h = absurd (omega (arith, ltb-true (f .price) p e, eqb-true (f .price) p q))
+    go true e false q h = rw (le-ltb p (f .price) (omega (arith, ltb-true (f .price) p e))) (omega arith)
+    go false e true q h = rw (le-ltb p (f .price) (omega (arith, eqb-true (f .price) p q))) (omega arith)
+    go false e false q h = rw (lt-ltb p (f .price) (omega (arith, ltb-false (f .price) p e, eqb-false (f .price) p q))) (omega arith)
+
+-- where nothing trades at any higher price, nothing trades above
+none-higher : (p : ℕ) (fs : List Fill) → ((q : ℕ) → p < q → soldAt q fs ≡ 0) → soldAbove p fs ≡ 0
+none-higher p [] n = refl
+none-higher p (f ∷ fs) n = go (ltb p (f .price)) refl (none-higher p fs (λ q h. omega (arith, n q h)))
+  where
+    go : (b : Bool) → ltb p (f .price) ≡ b → soldAbove p fs ≡ 0 → cond b (f .quantity) 0 + soldAbove p fs ≡ 0
+    go true e h =
+        let z : f .quantity + soldAt (f .price) fs ≡ 0 =
+        ap (λ (b : Bool). cond b (f .quantity) 0 + soldAt (f .price) fs) (sym (eq-eqb (f .price) (f .price) refl)) ∙ n (f .price) (ltb-true p (f .price) e) in
+        omega arith
+    go false e h = omega arith
+
+-- one of some responses is no larger than all of them
+size-in : (rs : List Response) (r : Response) → In r rs → r .size ≤ sum (sizes rs)
+unfolding sum
+size-in [] r m = absurd m
+size-in (x ∷ xs) r (inl e) = subst (λ (y : Response). y .size ≤ x .size + sum (sizes xs)) (sym e) (omega arith)
+size-in (x ∷ xs) r (inr m) = omega (arith, size-in xs r m)
+
+-- a share of none, and of size none, is none
+of-none : (R T s : ℕ) → R ≡ 0 → R * s / T ≡ 0
+of-none R T s e = rw (e, zero-mul s) (zero-div T)
+
+none-of : (R T s : ℕ) → s ≡ 0 → R * s / T ≡ 0
+none-of R T s e = rw (e, mul-zero R) (zero-div T)
 
 -- a share by equal numbers
 pub near : (s : ℕ) {R Q T S x y : ℕ} → R ≡ Q → T ≡ S → x ≡ y → Near R T s x → Near Q S s y
@@ -121,17 +162,6 @@ module _ (d : Deal) (b : Board) where
       abbrev works : ℕ
       works = working d r
 
-      pub filled-at : 0 < soldAt works (walked d all) → sum (sizes (othersAt d (offers b) works)) ≤ leftToOthers works → got (r .sequence) all ≡ r .size
-      filled-at t h =
-          let k = priced works t in
-          by-level (k .level) (k .one) .filled r m c (sym (k .price)) (rw (others-at works k, shared-at works k) h)
-
-      pub short-at : 0 < soldAt works (walked d all) → leftToOthers works < sum (sizes (othersAt d (offers b) works))
-          → Near (leftToOthers works) (sum (sizes (othersAt d (offers b) works))) (r .size) (got (r .sequence) all)
-      short-at t h =
-          let k = priced works t in
-          near (r .size) (shared-at works k) (others-at works k) refl (by-level (k .level) (k .one) .short r m c (sym (k .price)) (rw (others-at works k, shared-at works k) h))
-
       -- what it gets trades in the walk, at its working price
       got-walked : got (r .sequence) all ≤ soldAt works (walked d all)
       got-walked =
@@ -145,6 +175,51 @@ module _ (d : Deal) (b : Board) where
           let w : got k (walked d all) ≤ soldAt works (walked d all) =
           got-sold k works (walked d all) (every-filter (λ f. f .party ≡ k → f .price ≡ works) _ all (demand3 d b s .works-at r m)) in
           omega arith
+
+      -- where nothing trades there it has no size, or nothing is left: what is left would trade above, and it would be filled
+      idle : soldAt works (walked d all) ≡ 0 → (r .size ≡ 0) ⊎ (leftAt works ≡ 0)
+      idle z = go (eqb (r .size) 0) refl
+        where
+          none-at : r .size ≢ 0 → (p : ℕ) → works < p → soldAt p (walked d all) ≡ 0
+          none-at n p h = at (ltb 0 (soldAt p all)) refl
+            where
+              at : (t : Bool) → ltb 0 (soldAt p all) ≡ t → soldAt p (walked d all) ≡ 0
+              at true e = absurd (n (omega (arith, demand3 d b s .priority r m p (ltb-true 0 (soldAt p all) e) h, got-walked, z)))
+              at false e = omega (arith, ltb-false 0 (soldAt p all) e, ap (soldAt p) (demand3 d b s .market-trades), sold-append p (marketFill d (offers b)) (walked d all))
+
+          total : marketTakes d (offers b) + traded (walked d all) ≡ d .size
+          total =
+              omega (arith, demand3 d b s .adds-up, ap traded (demand3 d b s .market-trades), total-append (marketFill d (offers b)) (walked d all), total-fill (d .market) (marketPrice d (offers b)) (marketTakes d (offers b)))
+
+          go : (t : Bool) → eqb (r .size) 0 ≡ t → (r .size ≡ 0) ⊎ (leftAt works ≡ 0)
+          go true e = inl (eqb-true (r .size) 0 e)
+          go false e = inr (omega (arith, total, z, by-price works (walked d all), none-higher works (walked d all) (none-at (eqb-false (r .size) 0 e))))
+
+      -- a level has its working price; or it gets nothing, and has no size or nothing is left
+      cases : Priced (levels d (offers b)) works ⊎ ((got (r .sequence) all ≡ 0) × ((r .size ≡ 0) ⊎ (leftAt works ≡ 0)))
+      cases = go (ltb 0 (soldAt works (walked d all))) refl
+        where
+          go : (t : Bool) → ltb 0 (soldAt works (walked d all)) ≡ t → Priced (levels d (offers b)) works ⊎ ((got (r .sequence) all ≡ 0) × ((r .size ≡ 0) ⊎ (leftAt works ≡ 0)))
+          go true e = inl (priced works (ltb-true 0 (soldAt works (walked d all)) e))
+          go false e =
+              let z : soldAt works (walked d all) ≡ 0 = omega (arith, ltb-false 0 (soldAt works (walked d all)) e) in
+              inr (omega (arith, got-walked), idle z)
+
+      -- it is one of the others there
+      is-there : In r (othersAt d (offers b) works)
+      unfolding offersAt
+      is-there = in-filter fromOther _ r (in-filter (λ x. eqb (working d x) works) (offers b) r (in-sequence r (liveOf b) m) (eq-eqb works works refl)) (ap not c)
+
+      pub filled-at : sum (sizes (othersAt d (offers b) works)) ≤ leftToOthers works → got (r .sequence) all ≡ r .size
+      filled-at h =
+          ⊎-elim (λ (k : Priced (levels d (offers b)) works). by-level (k .level) (k .one) .filled r m c (sym (k .price)) (rw (others-at works k, shared-at works k) h))
+          (λ g. ⊎-elim (λ n. omega (arith, g .0)) (λ n. omega (arith, g .0, size-in (othersAt d (offers b) works) r is-there)) (g .1)) cases
+
+      pub short-at : leftToOthers works < sum (sizes (othersAt d (offers b) works)) → Near (leftToOthers works) (sum (sizes (othersAt d (offers b) works))) (r .size) (got (r .sequence) all)
+      short-at h =
+          let T : ℕ = sum (sizes (othersAt d (offers b) works)) in
+          ⊎-elim (λ (k : Priced (levels d (offers b)) works). near (r .size) (shared-at works k) (others-at works k) refl (by-level (k .level) (k .one) .short r m c (sym (k .price)) (rw (others-at works k, shared-at works k) h)))
+          (λ g. inl (g .0 ∙ sym (⊎-elim (none-of (leftToOthers works) T (r .size)) (λ n. of-none (leftToOthers works) T (r .size) (omega arith)) (g .1)))) cases
 
       pub guaranteed-at : planAt works .final ≡ true → 0 < got (r .sequence) all → guarantee d (offers b) ≤ got 0 all
       guaranteed-at e t =

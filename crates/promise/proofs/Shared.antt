@@ -27,7 +27,7 @@ use Rattle.trade.specs.rules.Trade.{fromCustomer, fromOther, offers, offersAt, 
 use Rattle.trade.specs.rules.Write.{reportedPrice}
 use Rattle.trade.proofs.WriteLaws.{sizes-sequence}
 use Rattle.demand.specs.promises.Demands as demands
-use Rattle.demand.specs.promises.Demands.{Tradable, tally, got, gots, gotBelow, soldAt, soldBelow, soldAbove}
+use Rattle.demand.specs.promises.Demands.{Tradable, tally, got, gots, gotBelow, soldBelow, soldAbove}
 use Rattle.auction.specs.rules.Accept.{acceptOf}
 use Rattle.auction.specs.declared.Entry.the-variants.{Accepted}
 use Rattle.fills.specs.rules.Fills.{dealOf}
@@ -35,7 +35,7 @@ use Rattle.tape.proofs.FormLaws.{order-bounds}
 use Rattle.run.proofs.Accepted.{opened}
 use Rattle.run.proofs.SoundLaws.{sound-deal}
 use Rattle.promise.specs.rules.Sides.{isSell, better, sent, soldBetter, gotBetter, atEnd, writtenFills, liveAtEnd, walkedFills, workingPrice, allAtPrice, customersAtPrice, othersAtPrice, guaranteeAtEnd, leftAtPrice, planAtPrice, leftToOthersAtPrice}
-use Rattle.promise.proofs.RealLaws.{better-shown, same-shown, shown-twice, tally-shown, sold-shown, filter-sent, sizes-sent, deal, dealt, sound, demand, mode-is, size-is, written-is, there-is, initiating-fits, stop-fits, prices-fit, working-fits, works-is, walked-is, got-is, was-live}
+use Rattle.promise.proofs.RealLaws.{better-shown, same-shown, shown-twice, tally-shown, filter-sent, sizes-sent, deal, dealt, sound, demand, mode-is, size-is, written-is, there-is, initiating-fits, stop-fits, prices-fit, working-fits, works-is, walked-is, got-is, was-live}
 use Rattle.promise.proofs.Real.{stop-is}
 use Rattle.promise.proofs.BuyShares as buy
 
@@ -98,10 +98,7 @@ module _ (o : Order) (es : List Event) (h : acceptOf o .answer ≡ Accepted) whe
     walks-fit : Every (λ f. f .price ≤ 1000000) walks
     walks-fit = every-filter (λ f. f .price ≤ 1000000) _ (dealt o es h) (prices-fit o es h)
 
-    -- what trades there, and at better prices
-    sold-is : soldAt real (walkedFills o es) ≡ soldAt q walks
-    sold-is = ap (soldAt real) (walked-is o es h) ∙ sold-shown sell q walks fits walks-fit
-
+    -- what trades at better prices
     better-is : soldBetter sell real (walkedFills o es) ≡ soldBelow q walks
     better-is =
         ap (soldBetter sell real) (walked-is o es h)
@@ -192,13 +189,13 @@ module _ (o : Order) (es : List Event) (h : acceptOf o .answer ≡ Accepted) whe
     left-to-is : leftToOthersAtPrice o es real ≡ buy.leftToOthers d board q
     left-to-is = same-left left-is customers-are (ap (λ (x : Plan). x .want) plan-is)
 
-  -- ---- a response that is no Customer's, at a price where anything trades
+  -- ---- a response that is no Customer's, at its working price
 
   abbrev Filled : Response → ℕ → Type 0
-  Filled r p = 0 < soldAt p (walkedFills o es) → sum (sizes (othersAtPrice o es p)) ≤ leftToOthersAtPrice o es p → got (r .sequence) (writtenFills o es) ≡ r .size
+  Filled r p = sum (sizes (othersAtPrice o es p)) ≤ leftToOthersAtPrice o es p → got (r .sequence) (writtenFills o es) ≡ r .size
 
   abbrev Short : Response → ℕ → Type 0
-  Short r p = 0 < soldAt p (walkedFills o es) → leftToOthersAtPrice o es p < sum (sizes (othersAtPrice o es p)) → Near (leftToOthersAtPrice o es p) (sum (sizes (othersAtPrice o es p))) (r .size) (got (r .sequence) (writtenFills o es))
+  Short r p = leftToOthersAtPrice o es p < sum (sizes (othersAtPrice o es p)) → Near (leftToOthersAtPrice o es p) (sum (sizes (othersAtPrice o es p))) (r .size) (got (r .sequence) (writtenFills o es))
 
   abbrev Guaranteed : Response → ℕ → Type 0
   Guaranteed r p = planAtPrice o es p .final ≡ true → 0 < got (r .sequence) (writtenFills o es) → guaranteeAtEnd o es ≤ got 0 (writtenFills o es)
@@ -214,16 +211,16 @@ module _ (o : Order) (es : List Event) (h : acceptOf o .answer ≡ Accepted) whe
   pub filled : (r : Response) → In r (liveAtEnd o es) → r .customer ≡ false → Filled r (workingPrice o es r)
   filled =
       as-sent Filled
-      (λ x m c z t e.
+      (λ x m c z e.
       got-is o es h (x .sequence)
-      ∙ buy.filled-at d board can-trade x m c (subst (λ (n : ℕ). 0 < n) (sold-is (working d x) z) t) (omega (arith, others-are (working d x) z, left-to-is (working d x) z)))
+      ∙ buy.filled-at d board can-trade x m c (omega (arith, others-are (working d x) z, left-to-is (working d x) z)))
 
   pub short : (r : Response) → In r (liveAtEnd o es) → r .customer ≡ false → Short r (workingPrice o es r)
   short =
       as-sent Short
-      (λ x m c z t e.
+      (λ x m c z e.
       buy.near (x .size) (sym (left-to-is (working d x) z)) (sym (others-are (working d x) z)) (sym (got-is o es h (x .sequence)))
-      (buy.short-at d board can-trade x m c (subst (λ (n : ℕ). 0 < n) (sold-is (working d x) z) t) (omega (arith, others-are (working d x) z, left-to-is (working d x) z))))
+      (buy.short-at d board can-trade x m c (omega (arith, others-are (working d x) z, left-to-is (working d x) z))))
 
   pub guaranteed : (r : Response) → In r (liveAtEnd o es) → r .customer ≡ false → Guaranteed r (workingPrice o es r)
   guaranteed =

@@ -8,8 +8,8 @@ use native.Mathlib.Omega.{arith}
 use lib.ListN.{length, getD, take, drop, length-append, length-drop, length-map, drop-of-length-le}
 use lib.Seq.{take-all, take-at, drop-at, getD-append-seam}
 use Rattle.base.specs.Lists.{Every}
-use Rattle.words.specs.rules.Bytes.{AllBytes, wordBytes}
-use Rattle.words.proofs.ByteLaws.{length-wordBytes, bytes-drop}
+use Rattle.words.specs.rules.Bytes.{AllBytes, wordBytes, wordAt}
+use Rattle.words.proofs.ByteLaws.{length-wordBytes, bytes-drop, word-in}
 use Rattle.tape.specs.declared.order.Order.{Order}
 use Rattle.tape.specs.declared.event.Event.{Event}
 use Rattle.tape.specs.declared.trailer.Trailer.{Trailer}
@@ -20,9 +20,9 @@ use Rattle.tape.specs.rules.Form.{orderFormed, eventFormed}
 use Rattle.tape.specs.rules.Records.{withRecord, orderWords, eventWords, trailerWords, orderWrote, eventWrote, trailerWrote, readOrder, readEvent, recordAt}
 use Rattle.tape.specs.rules.Tape.{lengthOf, openTape, eventPlace, orderIn, recordIn, recordsFrom, recordsOf, trailerFor, eventsBytes, tapeOf, wroteEvents, wroteTape}
 use Rattle.roundtrip.specs.rules.Whole.{together, tapeWith, ownBytes, orderBytes, recordsBytes}
-use Rattle.roundtrip.specs.promises.Demands.{AllFormed, none, more, Tapeable, TapeBack, AnyRecords, MadeOf, Demands}
+use Rattle.roundtrip.specs.promises.Demands.{Word, AllFormed, none, more, Tapeable, TapeBack, AnyRecords, MadeOf, Demands}
 use Rattle.tape.proofs.HoldsLaws.{event-stands, records-more, recorded, holds}
-use Rattle.roundtrip.proofs.RoundTrip.{wrote-is, order-length, order-written, order-read, event-length, event-written, event-read, trailer-length, values-back, bytes-back, refusals-keep}
+use Rattle.roundtrip.proofs.RoundTrip.{wrote-is, order-length, order-written, order-formed, order-read, event-length, event-written, event-read, trailer-length, values-back, bytes-back, refusals-keep}
 use Rattle.roundtrip.proofs.Whole.{Long, tape-long, any-records, records-bytes, made-of}
 
 -- ---- the bytes of an order and of events
@@ -193,6 +193,35 @@ whole-back s t o b h q f =
     ∙ ap (tapeWith own (orderBytes s t)) records
     ∙ m .whole b
 
+-- ---- and so the writers write it
+
+-- a word that is read fits 32 bits
+word-fits : (s : List ℕ) → AllBytes s → 4 ≤ length s → Word (wordAt s 0)
+word-fits s b n = omega (arith, word-in s 0 n, b 0, b 1, b 2, b 3)
+
+-- records in form bear sequences that fit
+records-formed : (rs : List (List ℕ)) → Long 32 rs → Every AllBytes rs → Every (λ e. eventFormed e ≡ true) (map recordAt rs) → AllFormed (map recordAt rs)
+records-formed [] n b f = none
+records-formed (r ∷ rs) n b f =
+    more (subst Word (sym (recorded r .sequence)) (word-fits r (b .0) (omega (arith, n .0)))) (f .0) (records-formed rs (n .1) (b .1) (f .1))
+
+pub whole-written : (s room : List ℕ) (t : Trailer) (o : Order) → AllBytes s → openTape s ≡ Tape t → orderIn s t ≡ GotOrder o → Every (λ e. eventFormed e ≡ true) (recordsOf s t) → length (ownBytes s t) + length room ≡ length s
+    → wroteTape (ownBytes s t) o (recordsOf s t) room ≡ s
+whole-written s room t o b h q f n =
+    let m : MadeOf s t = made-of s t h in
+    let own : List ℕ = ownBytes s t in
+    let es : List Event = recordsOf s t in
+    let back : tapeOf own o es ≡ s = whole-back s t o b h q f in
+    let long : length (tapeOf own o es) ≡ lengthOf (trailerFor own es) =
+    ap length (tape-with own o es) ∙ tape-long own (wordBytes (orderWords o)) (map eventBytes es) (order-64 o) (each-32 es) ∙ ap lengthOf (same-trailer own es) in
+    let fine : Tapeable own o es =
+    record {
+      order = order-formed (orderBytes s t) o (sym (m .ordered) ∙ q);
+      events = subst AllFormed (sym (m .records)) (records-formed (recordsBytes s t) (m .fitting .each-long) (records-bytes s t b) (subst (Every (λ e. eventFormed e ≡ true)) (m .records) f));
+      fits = omega (arith, long, ap length back, holds s t h .short);
+    } in
+    tape-back own o es fine .written room (omega (arith, n, long, ap length back)) ∙ back
+
 -- ---- all that is promised
 
 pub demands : Demands
@@ -207,4 +236,5 @@ demands =
       any-records = any-records;
       made-of = made-of;
       whole-back = whole-back;
+      whole-written = whole-written;
     }

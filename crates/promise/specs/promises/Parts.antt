@@ -142,10 +142,10 @@ module _ (o : Order) (es : List Event) where
     pub fits : (r : Response) → In r (liveAtEnd o es) → got (r .sequence) (writtenFills o es) ≤ r .size
     -- where anything trades, every response with a better working price is filled
     pub priority : (r : Response) → In r (liveAtEnd o es) → (f : Fill) → In f (writtenFills o es) → better (isSell o) (workingPrice o es r) (f .price) ≡ true → got (r .sequence) (writtenFills o es) ≡ r .size
-    -- the others at a price where anything trades are all filled where what is left to them covers them, and otherwise each gets the whole part, or one more
-    pub filled : (r : Response) → In r (liveAtEnd o es) → r .customer ≡ false → 0 < soldAt (workingPrice o es r) (walkedFills o es)
+    -- the others at a price are all filled where what is left to them covers them, and otherwise each gets the whole part, or one more
+    pub filled : (r : Response) → In r (liveAtEnd o es) → r .customer ≡ false
         → sum (sizes (othersAtPrice o es (workingPrice o es r))) ≤ leftToOthersAtPrice o es (workingPrice o es r) → got (r .sequence) (writtenFills o es) ≡ r .size
-    pub short : (r : Response) → In r (liveAtEnd o es) → r .customer ≡ false → 0 < soldAt (workingPrice o es r) (walkedFills o es)
+    pub short : (r : Response) → In r (liveAtEnd o es) → r .customer ≡ false
         → leftToOthersAtPrice o es (workingPrice o es r) < sum (sizes (othersAtPrice o es (workingPrice o es r)))
         → Near (leftToOthersAtPrice o es (workingPrice o es r)) (sum (sizes (othersAtPrice o es (workingPrice o es r)))) (r .size) (got (r .sequence) (writtenFills o es))
     -- of what the others at a price trade together, each trades the whole part of its share, or one more; where one is not filled, the Contra Order has no more than its guarantee, or than it has at better prices

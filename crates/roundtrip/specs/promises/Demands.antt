@@ -92,3 +92,6 @@ pub record Demands : Type 0 where
   pub made-of : (s : List ℕ) (t : Trailer) → openTape s ≡ Tape t → MadeOf s t
   -- writing what was read gives the same bytes, the whole tape
   pub whole-back : (s : List ℕ) (t : Trailer) (o : Order) → AllBytes s → openTape s ≡ Tape t → orderIn s t ≡ GotOrder o → Every (λ e. eventFormed e ≡ true) (recordsOf s t) → tapeOf (ownBytes s t) o (recordsOf s t) ≡ s
+  -- and the writers, one record after the other into lent bytes, write back what was read: the whole tape
+  pub whole-written : (s room : List ℕ) (t : Trailer) (o : Order) → AllBytes s → openTape s ≡ Tape t → orderIn s t ≡ GotOrder o → Every (λ e. eventFormed e ≡ true) (recordsOf s t) → length (ownBytes s t) + length room ≡ length s
+      → wroteTape (ownBytes s t) o (recordsOf s t) room ≡ s
