@@ -1,5 +1,6 @@
--- What the counters give: the number of what came of a tape goes up by one, and no other.
+-- What the counters give: each begins at 0; the number of tapes, or of what came of a tape, goes up by one, and no other.
 use Prim.Native.Nat.{ℕ, _+_, _%_, _^_}
+use mathlib.Core.Bool.{false}
 use Rattle.auction.specs.declared.Ending.{Ending}
 use Rattle.auction.specs.declared.Ending.the-variants.{Open, Time, Same, Opposite, Improve}
 use Rattle.listing.specs.declared.Listed.{Listed}
@@ -9,6 +10,40 @@ use Rattle.evening.specs.declared.Tally.{Tally}
 -- past the greatest number of 64 bits comes 0
 abbrev pub oneMore : ℕ → ℕ
 oneMore n = (n + 1) % 2 ^ 64
+
+-- the tally at the start
+abbrev pub noTapes : Tally
+noTapes =
+    record {
+      tapes = 0;
+      refused = 0;
+      time = 0;
+      same = 0;
+      opposite = 0;
+      improve = 0;
+      unreadable = 0;
+      failed = false;
+    }
+
+-- a tally with other numbers of tapes and of unreadable files
+abbrev pub withFiles : Tally → ℕ → ℕ → Tally
+withFiles t tapes unreadable =
+    record {
+      tapes = tapes;
+      refused = t .refused;
+      time = t .time;
+      same = t .same;
+      opposite = t .opposite;
+      improve = t .improve;
+      unreadable = unreadable;
+      failed = t .failed;
+    }
+
+abbrev pub countedTape : Tally → Tally
+countedTape t = withFiles t (oneMore (t .tapes)) (t .unreadable)
+
+abbrev pub countedUnreadable : Tally → Tally
+countedUnreadable t = withFiles t (t .tapes) (oneMore (t .unreadable))
 
 -- a tally with other numbers of tapes refused and ended
 abbrev pub with : Tally → ℕ → ℕ → ℕ → ℕ → ℕ → Tally

@@ -11,7 +11,7 @@ use std::num::wrapping_add_u64;
 ghost use mathlib.Core.Path.{_≡_};
 ghost use lib.ListN.{length};
 ghost use Rattle.io.specs.Counts.{Counts};
-ghost use Rattle.evening.specs.Counting.{oneMore, countedEnding, countedListed};
+ghost use Rattle.evening.specs.Counting.{oneMore, noTapes, countedTape, countedUnreadable, countedEnding, countedListed};
 
 fn tape_buffer() -> [u8; MOST]
     ensures { λ r. ⌜ 65537 ≡ length r ⌝ }
@@ -181,6 +181,35 @@ fn one_more(n: u64) -> u64
     wrapping_add_u64(n, 1)
 }
 
+fn no_tapes() -> Tally
+    ensures { λ r. ⌜ r ≡ noTapes ⌝ }
+{
+    Tally {
+        tapes: 0,
+        refused: 0,
+        time: 0,
+        same: 0,
+        opposite: 0,
+        improve: 0,
+        unreadable: 0,
+        failed: false,
+    }
+}
+
+fn count_tape(mut t: Tally) -> Tally
+    ensures { λ r. ⌜ r ≡ countedTape t ⌝ }
+{
+    t.tapes = one_more(t.tapes);
+    t
+}
+
+fn count_unreadable(mut t: Tally) -> Tally
+    ensures { λ r. ⌜ r ≡ countedUnreadable t ⌝ }
+{
+    t.unreadable = one_more(t.unreadable);
+    t
+}
+
 fn count_ending(mut t: Tally, g: Ending) -> Tally
     ensures { λ r. ⌜ r ≡ countedEnding t g ⌝ }
 {
@@ -262,12 +291,11 @@ fn print_unreadable(error: u64, name: &[u8]) -> bool {
     print_name(b" ", name)
 }
 
-fn unreadable(mut t: Tally, error: u64, name: &[u8]) -> Tally {
+fn unreadable(t: Tally, error: u64, name: &[u8]) -> Tally {
     if !print_unreadable(error, name) {
         return stopped(t);
     }
-    t.unreadable = one_more(t.unreadable);
-    t
+    count_unreadable(t)
 }
 
 // The listing of a tape, in lent bytes, onto standard output.
@@ -298,19 +326,6 @@ fn serve(t: Tally, name: &[u8], tape: &mut [u8], out: &mut [u8]) -> Tally {
     show(t, &tape[..n], out)
 }
 
-fn no_tapes() -> Tally {
-    Tally {
-        tapes: 0,
-        refused: 0,
-        time: 0,
-        same: 0,
-        opposite: 0,
-        improve: 0,
-        unreadable: 0,
-        failed: false,
-    }
-}
-
 // Each name of standard input in turn, until something fails.
 fn serve_all(input: &mut [u8], name: &mut [u8], tape: &mut [u8], out: &mut [u8]) -> Tally {
     let mut t = no_tapes();
@@ -335,7 +350,7 @@ fn serve_all(input: &mut [u8], name: &mut [u8], tape: &mut [u8], out: &mut [u8])
         if t.failed {
             return t;
         }
-        t.tapes = one_more(t.tapes);
+        t = count_tape(t);
         turns -= 1;
     }
     t

@@ -1,6 +1,7 @@
 use mathlib.Core.Path.{_≡_}
 use lib.ListN.{length}
 use borrow.Author.Needs.{needs}
+use native.Mathlib.Omega.{arith}
 use Rattle.evening.proofs.serve_all.Statement.{statement}
 use Rattle.evening.proofs.serve_all.Tie as tie
 
@@ -10,6 +11,16 @@ Inv-loop input₀ name₀ tape₀ out₀ t₀ s₀ turns₀ input name tape out 
 
 abbrev μ-loop : tie.MeasureT-loop
 μ-loop input₀ name₀ tape₀ out₀ t₀ s₀ turns₀ input name tape out t s turns = turns
+
+-- a turn that comes to its end: where its tape was served, where its name was read, and where it began
+abbrev served : tie.After-count-tape Inv-loop μ-loop → tie.After-serve Inv-loop μ-loop
+served c = c .before .before .before .before .before .before
+
+abbrev named : tie.After-count-tape Inv-loop μ-loop → tie.After-read-line Inv-loop μ-loop
+named c = served c .before .before .before .before .before .before .before .before .before .before .before .before
+
+abbrev begun : tie.After-count-tape Inv-loop μ-loop → tie.In-loop Inv-loop μ-loop
+begun c = named c .before .before .before
 
 no-tapes-requires : tie.Need-no-tapes-requires Inv-loop μ-loop
 no-tapes-requires c κs = search needs
@@ -80,17 +91,17 @@ same-length-12 c = search needs
 returns-3 : tie.Need-returns-3 Inv-loop μ-loop
 returns-3 c = search needs
 
-one-more-requires : tie.Need-one-more-requires Inv-loop μ-loop
-one-more-requires c κs = search needs
+count-tape-requires : tie.Need-count-tape-requires Inv-loop μ-loop
+count-tape-requires c κs = search needs
 
 sub-turns : tie.Need-sub-turns Inv-loop μ-loop
-sub-turns c = search needs
+sub-turns c = begun c .loop-test .taken
 
 loop-less : tie.Need-loop-less Inv-loop μ-loop
-loop-less c = search needs
+loop-less c = omega (arith, begun c .loop-test .taken)
 
 loop-again : tie.Need-loop-again Inv-loop μ-loop
-loop-again c = search needs
+loop-again c = search (needs, begun c .before .loop .inv, named c .read-line .kept, served c .serve .kept)
 
 same-length-13 : tie.Need-same-length-13 Inv-loop μ-loop
 same-length-13 c = search needs
@@ -136,7 +147,7 @@ serve-all-spec =
     same-length-11
     same-length-12
     returns-3
-    one-more-requires
+    count-tape-requires
     sub-turns
     loop-less
     loop-again
