@@ -35,7 +35,7 @@ near-all : (T s : ℕ) → s ≤ T → Near T T s s
 near-all zero s h = let e : s ≡ 0 = omega arith in rw e (inl refl)
 near-all (suc T) s h = inl (sym (mul-div-cancel-left s (omega arith)))
 
-size-in : (os : List Response) (o : Response) → In o os → o .size ≤ sum (sizes os)
+pub size-in : (os : List Response) (o : Response) → In o os → o .size ≤ sum (sizes os)
 unfolding sum
 size-in [] o m = absurd m
 size-in (x ∷ xs) o (inl e) = subst (λ (y : Response). y .size ≤ x .size + sum (sizes xs)) (sym e) (omega arith)

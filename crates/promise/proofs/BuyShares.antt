@@ -19,6 +19,7 @@ use Rattle.trade.specs.declared.Deal.{Deal}
 use Rattle.trade.specs.rules.Plan.{Plan, planOf}
 use Rattle.trade.specs.rules.Trade.{Level, fromCustomer, fromOther, shared, others, levelFills, traded, flat, offers, offersAt, working, workingStop, guarantee, marketPrice, marketTakes, marketFill, levels, fills}
 use Rattle.trade.proofs.Lists.{total-append, total-fill}
+use Rattle.demand.proofs.Fair.{size-in}
 use Rattle.demand.specs.promises.Demands.{Tradable, ByLevel, got, gotBelow, soldAt, soldBelow, soldAbove, walked, othersAt, planOn}
 use Rattle.demand.proofs.Lists.{soldAt-none, got-none, all-fill}
 use Rattle.demand.proofs.Order.{in-sequence}
@@ -76,13 +77,6 @@ none-higher p (f ∷ fs) n = go (ltb p (f .price)) refl (none-higher p fs (λ q 
         ap (λ (b : Bool). cond b (f .quantity) 0 + soldAt (f .price) fs) (sym (eq-eqb (f .price) (f .price) refl)) ∙ n (f .price) (ltb-true p (f .price) e) in
         omega arith
     go false e h = omega arith
-
--- one of some responses is no larger than all of them
-size-in : (rs : List Response) (r : Response) → In r rs → r .size ≤ sum (sizes rs)
-unfolding sum
-size-in [] r m = absurd m
-size-in (x ∷ xs) r (inl e) = subst (λ (y : Response). y .size ≤ x .size + sum (sizes xs)) (sym e) (omega arith)
-size-in (x ∷ xs) r (inr m) = omega (arith, size-in xs r m)
 
 -- a share of none, and of size none, is none
 of-none : (R T s : ℕ) → R ≡ 0 → R * s / T ≡ 0

@@ -19,7 +19,7 @@ use Rattle.tape.specs.declared.event.Event.{Event}
 use Rattle.trade.specs.declared.Deal.{Deal}
 use Rattle.trade.specs.rules.Trade.{offers, fills, working}
 use Rattle.trade.specs.rules.Write.{reportedPrice, reported, fillsOf}
-use Rattle.demand.specs.promises.Demands.{tally, got, soldAt, isMarket, InRange, Demand3}
+use Rattle.demand.specs.promises.Demands.{tally, got, isMarket, InRange, Demand3}
 use Rattle.mirror.specs.rules.Mirror.{mirroredOrder, buyOrder}
 use Rattle.auction.specs.rules.Accept.{termsOf, openedBy, acceptOf}
 use Rattle.auction.specs.rules.Range.{isOpen, boundNow, rangeOf}
@@ -101,11 +101,6 @@ filter-shown s t u (f ∷ fs) h = rw (h .0) (go (u f) (filter-shown s t u fs (h 
 
 pub got-shown : (s : Bool) (k : ℕ) (fs : List Fill) → got k (reported s fs) ≡ got k fs
 got-shown s k fs = tally-shown s (λ f. eqb (f .party) k) (λ f. eqb (f .party) k) fs (every-any (λ f. eqb (f .party) k ≡ eqb (f .party) k) fs (λ f. refl))
-
-pub sold-shown : (s : Bool) (p : ℕ) (fs : List Fill) → p ≤ 1000000 → Every (λ f. f .price ≤ 1000000) fs → soldAt (reportedPrice s p) (reported s fs) ≡ soldAt p fs
-sold-shown s p fs h k =
-    tally-shown s (λ f. eqb (f .price) (reportedPrice s p)) (λ f. eqb (f .price) p) fs
-    (every-map (λ f. f .price ≤ 1000000) (λ f. eqb (reportedPrice s (f .price)) (reportedPrice s p) ≡ eqb (f .price) p) fs (λ f z. same-shown s (f .price) p z h) k)
 
 -- ---- a response as it was sent
 

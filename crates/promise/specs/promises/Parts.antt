@@ -23,7 +23,7 @@ use Rattle.tape.specs.rules.Fields.{sizeOf, priceOf, nameOf}
 use Rattle.tape.specs.rules.Tape.{openTape, orderIn}
 use Rattle.trade.specs.rules.Trade.{offers, fills, traded}
 use Rattle.trade.specs.rules.Write.{reported}
-use Rattle.demand.specs.promises.Demands.{Absent, Distinct, got, gots, soldAt}
+use Rattle.demand.specs.promises.Demands.{Absent, Distinct, got, gots}
 use Rattle.auction.specs.rules.Accept.{acceptOf}
 use Rattle.auction.specs.rules.Range.{isOpen}
 use Rattle.auction.specs.declared.Auction.{Auction}
@@ -37,7 +37,7 @@ use Rattle.listing.specs.rules.Text.{text, newline}
 use Rattle.listing.specs.rules.Listing.{field, answerText, endText, refusedLine, auctionLine, eventLines, endLines, listingOf, roomOf, listedOf, lengthIn, bytesOf}
 use Rattle.promise.specs.rules.Answers.{Accepts, no, yes, openedIs, orderIs, eventIs, trailerIs, writtenIs, entryIs, answerIs, endingIs, filledIs, runIs, listedIs}
 use Rattle.promise.specs.rules.Tapes.{Carries}
-use Rattle.promise.specs.rules.Sides.{isSell, otherSide, better, gotBetter, responses, takenRecords, atEnd, rangeAtEnd, writtenFills, liveAtEnd, marketOrder, walkedFills, workingPrice, othersAtPrice, guaranteeAtEnd, planAtPrice, leftToOthersAtPrice, sentBy, standingOf}
+use Rattle.promise.specs.rules.Sides.{isSell, otherSide, better, gotBetter, responses, takenRecords, atEnd, rangeAtEnd, writtenFills, liveAtEnd, marketOrder, workingPrice, othersAtPrice, guaranteeAtEnd, planAtPrice, leftToOthersAtPrice, sentBy, standingOf}
 
 -- ---- 1. every tape is answered
 
