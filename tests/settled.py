@@ -1,5 +1,6 @@
 #!/usr/bin/env python3
-"""Every public function of every library crate has its theorem in the crate's proofs/Settled.antt, in the order of src/.
+"""Every public function of every library crate has its theorem in the crate's proofs/Settled.antt, in the order of src/; and the functions of the
+programs that the promise speaks of have their contracts.
 
     tests/settled.py
 
@@ -17,6 +18,28 @@ BY_HAND = {"crates/steps": ["lent.apply", "lent.cancel"], "crates/reader": ["hol
 
 # The functions that read: what a file holds no contract can say. docs/STATEMENTS.md names them, too.
 OUTSIDE = {"crates/input": ["last_error", "read_tape"]}
+
+
+# What a program's function promises: `runner` writes what `listing` wrote, `evening` counts what came of each tape.
+LISTS = ["r ≡ lengthIn (listedOf (now (tape .entry)) (now (out .entry)))", "now (out .exit) ≡ bytesOf (now (tape .entry)) (now (out .entry))"]
+PROGRAMS = {
+    "crates/runner": {"answer": LISTS},
+    "crates/evening": {
+        "one_more": ["r ≡ oneMore n"],
+        "no_tapes": ["r ≡ noTapes"],
+        "count_tape": ["r ≡ countedTape t"],
+        "count_unreadable": ["r ≡ countedUnreadable t"],
+        "count_ending": ["r ≡ countedEnding t g"],
+        "count_listed": ["r ≡ countedListed t l"],
+    },
+}
+
+
+def contract(crate, name):
+    """The contract of a program's function, as it stands in src/main.rt."""
+    with open(crate + "/src/main.rt") as f:
+        found = re.search(r"^fn %s\(.*?^\{" % name, f.read(), re.M | re.S)
+    return found.group(0) if found else ""
 
 
 def public(crate):
@@ -52,6 +75,13 @@ def main():
         if sorted(found) == sorted(wanted) and found != wanted:
             failed += 1
             print(crate + ": not in the order of src/")
+    for crate, functions in sorted(PROGRAMS.items()):
+        for name, clauses in functions.items():
+            lacks = [c for c in clauses if "⌜ %s ⌝" % c not in contract(crate, name)]
+            passed += not lacks
+            failed += bool(lacks)
+            for clause in lacks:
+                print("{}: {} has no clause '{}'".format(crate, name, clause))
     print("{} passed, {} failed".format(passed, failed))
     return 1 if failed else 0
 

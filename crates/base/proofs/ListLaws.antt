@@ -171,3 +171,28 @@ module _ {A : Type 0} where
 -- an array of structs in a struct has its length at the list of the elements' parts
 pub length-mapped : (X Y : Type 0) (f : X → Y) (l : List X) (n : ℕ) → length (map f l) ≡ n → length l ≡ n
 length-mapped X Y f l n e = sym (length-map l f) ∙ e
+
+-- ---- lists in some order, mapped and filtered
+
+pub inserts-map : {A B : Type 0} (f : A → B) {r : A} {xs ys : List A} → Inserts r xs ys → Inserts (f r) (map f xs) (map f ys)
+inserts-map f here = here
+inserts-map f (there i) = there (inserts-map f i)
+
+-- a filter that r passes
+inserts-pass : {A : Type 0} (t : A → Bool) {r : A} {xs ys : List A} → t r ≡ true → Inserts r xs ys → Inserts r (filter t xs) (filter t ys)
+unfolding filter
+inserts-pass t e here = rw e here
+inserts-pass {A} t {r} e (there {x = x} {xs = xs} {ys = ys} i) = go (t x) (inserts-pass t e i)
+  where
+    go : (b : Bool) → Inserts r (filter t xs) (filter t ys) → Inserts r (keep b x (filter t xs)) (keep b x (filter t ys))
+    go true j = there j
+    go false j = j
+
+pub shuffles-filter : {A : Type 0} (t : A → Bool) {xs ys : List A} → Shuffles xs ys → Shuffles (filter t xs) (filter t ys)
+unfolding filter
+shuffles-filter t none = none
+shuffles-filter {A} t (more {x = x} {xs = xs} {ys = ys} {zs = zs} s i) = go (t x) refl (shuffles-filter t s)
+  where
+    go : (b : Bool) → t x ≡ b → Shuffles (filter t xs) (filter t ys) → Shuffles (keep b x (filter t xs)) (filter t zs)
+    go true z ih = more ih (inserts-pass t z i)
+    go false z ih = subst (Shuffles (filter t xs)) (sym (inserts-fail t z i)) ih

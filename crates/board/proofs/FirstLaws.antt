@@ -17,8 +17,7 @@ use Rattle.words.proofs.BitLaws.{bit-or, bit-zero, bit-half, bit-low, no-bit, a
 use Rattle.base.specs.Lists.{Every, Inserts}
 use Rattle.base.specs.Lists.Inserts.{here, there}
 use Rattle.board.specs.rules.Board.{noResponse, responseAt, liveIn, inSequence}
-use Rattle.board.specs.inside.Places.{lowestFrom, lowest, bears, firstInSequence}
-use Rattle.board.specs.promises.Board.{Earliest}
+use Rattle.board.specs.inside.Places.{lowestFrom, lowest, bears, firstInSequence, Earliest}
 use Rattle.board.specs.declared.Response.{Response}
 use Rattle.base.proofs.ListLaws.{every-inserts}
 use Rattle.board.proofs.LiveLaws.{dead-step, live-step, live-every, less-live}

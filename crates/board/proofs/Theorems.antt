@@ -1,6 +1,7 @@
--- The statements of specs/promises/Board.antt, proved. Assumes nothing.
+-- The statements of specs/promises/Board.antt, and that of specs/inside/Places.antt, proved. Assumes nothing.
 use Rattle.words.proofs.BitLaws.{without-other, ones-clear, clear-ones}
 use Rattle.board.specs.promises.Board.{Changes, Seen, Finding, Ordering}
+use Rattle.board.specs.inside.Places.{Walking}
 use Rattle.board.proofs.BoardLaws.{seating, seated-past, seated-good, lowest-free, clearing, cleared-dead, cleared-good, empty-good, empty-live, live-count, unseen-live, unseen-find, find-gtx, gtx-found, no-gtx}
 use Rattle.base.proofs.ListLaws.{shuffles-length, shuffles-sum}
 use Rattle.board.proofs.LiveLaws.{word-filters}
@@ -41,6 +42,10 @@ ordering = record {
   length-stays = λ xs. shuffles-length (sequence-shuffles xs);
   sums-stay = λ f xs. shuffles-sum f (sequence-shuffles xs);
   filters = sequence-filter;
+}
+
+pub walking : Walking
+walking = record {
   earliest = first-earliest;
   only = earliest-first;
   some = some-first;

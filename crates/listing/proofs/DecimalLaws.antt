@@ -90,13 +90,13 @@ four-fewer n h small =
 
 -- ---- the digits are written from the last on: to write those of `rest` in ys comes to the same as to write those of n in xs
 
-pub record Left (xs : List ℕ) (at n : ℕ) (ys : List ℕ) (w rest : ℕ) : Type 0 where
+pub record DigitsLeft (xs : List ℕ) (at n : ℕ) (ys : List ℕ) (w rest : ℕ) : Type 0 where
   pub small : rest < 2 ^ 64
   pub room : length ys ≡ length xs
   pub place : w ≡ at + length (decimal rest)
   pub bytes : sets ys at (decimal rest) ≡ sets xs at (decimal n)
 
-pub left-turn : {xs : List ℕ} {at n : ℕ} {ys : List ℕ} {w rest : ℕ} → 10 ≤ rest → Left xs at n ys w rest → Left xs at n (set ys (w - 1) (digit rest)) (w - 1) (rest / 10)
+pub left-turn : {xs : List ℕ} {at n : ℕ} {ys : List ℕ} {w rest : ℕ} → 10 ≤ rest → DigitsLeft xs at n ys w rest → DigitsLeft xs at n (set ys (w - 1) (digit rest)) (w - 1) (rest / 10)
 left-turn {xs} {at} {n} {ys} {w} {rest} h l =
     let t = decimal (rest / 10) in
     let e : w - 1 ≡ at + length t = omega (arith, l .place, length-more rest h (l .small)) in
@@ -113,10 +113,10 @@ left-turn {xs} {at} {n} {ys} {w} {rest} h l =
     }
 
 -- the byte before the last that was written
-pub left-some : {xs : List ℕ} {at n : ℕ} {ys : List ℕ} {w rest : ℕ} → 10 ≤ rest → Left xs at n ys w rest → (at < w) × (w ≤ at + 20)
+pub left-some : {xs : List ℕ} {at n : ℕ} {ys : List ℕ} {w rest : ℕ} → 10 ≤ rest → DigitsLeft xs at n ys w rest → (at < w) × (w ≤ at + 20)
 left-some {xs} {at} {n} {ys} {w} {rest} h l = (omega (arith, l .place, length-more rest h (l .small)), omega (arith, l .place, decimal-short rest))
 
-pub left-last : {xs : List ℕ} {at n : ℕ} {ys : List ℕ} {w rest : ℕ} → rest < 10 → Left xs at n ys w rest → set ys at (digit rest) ≡ sets xs at (decimal n)
+pub left-last : {xs : List ℕ} {at n : ℕ} {ys : List ℕ} {w rest : ℕ} → rest < 10 → DigitsLeft xs at n ys w rest → set ys at (digit rest) ≡ sets xs at (decimal n)
 left-last {xs} {at} {n} {ys} {w} {rest} h l = ap (λ (s : List ℕ). sets ys at s) (sym (decimal-one rest h)) ∙ l .bytes
 
 -- ---- digits read back

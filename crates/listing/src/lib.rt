@@ -5,7 +5,7 @@ ghost use lib.ListN.{length};
 ghost use Rattle.tape.specs.rules.Tape.{orderIn, recordsOf};
 ghost use Rattle.run.specs.rules.Run.{run, heard, closed, refused, runEntry, runOrder};
 ghost use Rattle.listing.specs.rules.Listing.{eventLines, roomOf, lengthIn, listedOf, bytesOf};
-ghost use Rattle.listing.specs.inside.Code.{Lists, Wrote};
+ghost use Rattle.listing.specs.inside.Code.{Lists, WroteBytes};
 use auction::Auction;
 use auction::Ending;
 use auction::Entry;
@@ -57,7 +57,7 @@ struct Heard {
 // A line for each of the tape's events. The board is the loop's own: what a turn says is seated on it in place.
 fn put_events(tape: &[u8], t: Trailer, a: Auction, out: &mut [u8], start: usize) -> Heard
     requires { ⌜ (t .events ≤ 2045) × (start + 56 * t .events ≤ length (now out)) ⌝ }
-    ensures { λ r. ⌜ Wrote (now (out .entry)) start (eventLines (heard a (recordsOf (now (tape .entry)) t))) (r .next) (now (out .exit)) ⌝ }
+    ensures { λ r. ⌜ WroteBytes (now (out .entry)) start (eventLines (heard a (recordsOf (now (tape .entry)) t))) (r .next) (now (out .exit)) ⌝ }
     ensures { λ r. ⌜ (r .auction ≡ closed (run a (recordsOf (now (tape .entry)) t))) × (r .next ≤ start + 56 * t .events) ⌝ }
 {
     let n = t.events as usize;

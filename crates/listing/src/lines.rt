@@ -5,7 +5,7 @@ ghost use Rattle.auction.specs.rules.Range.{rangeOf};
 ghost use Rattle.run.specs.rules.Run.{said};
 ghost use Rattle.listing.specs.rules.Listing.{refusedLine, rangeText, sideText, auctionLine, answerText, eventLine, endText, endLine, partyText, fillLine, totalLine};
 ghost use Rattle.share.specs.rules.Fills.{fill};
-ghost use Rattle.listing.specs.inside.Code.{Wrote};
+ghost use Rattle.listing.specs.inside.Code.{WroteBytes};
 use crate::text::put_field;
 use crate::text::put_text;
 use crate::text::put_word;
@@ -17,7 +17,7 @@ use events::Answer;
 
 pub(crate) fn put_refused(out: &mut [u8], at: usize, number: u32) -> usize
     requires { ⌜ at + 29 ≤ length (now out) ⌝ }
-    ensures { λ r. ⌜ Wrote (now (out .entry)) at (refusedLine number) r (now (out .exit)) ⌝ }
+    ensures { λ r. ⌜ WroteBytes (now (out .entry)) at (refusedLine number) r (now (out .exit)) ⌝ }
 {
     let w = put_word(out, at, b"REFUSED ", number);
     put_text(out, w, b"\n")
@@ -25,7 +25,7 @@ pub(crate) fn put_refused(out: &mut [u8], at: usize, number: u32) -> usize
 
 fn put_range(out: &mut [u8], at: usize, r: Range) -> usize
     requires { ⌜ at + 52 ≤ length (now out) ⌝ }
-    ensures { λ n. ⌜ Wrote (now (out .entry)) at (rangeText r) n (now (out .exit)) ⌝ }
+    ensures { λ n. ⌜ WroteBytes (now (out .entry)) at (rangeText r) n (now (out .exit)) ⌝ }
     ensures { λ n. ⌜ n ≤ at + 52 ⌝ }
 {
     let low = put_word(out, at, b" range ", r.low);
@@ -35,7 +35,7 @@ fn put_range(out: &mut [u8], at: usize, r: Range) -> usize
 
 fn put_side(out: &mut [u8], at: usize, sell: bool) -> usize
     requires { ⌜ at + 12 ≤ length (now out) ⌝ }
-    ensures { λ r. ⌜ Wrote (now (out .entry)) at (sideText sell) r (now (out .exit)) ⌝ }
+    ensures { λ r. ⌜ WroteBytes (now (out .entry)) at (sideText sell) r (now (out .exit)) ⌝ }
     ensures { λ r. ⌜ r ≤ at + 12 ⌝ }
 {
     if sell {
@@ -46,7 +46,7 @@ fn put_side(out: &mut [u8], at: usize, sell: bool) -> usize
 
 pub(crate) fn put_auction(out: &mut [u8], at: usize, h: Head) -> usize
     requires { ⌜ at + 90 ≤ length (now out) ⌝ }
-    ensures { λ r. ⌜ Wrote (now (out .entry)) at (auctionLine h) r (now (out .exit)) ⌝ }
+    ensures { λ r. ⌜ WroteBytes (now (out .entry)) at (auctionLine h) r (now (out .exit)) ⌝ }
     ensures { λ r. ⌜ r ≤ at + 90 ⌝ }
 {
     let t = h.terms;
@@ -57,7 +57,7 @@ pub(crate) fn put_auction(out: &mut [u8], at: usize, h: Head) -> usize
 
 fn put_answer(out: &mut [u8], at: usize, answer: Answer) -> usize
     requires { ⌜ at + 30 ≤ length (now out) ⌝ }
-    ensures { λ r. ⌜ Wrote (now (out .entry)) at (answerText answer) r (now (out .exit)) ⌝ }
+    ensures { λ r. ⌜ WroteBytes (now (out .entry)) at (answerText answer) r (now (out .exit)) ⌝ }
     ensures { λ r. ⌜ r ≤ at + 30 ⌝ }
 {
     match answer {
@@ -73,7 +73,7 @@ fn put_answer(out: &mut [u8], at: usize, answer: Answer) -> usize
 
 pub(crate) fn put_event(out: &mut [u8], at: usize, sequence: u32, answer: Answer) -> usize
     requires { ⌜ at + 56 ≤ length (now out) ⌝ }
-    ensures { λ r. ⌜ Wrote (now (out .entry)) at (eventLine (said sequence answer)) r (now (out .exit)) ⌝ }
+    ensures { λ r. ⌜ WroteBytes (now (out .entry)) at (eventLine (said sequence answer)) r (now (out .exit)) ⌝ }
     ensures { λ r. ⌜ r ≤ at + 56 ⌝ }
 {
     let w = put_word(out, at, b"EVENT ", sequence);
@@ -82,7 +82,7 @@ pub(crate) fn put_event(out: &mut [u8], at: usize, sequence: u32, answer: Answer
 
 fn put_ending(out: &mut [u8], at: usize, ending: Ending) -> usize
     requires { ⌜ at + 12 ≤ length (now out) ⌝ }
-    ensures { λ r. ⌜ Wrote (now (out .entry)) at (endText ending) r (now (out .exit)) ⌝ }
+    ensures { λ r. ⌜ WroteBytes (now (out .entry)) at (endText ending) r (now (out .exit)) ⌝ }
     ensures { λ r. ⌜ r ≤ at + 12 ⌝ }
 {
     match ending {
@@ -96,7 +96,7 @@ fn put_ending(out: &mut [u8], at: usize, ending: Ending) -> usize
 
 pub(crate) fn put_end(out: &mut [u8], at: usize, h: Head) -> usize
     requires { ⌜ at + 64 ≤ length (now out) ⌝ }
-    ensures { λ r. ⌜ Wrote (now (out .entry)) at (endLine h) r (now (out .exit)) ⌝ }
+    ensures { λ r. ⌜ WroteBytes (now (out .entry)) at (endLine h) r (now (out .exit)) ⌝ }
     ensures { λ r. ⌜ r ≤ at + 64 ⌝ }
 {
     let ending = h.ending;
@@ -106,7 +106,7 @@ pub(crate) fn put_end(out: &mut [u8], at: usize, h: Head) -> usize
 
 fn put_party(out: &mut [u8], at: usize, party: u32) -> usize
     requires { ⌜ at + 25 ≤ length (now out) ⌝ }
-    ensures { λ r. ⌜ Wrote (now (out .entry)) at (partyText party) r (now (out .exit)) ⌝ }
+    ensures { λ r. ⌜ WroteBytes (now (out .entry)) at (partyText party) r (now (out .exit)) ⌝ }
     ensures { λ r. ⌜ r ≤ at + 25 ⌝ }
 {
     if party == 0 {
@@ -117,7 +117,7 @@ fn put_party(out: &mut [u8], at: usize, party: u32) -> usize
 
 pub(crate) fn put_fill(out: &mut [u8], at: usize, party: u32, price: u32, quantity: u32) -> usize
     requires { ⌜ at + 68 ≤ length (now out) ⌝ }
-    ensures { λ r. ⌜ Wrote (now (out .entry)) at (fillLine (fill party price quantity)) r (now (out .exit)) ⌝ }
+    ensures { λ r. ⌜ WroteBytes (now (out .entry)) at (fillLine (fill party price quantity)) r (now (out .exit)) ⌝ }
     ensures { λ r. ⌜ r ≤ at + 68 ⌝ }
 {
     let p = put_party(out, at, party);
@@ -128,7 +128,7 @@ pub(crate) fn put_fill(out: &mut [u8], at: usize, party: u32, price: u32, quanti
 
 pub(crate) fn put_total(out: &mut [u8], at: usize, n: u64) -> usize
     requires { ⌜ at + 27 ≤ length (now out) ⌝ }
-    ensures { λ r. ⌜ Wrote (now (out .entry)) at (totalLine n) r (now (out .exit)) ⌝ }
+    ensures { λ r. ⌜ WroteBytes (now (out .entry)) at (totalLine n) r (now (out .exit)) ⌝ }
 {
     let w = put_field(out, at, b"TOTAL ", n);
     put_text(out, w, b"\n")

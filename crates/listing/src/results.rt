@@ -7,7 +7,7 @@ ghost use Rattle.share.specs.rules.Fills.{words};
 ghost use Rattle.trade.specs.rules.Trade.{traded};
 ghost use Rattle.fills.specs.rules.Fills.{hasEnded, auctionFills};
 ghost use Rattle.listing.specs.rules.Listing.{fillLines, endLines};
-ghost use Rattle.listing.specs.inside.Code.{Wrote, countIn, fillsIn};
+ghost use Rattle.listing.specs.inside.Code.{WroteBytes, countIn, fillsIn};
 use crate::lines::put_end;
 use crate::lines::put_fill;
 use crate::lines::put_total;
@@ -29,7 +29,7 @@ fn count_of(f: Filled) -> usize
 // A line for each of n fills, three words each.
 fn put_fills(out: &mut [u8], at: usize, words: &[u32], n: usize) -> usize
     requires { ⌜ (n ≤ 130) × (3 * n ≤ length (now words)) × (at + 68 * n ≤ length (now out)) ⌝ }
-    ensures { λ r. ⌜ Wrote (now (out .entry)) at (fillLines (fillsIn n (now (words .entry)))) r (now (out .exit)) ⌝ }
+    ensures { λ r. ⌜ WroteBytes (now (out .entry)) at (fillLines (fillsIn n (now (words .entry)))) r (now (out .exit)) ⌝ }
     ensures { λ r. ⌜ r ≤ at + 68 * n ⌝ }
 {
     let mut w = at;
@@ -59,7 +59,7 @@ fn sum_of(words: &[u32], n: usize) -> u64
 // The end of the listing of an auction that has ended.
 pub(crate) fn put_results(out: &mut [u8], at: usize, a: Auction) -> usize
     requires { ⌜ (hasEnded (a .head) ≡ true) × (at + 8931 ≤ length (now out)) ⌝ }
-    ensures { λ r. ⌜ Wrote (now (out .entry)) at (endLines a) r (now (out .exit)) ⌝ }
+    ensures { λ r. ⌜ WroteBytes (now (out .entry)) at (endLines a) r (now (out .exit)) ⌝ }
 {
     let mut words = [0u32; 390];
     let n = count_of(write_fills(a, &mut words, 0));

@@ -4,11 +4,11 @@ ghost use mathlib.Core.List.{_++_};
 ghost use Prim.Native.Nat.{_+_, _≤_, _<_};
 ghost use lib.ListN.{length};
 ghost use Rattle.listing.specs.rules.Text.{digit, decimal};
-ghost use Rattle.listing.specs.inside.Code.{Wrote};
+ghost use Rattle.listing.specs.inside.Code.{WroteBytes};
 
 pub(crate) fn put_text(out: &mut [u8], at: usize, s: &[u8]) -> usize
     requires { ⌜ at + length (now s) ≤ length (now out) ⌝ }
-    ensures { λ r. ⌜ Wrote (now (out .entry)) at (now (s .entry)) r (now (out .exit)) ⌝ }
+    ensures { λ r. ⌜ WroteBytes (now (out .entry)) at (now (s .entry)) r (now (out .exit)) ⌝ }
 {
     let mut i = 0;
     while i < s.len() {
@@ -58,7 +58,7 @@ fn count_digits(n: u64) -> usize
 // The digits are written from the last on.
 pub(crate) fn put_number(out: &mut [u8], at: usize, n: u64) -> usize
     requires { ⌜ at + 20 ≤ length (now out) ⌝ }
-    ensures { λ r. ⌜ Wrote (now (out .entry)) at (decimal n) r (now (out .exit)) ⌝ }
+    ensures { λ r. ⌜ WroteBytes (now (out .entry)) at (decimal n) r (now (out .exit)) ⌝ }
     ensures { λ r. ⌜ r ≤ at + 20 ⌝ }
 {
     let end = at + count_digits(n);
@@ -76,7 +76,7 @@ pub(crate) fn put_number(out: &mut [u8], at: usize, n: u64) -> usize
 // A text, and a number after it.
 pub(crate) fn put_field(out: &mut [u8], at: usize, s: &[u8], n: u64) -> usize
     requires { ⌜ at + length (now s) + 20 ≤ length (now out) ⌝ }
-    ensures { λ r. ⌜ Wrote (now (out .entry)) at (now (s .entry) ++ decimal n) r (now (out .exit)) ⌝ }
+    ensures { λ r. ⌜ WroteBytes (now (out .entry)) at (now (s .entry) ++ decimal n) r (now (out .exit)) ⌝ }
     ensures { λ r. ⌜ r ≤ at + length (now (s .entry)) + 20 ⌝ }
 {
     let w = put_text(out, at, s);
@@ -86,7 +86,7 @@ pub(crate) fn put_field(out: &mut [u8], at: usize, s: &[u8], n: u64) -> usize
 // A text, and a word after it.
 pub(crate) fn put_word(out: &mut [u8], at: usize, s: &[u8], n: u32) -> usize
     requires { ⌜ at + length (now s) + 20 ≤ length (now out) ⌝ }
-    ensures { λ r. ⌜ Wrote (now (out .entry)) at (now (s .entry) ++ decimal n) r (now (out .exit)) ⌝ }
+    ensures { λ r. ⌜ WroteBytes (now (out .entry)) at (now (s .entry) ++ decimal n) r (now (out .exit)) ⌝ }
     ensures { λ r. ⌜ r ≤ at + length (now (s .entry)) + 20 ⌝ }
 {
     put_field(out, at, s, n as u64)

@@ -45,15 +45,11 @@ mirror-higher x y h k = ap (λ (z : ℕ). 1000000 - z) small ∙ higher
 module _ (o : Order) (k : OrderBounds o) where
   buy : rangeOf (openedBy false o .head) ≡ buyRange o
   unfolding rangeOf boundNow openedBy termsOf quotesOf initiatingOf boundOf tickOf
-  buy = range-is _ _ _ _ (low (ltb (o .size) 50 || bidMark (o .marks))) (high (ltb (o .size) 50))
+  buy = range-is _ _ _ _ (low (ltb (o .size) 50 || bidMark (o .marks))) refl
     where
       low : (b : Bool) → word (max (o .nbb) (o .bb + cond b 1 0)) ≡ max (o .nbb) (o .bb + cond b 1 0)
       low true = omega (arith, k .nbb, k .bb)
       low false = omega (arith, k .nbb, k .bb)
-
-      high : (b : Bool) → cond b (min (min (o .limit) (o .nbo)) (o .bo - 1)) (min (o .limit) (o .nbo)) ≡ min (min (o .limit) (o .nbo)) (cond b (o .bo - 1) (o .limit))
-      high true = refl
-      high false = omega arith
 
   -- the end of a sell's range, with the added cent or without
   abbrev highBy : Bool → ℕ

@@ -26,6 +26,7 @@ use Rattle.trade.specs.rules.Trade as trade
 use Rattle.trade.specs.rules.Trade.{fromCustomer, fromOther, offers, offersAt, working, workingStop, entry, guaranteeOf}
 use Rattle.trade.specs.rules.Write.{reportedPrice}
 use Rattle.trade.proofs.WriteLaws.{sizes-sequence}
+use Rattle.demand.proofs.Lists.{tally-none}
 use Rattle.demand.specs.promises.Demands as demands
 use Rattle.demand.specs.promises.Demands.{Tradable, tally, got, gots, gotBelow, soldBelow, soldAbove}
 use Rattle.auction.specs.rules.Accept.{acceptOf}
@@ -57,13 +58,6 @@ gots-map fs (r ∷ rs) = ap (λ (ns : List ℕ). got (r .sequence) fs ∷ ns) (g
 
 gots-sequence : (fs : List Fill) (rs : List Response) → sum (gots fs (inSequence rs)) ≡ sum (gots fs rs)
 gots-sequence fs rs = ap sum (gots-map fs (inSequence rs)) ∙ ordering .sums-stay (λ r. got (r .sequence) fs) rs ∙ ap sum (sym (gots-map fs rs))
-
-none-tally : (t : Fill → Bool) (fs : List Fill) → Every (λ f. t f ≡ false) fs → tally t fs ≡ 0
-none-tally t [] n = refl
-none-tally t (f ∷ fs) n = rw (n .0) (omega (arith, none-tally t fs (n .1)))
-
-max-right : (a b : ℕ) → b ≤ max a b
-max-right a b = omega arith
 
 module _ (o : Order) (es : List Event) (h : acceptOf o .answer ≡ Accepted) where
   abbrev sell : Bool
@@ -166,7 +160,7 @@ module _ (o : Order) (es : List Event) (h : acceptOf o .answer ≡ Accepted) whe
         sym (tally-shown sell (λ f. better sell real (f .price)) (λ f. ltb q (f .price)) (dealt o es h)
         (every-map (λ f. f .price ≤ 1000000) (λ f. better sell real (reportedPrice sell (f .price)) ≡ ltb q (f .price)) (dealt o es h) (λ f z. better-shown sell q (f .price) fits z) (prices-fit o es h)))
         ∙ sym (ap (tally (λ f. better sell real (f .price))) (written-is o es h))
-        ∙ none-tally (λ f. better sell real (f .price)) (writtenFills o es) n
+        ∙ tally-none (λ f. better sell real (f .price)) (writtenFills o es) n
 
     -- the Contra Order takes part from the stop or limit on
     from-entry : d .bound ≤ q → (o .mode ≢ 2 → better sell real (o .stop) ≡ false) → entry d ≤ q
@@ -256,5 +250,5 @@ module _ (o : Order) (es : List Event) (h : acceptOf o .answer ≡ Accepted) whe
   guaranteed-last =
       as-sent Last
       (λ x m c z s n t.
-      let g = demand o es h .guaranteed x m c (from-entry (working d x) z (max-right (x .price) (d .bound)) s) (none-above (working d x) z n) (subst (λ (n : ℕ). 0 < n) (got-is o es h (x .sequence)) t) in
+      let g = demand o es h .guaranteed x m c (from-entry (working d x) z (omega arith) s) (none-above (working d x) z n) (subst (λ (n : ℕ). 0 < n) (got-is o es h (x .sequence)) t) in
       omega (arith, g, guarantee-is, got-is o es h 0))

@@ -11,7 +11,7 @@ use Rattle.base.specs.Lists.{Every, keep, filter, Inserts, Shuffles}
 use Rattle.base.specs.Lists.Inserts.{here, there}
 use Rattle.base.specs.Lists.Shuffles.{none, more}
 use Rattle.base.proofs.Bools.{no, and-both, and-no-left, and-no-right}
-use Rattle.base.proofs.ListLaws.{inserts-fail, filter-all}
+use Rattle.base.proofs.ListLaws.{inserts-fail, inserts-map, shuffles-filter, filter-all}
 use Rattle.board.specs.declared.Board.{Board}
 use Rattle.board.specs.declared.Response.{Response}
 use Rattle.board.specs.rules.Board.{responseAt, isLive, liveOf, seatedAt, cleared, findGtx, isGtx}
@@ -43,31 +43,6 @@ use Rattle.promise.specs.rules.Sides.{isSell, otherSide, better, initiat
 use Rattle.promise.proofs.Opening.{initiating-is}
 use Rattle.promise.proofs.RealLaws.{better-shown, board-is, there-is}
 use Rattle.promise.proofs.Resent.{terms-sell, terms-size, sent-price, sent-is, others-apart, found-is}
-
--- ---- lists in some order
-
-inserts-map : {A B : Type 0} (f : A → B) {r : A} {xs ys : List A} → Inserts r xs ys → Inserts (f r) (map f xs) (map f ys)
-inserts-map f here = here
-inserts-map f (there i) = there (inserts-map f i)
-
--- a filter that r passes
-inserts-pass : {A : Type 0} (t : A → Bool) {r : A} {xs ys : List A} → t r ≡ true → Inserts r xs ys → Inserts r (filter t xs) (filter t ys)
-unfolding filter
-inserts-pass t e here = rw e here
-inserts-pass {A} t {r} e (there {x = x} {xs = xs} {ys = ys} i) = go (t x) (inserts-pass t e i)
-  where
-    go : (b : Bool) → Inserts r (filter t xs) (filter t ys) → Inserts r (keep b x (filter t xs)) (keep b x (filter t ys))
-    go true j = there j
-    go false j = j
-
-shuffles-filter : {A : Type 0} (t : A → Bool) {xs ys : List A} → Shuffles xs ys → Shuffles (filter t xs) (filter t ys)
-unfolding filter
-shuffles-filter t none = none
-shuffles-filter {A} t (more {x = x} {xs = xs} {ys = ys} {zs = zs} s i) = go (t x) refl (shuffles-filter t s)
-  where
-    go : (b : Bool) → t x ≡ b → Shuffles (filter t xs) (filter t ys) → Shuffles (keep b x (filter t xs)) (filter t zs)
-    go true z ih = more ih (inserts-pass t z i)
-    go false z ih = subst (Shuffles (filter t xs)) (sym (inserts-fail t z i)) ih
 
 -- ---- a limit order takes a place where the buy's event does
 

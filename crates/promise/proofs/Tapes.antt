@@ -18,7 +18,7 @@ use Rattle.tape.specs.declared.event.Event.{Event}
 use Rattle.tape.specs.declared.trailer.Trailer.{Trailer}
 use Rattle.tape.specs.declared.trailer.Opened.the-variants.{Tape}
 use Rattle.tape.proofs.HoldsLaws.{event-stands, recorded}
-use Rattle.roundtrip.specs.rules.Whole.{tapeWith, ownBytes, orderBytes, recordsBytes}
+use Rattle.tape.specs.rules.Whole.{tapeWith, ownBytes, orderBytes, recordsBytes}
 use Rattle.roundtrip.specs.promises.Demands.{AnyRecords, MadeOf}
 use Rattle.roundtrip.proofs.RoundTrip.{order-formed, event-length, event-said}
 use Rattle.roundtrip.proofs.Whole.{Long, tape-long, tape-bytes, own-bytes, order-bytes, records-bytes, any-records, made-of}

@@ -19,7 +19,7 @@ use Rattle.tape.specs.declared.trailer.Opened.the-variants.{Tape}
 use Rattle.tape.specs.rules.Form.{orderFormed, eventFormed}
 use Rattle.tape.specs.rules.Records.{withRecord, orderWords, eventWords, trailerWords, orderWrote, eventWrote, trailerWrote, readOrder, readEvent, recordAt}
 use Rattle.tape.specs.rules.Tape.{lengthOf, openTape, eventPlace, orderIn, recordIn, recordsFrom, recordsOf, trailerFor, eventsBytes, tapeOf, wroteEvents, wroteTape}
-use Rattle.roundtrip.specs.rules.Whole.{together, tapeWith, ownBytes, orderBytes, recordsBytes}
+use Rattle.tape.specs.rules.Whole.{together, tapeWith, ownBytes, orderBytes, recordsBytes}
 use Rattle.roundtrip.specs.promises.Demands.{Word, AllFormed, none, more, Tapeable, TapeBack, AnyRecords, MadeOf, Demands}
 use Rattle.tape.proofs.HoldsLaws.{event-stands, records-more, recorded, holds}
 use Rattle.roundtrip.proofs.RoundTrip.{wrote-is, order-length, order-written, order-formed, order-read, event-length, event-written, event-read, trailer-length, values-back, bytes-back, refusals-keep}

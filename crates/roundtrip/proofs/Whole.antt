@@ -16,7 +16,7 @@ use Rattle.tape.specs.declared.trailer.ReadTrailer.the-variants.{Trailer as Got
 use Rattle.tape.specs.declared.trailer.Opened.the-variants.{Tape}
 use Rattle.tape.specs.rules.Records.{trailerWords, readOrder, recordAt, readTrailer}
 use Rattle.tape.specs.rules.Tape.{lengthOf, openTape, eventPlace, orderIn, recordIn, recordsFrom, recordsOf, trailerFor}
-use Rattle.roundtrip.specs.rules.Whole.{together, parts, inPlace, tapeWith, ownBytes, orderBytes, recordsBytes}
+use Rattle.tape.specs.rules.Whole.{together, parts, inPlace, tapeWith, ownBytes, orderBytes, recordsBytes}
 use Rattle.roundtrip.specs.promises.Demands.{Fitting, AnyRecords, MadeOf}
 use Rattle.tape.proofs.RecordLaws.{order-alone, record-alone}
 use Rattle.tape.proofs.HoldsLaws.{records-none, records-more, tape-took}

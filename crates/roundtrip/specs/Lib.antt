@@ -1,3 +1,2 @@
 -- What is promised of the records of a tape, and of whole tapes, beyond each function's own contract.
-pub mod rules
 pub mod promises

@@ -3,3 +3,4 @@ pub mod Form
 pub mod Fields
 pub mod Records
 pub mod Tape
+pub mod Whole

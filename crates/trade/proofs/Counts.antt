@@ -15,7 +15,7 @@ use Rattle.share.specs.rules.Share.{inTurn}
 use Rattle.share.specs.rules.Fills.{Fill, fillOf, fillsBy, sizes}
 use Rattle.trade.specs.declared.Deal.{Deal}
 use Rattle.trade.specs.rules.Trade.{fromCustomer, fromOther, Level, customers, others, given, contra, levelFills, traded, flat, working, top, next, offersAt, levelAt, walk, marketPrice, marketTakes, marketFill, levels, fills}
-use Rattle.trade.proofs.Walk.{next-some, next-above, walk-zero, walk-none, walk-past, walk-some}
+use Rattle.trade.proofs.Walk.{next-some, next-above, walk-zero, walk-none, walk-past, walk-some, price-at}
 
 keep-split : (os : List Response) → length (filter fromCustomer os) + length (filter fromOther os) ≡ length os
 unfolding filter
@@ -99,10 +99,6 @@ module _ (d : Deal) (rs : List Response) where
   unfolding levelAt offersAt
   peopled from left held h = next-some d from rs h
 
-  price-is : (p left held : ℕ) → levelAt d rs p left held .price ≡ p
-  unfolding levelAt
-  price-is p left held = refl
-
   -- any walk: each level below the last price has a response of its own
   pub walk-short : (n from left held : ℕ) → length (flat (walk d rs n from left held)) ≤ 2 * fromOn d rs from + 1
   walk-short zero from left held = rw (walk-zero d rs from left held) (omega arith)
@@ -122,7 +118,7 @@ module _ (d : Deal) (rs : List Response) where
 
       last : (b : Bool) → leb (top d) p ≡ b → from ≤ p → length (flat ls) ≤ 2 * fromOn d rs (p + 1) + 1 → length (flat (l ∷ ls)) ≤ 2 * fromOn d rs from + 1
       last true e h ih =
-          let z : length (flat ls) ≡ 0 = ap (λ (x : List Level). length (flat x)) (walk-past d rs n (l .price + 1) _ _ (omega (arith, leb-true (top d) p e, price-is p left held))) in
+          let z : length (flat ls) ≡ 0 = ap (λ (x : List Level). length (flat x)) (walk-past d rs n (l .price + 1) _ _ (omega (arith, leb-true (top d) p e, price-at d rs p left held))) in
           omega (arith, both, here-and-after from p left held h)
       last false e h ih = omega (arith, both, here-and-after from p left held h, peopled from left held (leb-false (top d) p e))
 
@@ -134,7 +130,7 @@ module _ (d : Deal) (rs : List Response) where
           let h : left ≢ 0 = eqb-false left 0 e in
           let k : from ≤ top d = leb-true from (top d) f in
           let z : length (flat ls) ≤ 2 * fromOn d rs (p + 1) + 1 =
-          omega (arith, ih (l .price + 1) (left - traded (levelFills l)) (held + contra l), ap (λ (x : ℕ). fromOn d rs (x + 1)) (price-is p left held)) in
+          omega (arith, ih (l .price + 1) (left - traded (levelFills l)) (held + contra l), ap (λ (x : ℕ). fromOn d rs (x + 1)) (price-at d rs p left held)) in
           rw (walk-some d rs n from left held (omega arith) k) (last (leb (top d) p) refl (next-above d from k rs) z)
 
   pub fills-short : length rs ≤ 64 → length (fills d rs) ≤ 130

@@ -23,16 +23,12 @@ use Rattle.trade.specs.rules.Plan.{Plan}
 use Rattle.trade.specs.rules.Trade.{Level, contra, levelFills, traded, working, top, next, guarantee, offersAt, levelAt, walk, marketTakes, levels}
 use Rattle.trade.specs.inside.Code.{worksAt, leastOf, levelOf, walkFrom}
 use Rattle.trade.proofs.PlanLaws.{plan-is}
-use Rattle.trade.proofs.Walk.{next-above, next-top, next-least, walk-none, walk-past, walk-some}
+use Rattle.trade.proofs.Walk.{next-above, next-top, next-least, walk-none, walk-past, walk-some, price-at}
 use Rattle.trade.proofs.WriteLaws.{fold-sequence}
 
 -- ---- the walk without fuel
 
 module _ (d : Deal) (rs : List Response) where
-  price-at : (p left held : ℕ) → levelAt d rs p left held .price ≡ p
-  unfolding levelAt
-  price-at p left held = refl
-
   fuel : (n m from left held : ℕ) → top d < from + n → top d < from + m → walk d rs n from left held ≡ walk d rs m from left held
   fuel zero m from left held h k = walk-past d rs 0 from left held (omega arith) ∙ sym (walk-past d rs m from left held (omega arith))
   fuel (suc n) zero from left held h k = walk-past d rs (suc n) from left held (omega arith) ∙ sym (walk-past d rs 0 from left held (omega arith))
@@ -49,7 +45,7 @@ module _ (d : Deal) (rs : List Response) where
           let z : left ≢ 0 = eqb-false left 0 e in
           let y : from ≤ top d = leb-true from (top d) f in
           let l = levelAt d rs (next d from rs) left held in
-          let q : from ≤ l .price = rw (price-at (next d from rs) left held) (next-above d from y rs) in
+          let q : from ≤ l .price = rw (price-at d rs (next d from rs) left held) (next-above d from y rs) in
           walk-some d rs n from left held (omega arith) y
           ∙ ap {B = List Level} (λ ls. l ∷ ls) (ih (l .price + 1) (left - traded (levelFills l)) (held + contra l) (omega arith) (omega arith))
           ∙ sym (walk-some d rs m from left held (omega arith) y)
@@ -65,7 +61,7 @@ module _ (d : Deal) (rs : List Response) where
       let p = next d from rs in
       let q : from ≤ p = next-above d from h rs in
       let e : suc (top d) - from ≡ suc (top d - from) = omega arith in
-      let x : l .price ≡ p = price-at p left held in
+      let x : l .price ≡ p = price-at d rs p left held in
       ap (λ n. walk d rs n from left held) e
       ∙ walk-some d rs (top d - from) from left held z h
       ∙ ap {B = List Level} (λ ls. l ∷ ls)

@@ -103,3 +103,8 @@ module _ (d : Deal) (rs : List Response) where
       ∷ walk d rs n (levelAt d rs (next d from rs) left held .price + 1) (left - traded (levelFills (levelAt d rs (next d from rs) left held))) (held + contra (levelAt d rs (next d from rs) left held))
   unfolding walk
   walk-some n from left held z h = rw (ne-eqb left 0 (omega arith), le-ltb (top d) from h, walk)
+
+-- a level has the price that it is at
+pub price-at : (d : Deal) (rs : List Response) (p left held : ℕ) → levelAt d rs p left held .price ≡ p
+unfolding levelAt
+price-at d rs p left held = refl

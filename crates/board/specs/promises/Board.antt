@@ -3,11 +3,10 @@ use mathlib.Core.Path.{_≡_}
 use mathlib.Core.Bool.{Bool, true, false}
 use mathlib.Core.List.{List, [], _∷_, map}
 use Prim.Native.Nat.{ℕ, suc, _+_, _^_, _≤_, _<_}
+use lib.Dec.{eqb}
 use lib.ListN.{length}
-use Rattle.words.specs.rules.Bits.{bitAt, withoutBit}
 use Rattle.base.specs.Lists.{filter, sum, Inserts, Shuffles}
-use Rattle.board.specs.rules.Board.{responseAt, emptyBoard, isLive, liveCount, firstFree, liveIn, liveOf, seatedAt, cleared, findGtx, inSequence}
-use Rattle.board.specs.inside.Places.{wordOf, bears, firstInSequence}
+use Rattle.board.specs.rules.Board.{responseAt, emptyBoard, isLive, liveCount, firstFree, liveOf, seatedAt, cleared, findGtx, inSequence}
 use Rattle.board.specs.declared.Response.{Response}
 use Rattle.board.specs.declared.Board.{Board}
 
@@ -95,28 +94,13 @@ abbrev pub RisingFrom : ℕ → List Response → Type 0
 RisingFrom m [] = Unit {0}
 RisingFrom m (r ∷ rs) = (m ≤ r .sequence) × RisingFrom (r .sequence) rs
 
--- of the places whose bit in w is set, k has the lowest sequence, and no lower place has the same
-pub record Earliest (ps : List Response) (w k : ℕ) : Type 0 where
-  pub set : bitAt w k ≡ true
-  pub least : (j : ℕ) → j < length ps → bitAt w j ≡ true → responseAt ps k .sequence ≤ responseAt ps j .sequence
-  pub lowest : (j : ℕ) → j < k → bitAt w j ≡ true → responseAt ps k .sequence < responseAt ps j .sequence
-
 -- the order in which responses of one price trade
 pub record Ordering : Type 0 where
   -- the same responses, rising; those of one sequence in the order that they had
   pub shuffles : (xs : List Response) → Shuffles xs (inSequence xs)
   pub rises : (xs : List Response) → RisingFrom 0 (inSequence xs)
-  pub stable : (s : ℕ) (xs : List Response) → filter (bears s) (inSequence xs) ≡ filter (bears s) xs
+  pub stable : (s : ℕ) (xs : List Response) → filter (λ r. eqb (r .sequence) s) (inSequence xs) ≡ filter (λ r. eqb (r .sequence) s) xs
   pub length-stays : (xs : List Response) → length (inSequence xs) ≡ length xs
   pub sums-stay : (f : Response → ℕ) (xs : List Response) → sum (map f (inSequence xs)) ≡ sum (map f xs)
   -- any filter goes through
   pub filters : (t : Response → Bool) (xs : List Response) → filter t (inSequence xs) ≡ inSequence (filter t xs)
-  -- the first place is the earliest, the only such place, and there is one where the word is not 0
-  pub earliest : (ps : List Response) (w : ℕ) → firstInSequence ps w < length ps → Earliest ps w (firstInSequence ps w)
-  pub only : (ps : List Response) (w k : ℕ) → k < length ps → Earliest ps w k → firstInSequence ps w ≡ k
-  pub some : (ps : List Response) (w : ℕ) → 0 < w → w < 2 ^ length ps → firstInSequence ps w < length ps
-  pub none : (ps : List Response) → firstInSequence ps 0 ≡ length ps
-  -- it comes first of the live ones in order, and the rest after it
-  pub takes : (ps : List Response) (w k : ℕ) → k ≡ firstInSequence ps w → k < length ps → inSequence (liveIn w ps) ≡ responseAt ps k ∷ inSequence (liveIn (withoutBit w k) ps)
-  -- the word of those that pass a test has those of the live ones that pass it
-  pub word : (t : Response → Bool) (w : ℕ) (ps : List Response) → liveIn (wordOf t w ps) ps ≡ filter t (liveIn w ps)

@@ -11,7 +11,7 @@ use Rattle.events.specs.declared.Sight.{Sight}
 use Rattle.tape.specs.declared.event.Event.{Event}
 use mathlib.Core.List.{List, []}
 use Rattle.listing.specs.rules.Listing.{eventLines}
-use Rattle.listing.specs.inside.Code.{Left}
+use Rattle.listing.specs.inside.Code.{LeftBytes}
 use Rattle.listing.proofs.WroteLaws.{wrote-same, left-start, left-wrote, left-same, left-done}
 use Rattle.listing.proofs.RunLaws.{whole, closed-whole, seat-set, seat-past, seat-free, seat-none, rest, rest-none, rest-all, events-turn, run-turn}
 use Rattle.listing.proofs.put_events.Statement.{statement}
@@ -20,7 +20,7 @@ use Rattle.listing.proofs.put_events.Tie as tie
 abbrev Inv-loop : tie.InvT-loop
 Inv-loop tape t out₀ start n b₀ h₀ w₀ k₀ out b h w k =
     (k ≤ n) × (length out ≡ length out₀) × (w ≤ start + 56 * k) × (n ≡ t .events)
-    × Left out₀ start (eventLines (heard (whole h₀ b₀) (rest tape t 0))) out w (eventLines (heard (whole h b) (rest tape t k)))
+    × LeftBytes out₀ start (eventLines (heard (whole h₀ b₀) (rest tape t 0))) out w (eventLines (heard (whole h b) (rest tape t k)))
     × (run (whole h b) (rest tape t k) ≡ run (whole h₀ b₀) (rest tape t 0))
 
 abbrev μ-loop : tie.MeasureT-loop

@@ -15,7 +15,7 @@ use Rattle.trade.specs.rules.Plan.{Plan, planOf}
 use Rattle.trade.specs.rules.Trade.{fromCustomer, fromOther, guaranteeOf, workingStop}
 use Rattle.trade.specs.rules.Write.{reportedPrice}
 use Rattle.demand.specs.promises.Demands.{tally}
-use Rattle.auction.specs.rules.Accept.{acceptOf, bidMark, offerMark}
+use Rattle.auction.specs.rules.Accept.{acceptOf, initiatingOf, tickOf, firstBound, offerMark}
 use Rattle.auction.specs.rules.Range.{rangeOf}
 use Rattle.auction.specs.declared.Auction.{Auction}
 use Rattle.auction.specs.declared.Range.{Range}
@@ -45,24 +45,16 @@ responses a = map (sent (a .head .terms .sell)) (liveOf (a .board))
 
 -- ---- the opening range, by the order's own fields
 
--- under 50 contracts, or a Customer at the best bid (of a sell: the best offer), the bound is a cent away from it
-abbrev pub cent : Order → Bool → ℕ
-cent o mark = cond (ltb (o .size) 50 || mark) 1 0
-
--- a buy: from the higher of NBB and BB + t to the lower of limit and NBO, under 50 contracts also of BO - 1
+-- a buy: from its bound to its initiating price
 abbrev pub buyRange : Order → Range
-buyRange o =
-    record {
-      low = max (o .nbb) (o .bb + cent o (bidMark (o .marks)));
-      high = min (min (o .limit) (o .nbo)) (cond (ltb (o .size) 50) (o .bo - 1) (o .limit));
-    }
+buyRange o = record { low = firstBound o; high = initiatingOf o }
 
--- a sell: from the higher of limit and NBB, under 50 contracts also of BB + 1, to the lower of NBO and BO - t
+-- a sell: from the higher of limit and NBB, under 50 contracts also of BB + 1, to the lower of NBO and BO - t, where a Customer at BO counts
 abbrev pub sellRange : Order → Range
 sellRange o =
     record {
       low = max (max (o .limit) (o .nbb)) (cond (ltb (o .size) 50) (o .bb + 1) (o .limit));
-      high = min (o .nbo) (o .bo - cent o (offerMark (o .marks)));
+      high = min (o .nbo) (o .bo - tickOf (o .size) (offerMark (o .marks)));
     }
 
 -- ---- what the records leave standing

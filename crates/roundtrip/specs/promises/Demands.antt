@@ -9,7 +9,7 @@ use Rattle.words.specs.rules.Bytes.{AllBytes}
 use Rattle.tape.specs.rules.Form.{orderFormed, eventFormed}
 use Rattle.tape.specs.rules.Records.{readOrder, orderAnswer, orderWrote, readEvent, recordAt, eventAnswer, eventWrote, readTrailer, trailerAnswer, trailerWrote}
 use Rattle.tape.specs.rules.Tape.{lengthOf, openTape, eventPlace, orderIn, recordsOf, tapeOf, wroteTape, trailerFor}
-use Rattle.roundtrip.specs.rules.Whole.{tapeWith, ownBytes, orderBytes, recordsBytes}
+use Rattle.tape.specs.rules.Whole.{tapeWith, ownBytes, orderBytes, recordsBytes}
 use Rattle.tape.specs.promises.Holds.{Holds, Recorded}
 use Rattle.tape.specs.declared.order.Order.{Order}
 use Rattle.tape.specs.declared.event.Event.{Event}

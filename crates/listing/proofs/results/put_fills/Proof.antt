@@ -6,14 +6,14 @@ use lib.ListN.{length}
 use borrow.Author.Needs.{needs}
 use Rattle.listing.specs.rules.Listing.{fillLines}
 use Rattle.listing.proofs.WroteLaws.{left-start, left-wrote, left-same, left-done}
-use Rattle.listing.specs.inside.Code.{Left}
+use Rattle.listing.specs.inside.Code.{LeftBytes}
 use Rattle.listing.proofs.FillLaws.{fillsFrom, fills-all, fills-more, fills-none}
 use Rattle.listing.proofs.results.put_fills.Statement.{statement}
 use Rattle.listing.proofs.results.put_fills.Tie as tie
 use Rattle.listing.specs.inside.Code.{fillsIn}
 
 abbrev Inv-loop : tie.InvT-loop
-Inv-loop out₀ at words n w₀ i₀ out w i = (i ≤ n) × (length out ≡ length out₀) × (w ≤ at + 68 * i) × Left out₀ at (fillLines (fillsIn n words)) out w (fillLines (fillsFrom n words i))
+Inv-loop out₀ at words n w₀ i₀ out w i = (i ≤ n) × (length out ≡ length out₀) × (w ≤ at + 68 * i) × LeftBytes out₀ at (fillLines (fillsIn n words)) out w (fillLines (fillsFrom n words i))
 
 abbrev μ-loop : tie.MeasureT-loop
 μ-loop out₀ at words n w₀ i₀ out w i = n - i

@@ -1,12 +1,12 @@
 use mathlib.Core.Path.{refl}
 use native.Mathlib.Omega.{arith}
 use borrow.Author.Needs.{needs}
-use Rattle.listing.proofs.DecimalLaws.{Left, left-turn, left-some, left-last}
+use Rattle.listing.proofs.DecimalLaws.{DigitsLeft, left-turn, left-some, left-last}
 use Rattle.listing.proofs.text.put_number.Statement.{statement}
 use Rattle.listing.proofs.text.put_number.Tie as tie
 
 abbrev Inv-loop : tie.InvT-loop
-Inv-loop out₀ at n end w₀ rest₀ out w rest = Left out₀ at n out w rest
+Inv-loop out₀ at n end w₀ rest₀ out w rest = DigitsLeft out₀ at n out w rest
 
 abbrev μ-loop : tie.MeasureT-loop
 μ-loop out₀ at n end w₀ rest₀ out w rest = rest

@@ -1,2 +1,0 @@
--- A whole tape, by its bytes.
-pub mod Whole
