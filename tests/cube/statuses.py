@@ -103,7 +103,8 @@ class Statuses(Case):
 
     def test_interrupted(self):
         for words in (["make"], ["show"], ["list", "--names", "-"], []):
-            process = subprocess.Popen([CUBE] + words, stdin=subprocess.PIPE, stdout=subprocess.PIPE, stderr=subprocess.PIPE)
+            # a run in the background ignores interrupts, and so would what it starts
+            process = subprocess.Popen([CUBE] + words, stdin=subprocess.PIPE, stdout=subprocess.PIPE, stderr=subprocess.PIPE, preexec_fn=lambda: signal.signal(signal.SIGINT, signal.SIG_DFL))
             time.sleep(1)
             process.send_signal(signal.SIGINT)
             made = process.communicate()
