@@ -189,11 +189,14 @@ seated-alike b x y k = (k .answer, ap (λ (h : Head). record { head = h; board =
 record-sight : (b : Board) (e : Event) → sightOf b (mirroredRecord e) ≡ sightOf b e
 record-sight b e = by (λ (x : Event). sightOf b x ≡ sightOf b e) (eventFormed e) _ _ (λ _. sight-same b e) (λ _. refl)
 
+steps-by : (s : Sight) (a : Auction) (e : Event) → (stepBy s (flipped a) (mirroredRecord e) .answer ≡ stepBy s a e .answer) × (stepBy s (flipped a) (mirroredRecord e) .auction ≡ flipped (stepBy s a e .auction))
+steps-by s a e = seated-alike (a .board) (turnOf (flippedHead (a .head)) s (mirroredRecord e)) (turnOf (a .head) s e) (turns (a .head) s e)
+
+-- under the auction's own sight
 steps : (a : Auction) (e : Event) → (stepOf (flipped a) (mirroredRecord e) .answer ≡ stepOf a e .answer) × (stepOf (flipped a) (mirroredRecord e) .auction ≡ flipped (stepOf a e .auction))
 steps a e =
     subst (λ (v : Sight). (stepBy v (flipped a) (mirroredRecord e) .answer ≡ stepOf a e .answer) × (stepBy v (flipped a) (mirroredRecord e) .auction ≡ flipped (stepOf a e .auction)))
-    (sym (record-sight (a .board) e))
-    (seated-alike (a .board) (turnOf (flippedHead (a .head)) (sightOf (a .board) e) (mirroredRecord e)) (turnOf (a .head) (sightOf (a .board) e) e) (turns (a .head) (sightOf (a .board) e) e))
+    (sym (record-sight (a .board) e)) (steps-by (sightOf (a .board) e) a e)
 
 closes : (a : Auction) → (closeOf (flipped a) .answer ≡ closeOf a .answer) × (closeOf (flipped a) .auction ≡ flipped (closeOf a .auction))
 unfolding closeTurn
@@ -314,7 +317,8 @@ mirrors =
     record {
       accepts = order-answers;
       opens = opens;
-      steps = steps;
+      sees = record-sight;
+      steps = steps-by;
       closes = closes;
       plays = plays;
       hears = hears;

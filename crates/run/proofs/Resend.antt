@@ -182,7 +182,7 @@ order-numbers o n =
     (λ h z. let q : orderRefusal o ≡ n = cc in let s : orderRefusal o ≡ 0 → ⊥ = eqb-false _ _ h in (omega (arith, s), omega (arith, order-most o)))
 
 pub keeps : Keeps
-keeps = record { refused = refused-stays; not-closed = closed-stays; order-numbers = order-numbers; event-numbers = event-numbers; rises = rises; ended = ended-refuses; ended-close = ended-stays }
+keeps = record { refused = refused-stays; not-closed = closed-stays; order-numbers = order-numbers; event-numbers = event-numbers; taken = taken-is; old = old-refused; rises = rises; ended = ended-refuses; ended-close = ended-stays }
 
 -- ---- the sequences of the events taken rise, so no two are the same
 

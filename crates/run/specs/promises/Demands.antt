@@ -53,6 +53,9 @@ pub record Keeps : Type 0 where
   -- orders are refused by 1 to 12 alone, events by 31 to 38 alone
   pub order-numbers : (o : Order) (n : ℕ) → acceptOf o .answer ≡ NotAccepted n → (1 ≤ n) × (n ≤ 12)
   pub event-numbers : (s : Sight) (a : Auction) (e : Event) (n : ℕ) → stepBy s a e .answer ≡ Refused n → (31 ≤ n) × (n ≤ 38)
+  -- one that is taken is in form, and moves the highest sequence up to its own; one with a sequence that is not above it is refused, whatever else it says: 31 once ended; else 32 where it is out of form, and 33
+  pub taken : (s : Sight) (a : Auction) (e : Event) → isTaken (stepBy s a e .answer) ≡ true → (eventFormed e ≡ true) × (a .head .sequence < e .sequence) × (stepBy s a e .auction .head .sequence ≡ e .sequence)
+  pub old : (s : Sight) (a : Auction) (e : Event) → e .sequence ≤ a .head .sequence → stepBy s a e ≡ gives (Refused (cond (isOpen (a .head .ending)) (cond (eventFormed e) 33 32) 31)) a
   -- the highest sequence never falls
   pub rises : (s : Sight) (a : Auction) (e : Event) → a .head .sequence ≤ stepBy s a e .auction .head .sequence
   -- an ended auction never changes again, and answers 31 to all
@@ -190,8 +193,9 @@ pub record Mirrors : Type 0 where
   -- the mirrored order is answered alike, and opens the same auction for the other side
   pub accepts : (o : Order) → orderFormed o ≡ true → acceptOf (mirroredOrder o) .answer ≡ acceptOf o .answer
   pub opens : (o : Order) → acceptOf o .answer ≡ Accepted → acceptOf (mirroredOrder o) .auction ≡ flipped (acceptOf o .auction)
-  -- mirrored records are answered alike, and do the same
-  pub steps : (a : Auction) (e : Event) → (stepOf (flipped a) (mirroredRecord e) .answer ≡ stepOf a e .answer) × (stepOf (flipped a) (mirroredRecord e) .auction ≡ flipped (stepOf a e .auction))
+  -- mirrored records see the same of the board; under any sight of it they are answered alike, and do the same
+  pub sees : (b : Board) (e : Event) → sightOf b (mirroredRecord e) ≡ sightOf b e
+  pub steps : (s : Sight) (a : Auction) (e : Event) → (stepBy s (flipped a) (mirroredRecord e) .answer ≡ stepBy s a e .answer) × (stepBy s (flipped a) (mirroredRecord e) .auction ≡ flipped (stepBy s a e .auction))
   pub closes : (a : Auction) → (closeOf (flipped a) .answer ≡ closeOf a .answer) × (closeOf (flipped a) .auction ≡ flipped (closeOf a .auction))
   -- so a whole auction is the mirror
   pub plays : (o : Order) (es : List Event) → acceptOf o .answer ≡ Accepted → played (mirroredOrder o) (mirroredRecords es) ≡ flipped (played o es)
