@@ -1,5 +1,6 @@
 // A tape's bytes from an open file, and whether every read went well. What a file holds no contract can say.
 ghost use mathlib.Core.Path.{_≡_};
+ghost use Prim.Native.Nat.{_≤_};
 ghost use Rattle.io.specs.Counts.{Counts};
 
 // One byte more than a tape may have, so that a longer input is refused.
@@ -17,9 +18,15 @@ fn number(e: i32) -> u64 {
     if e > 0 { e as u64 } else { 0 }
 }
 
-// The system's number for why the last call failed.
-pub fn last_error() -> u64 {
-    number(os::errno())
+// The system's number for why the last call failed. Which one no contract can say; the system's are 1 to 4,095, and any other is 0 here.
+pub fn last_error() -> u64
+    ensures { λ r. ⌜ r ≤ 4095 ⌝ }
+{
+    let n = number(os::errno());
+    if n <= 4095 {
+        return n;
+    }
+    0
 }
 
 // What a read that moved nothing says: the input's end, or a failure.
