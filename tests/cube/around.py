@@ -62,7 +62,7 @@ class Around(Case):
         with open(os.path.join(ROOT, "README.md")) as f:
             readme = f.read()
         for command in cli.COMMANDS:
-            self.assertIn("| `cube %s" % command.NAME, readme)
+            self.assertIn("- `cube %s" % command.NAME, readme)
         for status in cli.STATUSES:
             self.assertIn(" ".join(status.split()), " ".join(readme.split()))
 
