@@ -110,6 +110,16 @@ struct peer_event build_quotes(uint32_t seq, uint32_t time, uint32_t nbb, uint32
     return e;
 }
 
+struct peer_event build_amend(uint32_t seq, uint32_t time, uint32_t which, uint32_t size, uint32_t price)
+{
+    struct peer_event e = event(seq, time, PEER_AMEND, 0, 0);
+
+    e.field[0] = which;
+    e.field[1] = size;
+    e.field[2] = price;
+    return e;
+}
+
 static uint32_t turn(uint32_t p) { return 1000000 - p; }
 
 struct peer_order build_turn_order(struct peer_order o)
@@ -135,6 +145,8 @@ struct peer_event build_turn_event(struct peer_event e)
         m.side = 3 - e.side;
     if (e.kind == 1 || e.kind == 3)
         m.field[1] = turn(e.field[1]);
+    if (e.kind == 6)
+        m.field[2] = turn(e.field[2]);
     if (e.kind == 5) {
         m.field[0] = turn(e.field[1]);
         m.field[1] = turn(e.field[0]);

@@ -16,6 +16,9 @@ struct peer_event build_limit(uint32_t seq, uint32_t time, uint32_t side, uint32
 struct peer_event build_market(uint32_t seq, uint32_t time, uint32_t side, uint32_t size, uint32_t marks);
 struct peer_event build_quotes(uint32_t seq, uint32_t time, uint32_t nbb, uint32_t nbo, uint32_t bb, uint32_t bo, uint32_t marks);
 
+/* Names a live GTX, and gives it a new size and price. */
+struct peer_event build_amend(uint32_t seq, uint32_t time, uint32_t which, uint32_t size, uint32_t price);
+
 /* A record in form turned to the other side; made apart from the engine. */
 struct peer_order build_turn_order(struct peer_order o);
 struct peer_event build_turn_event(struct peer_event e);

@@ -30,9 +30,96 @@ static int read_tape_file(const char *dir, long i, unsigned char *out, size_t *n
 }
 
 /* ------------------------------------------------------------------ */
+/* What the records and their answers tell                            */
+
+/* Prices as of a buy, so that lower is better for the order. */
+static uint32_t as_buy(const struct peer_auction *a, uint32_t p) { return a->sell ? PEER_MIRROR - p : p; }
+
+static struct peer_event record(const unsigned char *events, int i)
+{
+    struct peer_event e;
+
+    peer_read_event(events + PEER_EVENT_BYTES * i, &e);
+    return e;
+}
+
+static int applied(int answer) { return answer == PEER_TAKEN || answer == PEER_ENDED; }
+
+/* Size and price, where the kind has them. */
+static uint32_t size_of(const struct peer_event *e) { return e->field[e->kind == PEER_AMEND ? 1 : 0]; }
+static uint32_t price_of(const struct peer_event *e) { return e->field[e->kind == PEER_AMEND ? 2 : 1]; }
+
+/* The place on the tape of the record applied under a sequence, or -1. */
+static int place_of(const struct peer_run *r, uint32_t seq)
+{
+    int i;
+
+    for (i = 0; i < r->n_events; i++)
+        if (r->event[i].seq == seq && applied(r->event[i].answer))
+            return i;
+    return -1;
+}
+
+/* The live responses, as a fold of the records: 1 and 3 add one, 2 takes one
+ * away, 6 takes one away and adds one. */
+struct fold {
+    struct peer_response live[PEER_PLACES];
+    int n;
+};
+
+/* Where the GTX of that name stands, or -1. */
+static int named(const struct fold *f, uint32_t seq)
+{
+    int i;
+
+    for (i = 0; i < f->n; i++)
+        if (f->live[i].seq == seq && f->live[i].gtx)
+            return i;
+    return -1;
+}
+
+/* Does it have to be placed, if it is applied? */
+static int needs_place(const struct peer_auction *start, const struct peer_event *e)
+{
+    uint32_t opposite = start->sell ? PEER_BUY : PEER_SELL;
+
+    return (e->kind == PEER_GTX || e->kind == PEER_LIMIT) && e->side == opposite &&
+           as_buy(start, price_of(e)) <= start->init;
+}
+
+static void fold_record(struct fold *f, const struct peer_auction *start, const struct peer_event *e, int answer)
+{
+    int customer = (e->marks & PEER_CUSTOMER) != 0;
+    struct peer_response *r;
+
+    if (!applied(answer))
+        return;
+    if (e->kind == PEER_CANCEL || e->kind == PEER_AMEND) {
+        int k = named(f, e->field[0]);
+
+        if (k < 0)
+            return;
+        customer = f->live[k].customer;
+        f->n--;
+        memmove(&f->live[k], &f->live[k + 1], (size_t)(f->n - k) * sizeof f->live[0]);
+    }
+    if ((e->kind != PEER_AMEND && !needs_place(start, e)) || f->n == PEER_PLACES)
+        return;
+    r = &f->live[f->n++];
+    r->seq = e->seq;
+    r->size = size_of(e);
+    r->price = as_buy(start, price_of(e));
+    r->customer = customer;
+    r->gtx = e->kind != PEER_LIMIT;
+    if (r->gtx && r->size > start->order.size)
+        r->size = start->order.size;
+}
+
+/* ------------------------------------------------------------------ */
 /* stats                                                              */
 
 #define NUMBERS 39
+#define COLUMNS 6                           /* buy and sell, each in modes 1, 2, 3 */
 
 enum cause {
     TIME_LATE, TIME_CLOSE, SAME_LIMIT, SAME_MARKET, OPP_LIMIT, OPP_MARKET, IMPROVE_BID, IMPROVE_QUOTES, CAUSES
@@ -43,14 +130,71 @@ static const char *const cause_name[CAUSES] = {
     "opposite, limit", "opposite, market", "improve, bid", "improve, quotes"
 };
 
-/* Which kind of ending a run had. */
-static int cause_of(const struct peer_run *r, const unsigned char *events)
+/* What comes up with amends. */
+enum amend {
+    AMEND_TAKEN, AMEND_32, AMEND_33, AMEND_36, AMEND_36_OF_NONE, AMEND_37, AMEND_LATE, AMEND_FULL, AMEND_CUSTOMER,
+    AMEND_CHAIN, AMEND_CAPPED, AMEND_TOP, AMEND_UNDER, AMEND_OLD_NAME, AMEND_TRADES, AMENDS
+};
+
+static const char *const amend_name[AMENDS] = {
+    "amend taken", "amend 32", "amend 33", "amend 36", "amend 36, no such GTX", "amend 37", "amend late",
+    "amend, 64 live", "amend of a Customer", "amend of an amend", "amend capped", "amend at the top",
+    "amend under the bound", "amend of an old name", "amended one trades"
+};
+
+/* Counts one record of kind 6; the fold is of those before it. */
+static void count_amend(long cell[AMENDS][COLUMNS], int column, const struct peer_run *r, const unsigned char *events,
+                        const struct fold *f, int i)
 {
-    struct peer_event e;
+    struct peer_event e = record(events, i);
+    int answer = r->event[i].answer, k = named(f, e.field[0]), made = place_of(r, e.field[0]);
+    uint32_t price = as_buy(&r->start, price_of(&e)), old = made >= 0 && made < i ? record(events, made).kind : 0;
+
+    cell[AMEND_32][column] += answer == 32;
+    cell[AMEND_33][column] += answer == 33;
+    cell[AMEND_36][column] += answer == 36;
+    cell[AMEND_36_OF_NONE][column] += answer == 36 && k < 0;
+    cell[AMEND_37][column] += answer == 37;
+    cell[AMEND_OLD_NAME][column] += answer == 37 && (old == PEER_GTX || old == PEER_AMEND);
+    cell[AMEND_LATE][column] += answer == PEER_LATE;
+    if (answer != PEER_TAKEN || k < 0)
+        return;
+    cell[AMEND_TAKEN][column]++;
+    cell[AMEND_FULL][column] += f->n == PEER_PLACES;
+    cell[AMEND_CUSTOMER][column] += f->live[k].customer;
+    cell[AMEND_CHAIN][column] += old == PEER_AMEND;
+    cell[AMEND_CAPPED][column] += size_of(&e) > r->start.order.size;
+    cell[AMEND_TOP][column] += price == r->start.init;
+    cell[AMEND_UNDER][column] += price < peer_bound(&r->start);
+}
+
+static void count_amends(long cell[AMENDS][COLUMNS], int column, const struct peer_run *r, const unsigned char *events)
+{
+    struct fold f = { .n = 0 };
     int i;
 
     for (i = 0; i < r->n_events; i++) {
-        peer_read_event(events + PEER_EVENT_BYTES * i, &e);
+        struct peer_event e = record(events, i);
+
+        if (e.kind == PEER_AMEND)
+            count_amend(cell, column, r, events, &f, i);
+        fold_record(&f, &r->start, &e, r->event[i].answer);
+    }
+    for (i = 0; i < r->n_fills; i++) {
+        int made = place_of(r, r->fill[i].party);
+
+        cell[AMEND_TRADES][column] += made >= 0 && record(events, made).kind == PEER_AMEND;
+    }
+}
+
+/* Which kind of ending a run had. */
+static int cause_of(const struct peer_run *r, const unsigned char *events)
+{
+    int i;
+
+    for (i = 0; i < r->n_events; i++) {
+        struct peer_event e = record(events, i);
+
         if (r->event[i].answer == PEER_LATE)
             return TIME_LATE;
         if (r->event[i].answer != PEER_ENDED)
@@ -64,28 +208,40 @@ static int cause_of(const struct peer_run *r, const unsigned char *events)
     return TIME_CLOSE;
 }
 
-/* One row of six columns: buy and sell, each in modes 1, 2, 3. */
 static void print_row(const char *name, const long *cell)
 {
     int k;
     long sum = 0;
 
-    for (k = 0; k < 6; k++)
+    for (k = 0; k < COLUMNS; k++)
         sum += cell[k];
     printf("%-22s %7ld |", name, sum);
-    for (k = 0; k < 6; k++)
+    for (k = 0; k < COLUMNS; k++)
         printf(" %6ld", cell[k]);
     printf("\n");
+}
+
+/* Names the columns of a row that are empty and gives their count; one mode may be left out. */
+static long print_missing(const char *name, const long *cell, int but_mode)
+{
+    int k;
+    long missing = 0;
+
+    for (k = 0; k < COLUMNS; k++)
+        if (cell[k] == 0 && k % 3 + 1 != but_mode && ++missing)
+            printf("MISSING %s on %s in mode %d\n", name, k < 3 ? "buy" : "sell", k % 3 + 1);
+    return missing;
 }
 
 int stats(const char *dir)
 {
     static unsigned char tape[PEER_TAPE_MAX + 1];
     static struct peer_run r;
-    static long number[NUMBERS][6], ending[CAUSES][6], full_end[6], only_one[6], none[6], many_prices[6];
+    static long number[NUMBERS][COLUMNS], ending[CAUSES][COLUMNS], amend[AMENDS][COLUMNS];
+    static long full_end[COLUMNS], only_one[COLUMNS], none[COLUMNS], many_prices[COLUMNS];
     static const int bucket_low[] = { 1, 2, 3, 4, 6, 10, 20, 40, 64, 100, 129, 130 };
     enum { BUCKETS = sizeof bucket_low / sizeof bucket_low[0] };
-    static long bucket[BUCKETS][6];
+    static long bucket[BUCKETS][COLUMNS];
     long tapes, accepted = 0, refused_tape[NUMBERS] = { 0 }, missing = 0, some_refused = 0;
     size_t n, at, events;
     int i, k;
@@ -116,6 +272,7 @@ int stats(const char *dir)
         }
         some_refused += seen;
         ending[cause_of(&r, tape + at + PEER_ORDER_BYTES)][column]++;
+        count_amends(amend, column, &r, tape + at + PEER_ORDER_BYTES);
         full_end[column] += r.end.n_live == PEER_PLACES;
         only_one[column] += r.end.n_live == 1;
         none[column] += r.end.n_live == 0;
@@ -141,6 +298,9 @@ int stats(const char *dir)
     for (i = 0; i < CAUSES; i++)
         print_row(cause_name[i], ending[i]);
     printf("\n");
+    for (i = 0; i < AMENDS; i++)
+        print_row(amend_name[i], amend[i]);
+    printf("\n");
     print_row("64 live at the end", full_end);
     print_row("one live at the end", only_one);
     print_row("none live at the end", none);
@@ -159,17 +319,14 @@ int stats(const char *dir)
     for (i = 1; i < NUMBERS; i++) {
         if (i > 12 && i < 31)
             continue;
-        for (k = 0; k < 6; k++)
-            if (number[i][k] == 0 && !(i == 11 && k % 3 == 1) && ++missing)
-                printf("MISSING number %d on %s in mode %d\n", i, k < 3 ? "buy" : "sell", k % 3 + 1);
+        sprintf(name, "number %d", i);
+        missing += print_missing(name, number[i], i == 11 ? PEER_MATCH : 0);
     }
     for (i = 0; i < CAUSES; i++)
-        for (k = 0; k < 6; k++)
-            if (ending[i][k] == 0 && ++missing)
-                printf("MISSING ending %s on %s in mode %d\n", cause_name[i], k < 3 ? "buy" : "sell", k % 3 + 1);
-    for (k = 0; k < 6; k++)
-        if (full_end[k] == 0 && ++missing)
-            printf("MISSING 64 live on %s in mode %d\n", k < 3 ? "buy" : "sell", k % 3 + 1);
+        missing += print_missing(cause_name[i], ending[i], 0);
+    for (i = 0; i < AMENDS; i++)
+        missing += print_missing(amend_name[i], amend[i], 0);
+    missing += print_missing("64 live at the end", full_end, 0);
     printf(missing ? "%ld cells missing\n" : "nothing missing\n", missing);
     return missing != 0;
 }
@@ -185,18 +342,18 @@ static void fault(const char *what)
     printf("tape %05ld: %s\n", current, what);
 }
 
-/* Prices as of a buy, so that lower is better for the order. */
-static uint32_t as_buy(const struct peer_auction *a, uint32_t p) { return a->sell ? PEER_MIRROR - p : p; }
-
 static uint32_t working(const struct peer_response *r, uint32_t bound) { return r->price > bound ? r->price : bound; }
 
-/* What must hold of the fills, said without walking the prices. */
-static void check_fills(const struct peer_run *r)
+/* What must hold of the fills, said without walking the prices; the live
+ * responses are those that the records tell. */
+static void check_fills(const struct peer_run *r, const struct fold *told)
 {
     const struct peer_auction *a = &r->end;
+    const struct peer_response *live = told->live;
+    int n_live = told->n;
     uint32_t bound = peer_bound(a), stop = a->order.stop > bound ? a->order.stop : bound;
     uint32_t got[PEER_PLACES] = { 0 }, contra = 0, market = 0, top = 0;
-    uint32_t guarantee = a->order.size * (a->n_live == 1 ? 5 : 4) / 10;
+    uint32_t guarantee = a->order.size * (n_live == 1 ? 5 : 4) / 10;
     uint64_t total = 0;
     int customer_of[PEER_FILLS_MAX], walked_others_at_top = 0;
     int i, j, k;
@@ -239,15 +396,15 @@ static void check_fills(const struct peer_run *r)
                 fault("the market order is not first");
             continue;
         }
-        for (k = 0; k < a->n_live && a->live[k].seq != f->party; k++)
+        for (k = 0; k < n_live && live[k].seq != f->party; k++)
             ;
-        if (k == a->n_live) {
+        if (k == n_live) {
             fault("a party that is not live");
             continue;
         }
         got[k] += f->quantity;
-        customer_of[i] = a->live[k].customer;
-        if (price != working(&a->live[k], bound))
+        customer_of[i] = live[k].customer;
+        if (price != working(&live[k], bound))
             fault("a response away from its working price");
         if (price > top)
             top = price;
@@ -257,29 +414,29 @@ static void check_fills(const struct peer_run *r)
         fault("fills don't add up");
     if (market > a->market_size || (a->market_size > 0 && market < a->market_size && market != a->order.size))
         fault("the market order's quantity");
-    for (k = 0; k < a->n_live; k++) {
-        uint32_t w = working(&a->live[k], bound);
+    for (k = 0; k < n_live; k++) {
+        uint32_t w = working(&live[k], bound);
 
-        if (got[k] > a->live[k].size)
+        if (got[k] > live[k].size)
             fault("more than its size");
-        if (a->live[k].gtx && a->live[k].size > a->order.size)
+        if (live[k].gtx && live[k].size > a->order.size)
             fault("a GTX not capped");
-        if (got[k] < a->live[k].size && w < top)
+        if (got[k] < live[k].size && w < top)
             fault("a better response is not filled");
-        for (j = 0; j < a->n_live; j++) {
-            if (working(&a->live[j], bound) != w)
+        for (j = 0; j < n_live; j++) {
+            if (working(&live[j], bound) != w)
                 continue;
-            if (!a->live[k].customer && got[k] > 0 && a->live[j].customer && got[j] < a->live[j].size)
+            if (!live[k].customer && got[k] > 0 && live[j].customer && got[j] < live[j].size)
                 fault("a Customer is behind another");
-            if (a->live[k].customer && a->live[j].customer && a->live[k].seq < a->live[j].seq && got[j] > 0 &&
-                got[k] < a->live[k].size)
+            if (live[k].customer && live[j].customer && live[k].seq < live[j].seq && got[j] > 0 &&
+                got[k] < live[k].size)
                 fault("Customers out of sequence");
             /* pro rata: a larger or equal size that is earlier gets no less */
-            if (!a->live[k].customer && !a->live[j].customer && a->live[k].size >= a->live[j].size &&
-                a->live[k].seq < a->live[j].seq && got[k] < got[j])
+            if (!live[k].customer && !live[j].customer && live[k].size >= live[j].size &&
+                live[k].seq < live[j].seq && got[k] < got[j])
                 fault("shares out of proportion");
         }
-        if (!a->live[k].customer && got[k] > 0 && w == top)
+        if (!live[k].customer && got[k] > 0 && w == top)
             walked_others_at_top = 1;
     }
 
@@ -344,17 +501,32 @@ static void check_mirror(const struct peer_run *r, const unsigned char *tape, si
             fault("the mirror fills otherwise");
 }
 
-/* Answers that must agree with each other along a tape. */
-static void check_answers(const struct peer_run *r, const unsigned char *events)
+/* The number 35 to 38 that a record in time has to get, or 0. */
+static int number_due(const struct fold *f, const struct peer_auction *start, const struct peer_event *e)
 {
-    struct peer_event e;
+    uint32_t own = start->sell ? PEER_SELL : PEER_BUY;
+
+    if (e->kind == PEER_GTX && e->side == own)
+        return 35;
+    if ((e->kind == PEER_GTX || e->kind == PEER_AMEND) && as_buy(start, price_of(e)) > start->init)
+        return 36;
+    if ((e->kind == PEER_CANCEL || e->kind == PEER_AMEND) && named(f, e->field[0]) < 0)
+        return 37;
+    return needs_place(start, e) && f->n == PEER_PLACES ? 38 : 0;
+}
+
+/* Answers that must agree with each other along a tape; gives the live
+ * responses that the records tell. */
+static struct fold check_answers(const struct peer_run *r, const unsigned char *events)
+{
+    struct fold f = { .n = 0 };
     uint32_t top = 0, clock = 0;
     int i, over = 0;
 
     for (i = 0; i < r->n_events; i++) {
+        struct peer_event e = record(events, i);
         int answer = r->event[i].answer;
 
-        peer_read_event(events + PEER_EVENT_BYTES * i, &e);
         if (over != (answer == 31))
             fault("31 before the ending, or not after it");
         if (over)
@@ -375,13 +547,77 @@ static void check_answers(const struct peer_run *r, const unsigned char *events)
             fault("late and the interval differ");
         if (answer == PEER_LATE || answer == PEER_ENDED)
             over = 1;
-        if (answer == PEER_TAKEN || answer == PEER_ENDED) {
+        if (answer == PEER_LATE)
+            continue;
+        if ((applied(answer) ? 0 : answer) != number_due(&f, &r->start, &e))
+            fault("not the number of 35 to 38 that is due");
+        if (answer == PEER_ENDED && (e.kind == PEER_GTX || e.kind == PEER_CANCEL || e.kind == PEER_AMEND))
+            fault("ended by a kind that ends nothing");
+        fold_record(&f, &r->start, &e, answer);
+        if (applied(answer)) {
             top = e.seq;
             clock = e.time;
         }
     }
     if (!over && r->end.ending != PEER_BY_TIME)
         fault("closed by hand, but not by time");
+    return f;
+}
+
+/* The engine's live responses are those that the records tell. */
+static void check_live(const struct peer_auction *a, const struct fold *f)
+{
+    int i, k;
+
+    if (a->n_live != f->n)
+        fault("the count of live responses");
+    for (i = 0; i < a->n_live; i++) {
+        const struct peer_response *x = &a->live[i];
+
+        for (k = 0; k < f->n && f->live[k].seq != x->seq; k++)
+            ;
+        if (k == f->n || f->live[k].size != x->size || f->live[k].price != x->price ||
+            f->live[k].customer != x->customer || f->live[k].gtx != x->gtx)
+            fault("a live response that the records don't tell");
+    }
+}
+
+/* Each party's own record, without the fold: it was applied, nothing took it
+ * away or amended it later, and it trades within its size and price. */
+static void check_parties(const struct peer_run *r, const unsigned char *events)
+{
+    int i, j;
+
+    for (i = 0; i < r->n_fills; i++) {
+        const struct peer_fill *f = &r->fill[i];
+        int made = place_of(r, f->party);
+        uint64_t sum = 0;
+        struct peer_event e;
+
+        if (f->party == 0)
+            continue;
+        if (made < 0) {
+            fault("a party without a record");
+            continue;
+        }
+        e = record(events, made);
+        if (e.kind == PEER_CANCEL || e.kind == PEER_QUOTES)
+            fault("a party of a kind that can't trade");
+        for (j = 0; j < r->n_fills; j++)
+            if (r->fill[j].party == f->party)
+                sum += r->fill[j].quantity;
+        if (sum > size_of(&e) || sum > r->start.order.size)
+            fault("more than its record's size");
+        if (e.kind != PEER_MARKET && as_buy(&r->start, f->price) < as_buy(&r->start, price_of(&e)))
+            fault("beyond its record's price");
+        for (j = made + 1; j < r->n_events; j++) {
+            if (!applied(r->event[j].answer))
+                continue;
+            e = record(events, j);
+            if ((e.kind == PEER_CANCEL || e.kind == PEER_AMEND) && e.field[0] == f->party)
+                fault("an old name trades");
+        }
+    }
 }
 
 int check(const char *dir)
@@ -389,6 +625,7 @@ int check(const char *dir)
     static unsigned char tape[PEER_TAPE_MAX + 1];
     static struct peer_run r;
     static char out[PEER_LISTING_MAX];
+    struct fold told;
     size_t n, at, events;
     long accepted = 0;
     int most = 0;
@@ -403,8 +640,10 @@ int check(const char *dir)
         peer_read_tape(tape, n, &at, &events);
         if (r.n_fills > most)
             most = r.n_fills;
-        check_fills(&r);
-        check_answers(&r, tape + at + PEER_ORDER_BYTES);
+        told = check_answers(&r, tape + at + PEER_ORDER_BYTES);
+        check_live(&r.end, &told);
+        check_fills(&r, &told);
+        check_parties(&r, tape + at + PEER_ORDER_BYTES);
         check_mirror(&r, tape, at);
     }
     printf("checked %ld tapes, %ld accepted, most fills %d, faults %ld\n", current, accepted, most, faults);

@@ -1,5 +1,5 @@
 /* figures.c: the document's figures a to k and its listing, on both sides,
- * and other listings worked out by hand from its sentences.
+ * and other listings worked out by hand from its sentences and from W-201.
  *
  * Each case is one tape, and the listing that the document's words give it.
  * Its mirror is made here, apart from the engine, and checked as well.
@@ -89,6 +89,7 @@ static void figure(const char *name, struct peer_order o, const struct peer_even
 
 #define SELL_GTX(seq, size, price) build_gtx(seq, 20, PEER_SELL, size, price, 0)
 #define BID(seq, size, price) build_limit(seq, 20, PEER_BUY, size, price, 0)
+#define AMEND(seq, which, size, price) build_amend(seq, 20, which, size, price)
 
 /* The document's figures. */
 static void figures(void)
@@ -204,13 +205,25 @@ static void figures(void)
     figure("k, time 4,000", o, e, 0, "REFUSED 5\n");
 }
 
+/* An auction of 100 and 64 GTX of 1 at 109, sequences 1 to 64: gives the text's end. */
+static char *full_board(struct peer_event *e, char *text)
+{
+    int i;
+
+    text += sprintf(text, "AUCTION buy size 100 range 100 to 110\n");
+    for (i = 0; i < PEER_PLACES; i++) {
+        e[i] = SELL_GTX((uint32_t)i + 1, 1, 109);
+        text += sprintf(text, "EVENT %d taken\n", i + 1);
+    }
+    return text;
+}
+
 /* Sentences of the document, worked out by hand. */
 static void readings(void)
 {
     struct peer_event e[100];
     struct peer_order o;
     char text[4096], *p;
-    int i;
 
     e[0] = SELL_GTX(1, 10, 95);
     figure("a response below the bound works at the bound", buy(100, 1, 110, 108), e, 1,
@@ -293,11 +306,7 @@ static void readings(void)
            "END improve range 100 to 105\n"
            "FILL contra 105 100\nTOTAL 100\n");
 
-    p = text + sprintf(text, "AUCTION buy size 100 range 100 to 110\n");
-    for (i = 0; i < 64; i++) {
-        e[i] = SELL_GTX((uint32_t)i + 1, 1, 109);
-        p += sprintf(p, "EVENT %d taken\n", i + 1);
-    }
+    p = full_board(e, text);
     e[64] = SELL_GTX(65, 1, 109);
     e[65] = build_limit(66, 20, PEER_SELL, 1, 100, 0);
     e[66] = build_limit(67, 20, PEER_SELL, 1, 111, 0);
@@ -390,6 +399,265 @@ static void readings(void)
            "FILL contra 110 100\nTOTAL 100\n");
 }
 
+/* W-201, worked out by hand. In a buy of 100 with quotes 100/110 the range is
+ * 100 to 110, and G is 40, or 50 against one response. */
+static void amends(void)
+{
+    struct peer_event e[100];
+    char text[4096], *p;
+    int i;
+
+    /* 30 at 105 is gone; only 20 at 106 trades, and under the new name. */
+    e[0] = SELL_GTX(1, 30, 105);
+    e[1] = AMEND(2, 1, 20, 106);
+    figure("an amended GTX trades once, at its latest size and price", buy(100, 1, 110, 108), e, 2,
+           "AUCTION buy size 100 range 100 to 110\n"
+           "EVENT 1 taken\nEVENT 2 taken\n"
+           "END time range 100 to 110\n"
+           "FILL 2 106 20\nFILL contra 108 80\nTOTAL 100\n");
+
+    /* Three amends in a row leave one response, so G is 50: 50 and 50. */
+    e[0] = SELL_GTX(1, 10, 105);
+    e[1] = AMEND(2, 1, 20, 106);
+    e[2] = AMEND(3, 2, 30, 107);
+    e[3] = AMEND(4, 3, 100, 108);
+    figure("an amend of an amend is one live response", buy(100, 1, 110, 108), e, 4,
+           "AUCTION buy size 100 range 100 to 110\n"
+           "EVENT 1 taken\nEVENT 2 taken\nEVENT 3 taken\nEVENT 4 taken\n"
+           "END time range 100 to 110\n"
+           "FILL contra 108 50\nFILL 4 108 50\nTOTAL 100\n");
+
+    /* A is 10, and 100 exceeds 20: 10 and 10, the rest at 110. With the old
+     * 60 counted too, 105 would be clean-up. */
+    e[0] = SELL_GTX(1, 60, 105);
+    e[1] = AMEND(2, 1, 10, 105);
+    figure("the size at a price counts an amended response once", buy(100, 2, 110, 0), e, 2,
+           "AUCTION buy size 100 range 100 to 110\n"
+           "EVENT 1 taken\nEVENT 2 taken\n"
+           "END time range 100 to 110\n"
+           "FILL contra 105 10\nFILL 2 105 10\nFILL contra 110 80\nTOTAL 100\n");
+
+    /* The Customer's 70 come first, Contra gets the 30 left of its 40. */
+    e[0] = build_gtx(1, 20, PEER_SELL, 30, 105, PEER_CUSTOMER);
+    e[1] = SELL_GTX(2, 30, 108);
+    e[2] = AMEND(3, 1, 70, 108);
+    figure("a Customer's amend keeps the mark", buy(100, 1, 110, 108), e, 3,
+           "AUCTION buy size 100 range 100 to 110\n"
+           "EVENT 1 taken\nEVENT 2 taken\nEVENT 3 taken\n"
+           "END time range 100 to 110\n"
+           "FILL 3 108 70\nFILL contra 108 30\nTOTAL 100\n");
+
+    /* The Customer's 30, Contra's 40, and the 30 left for the other. */
+    e[0] = SELL_GTX(1, 30, 105);
+    e[1] = build_gtx(2, 20, PEER_SELL, 30, 108, PEER_CUSTOMER);
+    figure("an amend of another gets no mark", buy(100, 1, 110, 108), e, 3,
+           "AUCTION buy size 100 range 100 to 110\n"
+           "EVENT 1 taken\nEVENT 2 taken\nEVENT 3 taken\n"
+           "END time range 100 to 110\n"
+           "FILL 2 108 30\nFILL contra 108 40\nFILL 3 108 30\nTOTAL 100\n");
+
+    /* Case b, then its first response amended to what it was: whole parts
+     * 19, 19, 20 of 60, and the two leftovers go to sequences 2 and 3. */
+    e[0] = SELL_GTX(1, 31, 108);
+    e[1] = SELL_GTX(2, 30, 108);
+    e[2] = SELL_GTX(3, 30, 108);
+    e[3] = AMEND(4, 1, 31, 108);
+    figure("leftovers go by the amend's sequence", buy(100, 1, 110, 108), e, 4,
+           "AUCTION buy size 100 range 100 to 110\n"
+           "EVENT 1 taken\nEVENT 2 taken\nEVENT 3 taken\nEVENT 4 taken\n"
+           "END time range 100 to 110\n"
+           "FILL contra 108 40\nFILL 2 108 20\nFILL 3 108 20\nFILL 4 108 20\nTOTAL 100\n");
+
+    /* 60 over 40 and 41: 29 and 30, and the leftover goes to sequence 2. With
+     * the old rank it would be 29 and 31. */
+    e[0] = SELL_GTX(1, 50, 108);
+    e[1] = SELL_GTX(2, 40, 108);
+    e[2] = AMEND(3, 1, 41, 108);
+    figure("a smaller size loses its rank too", buy(100, 1, 110, 108), e, 3,
+           "AUCTION buy size 100 range 100 to 110\n"
+           "EVENT 1 taken\nEVENT 2 taken\nEVENT 3 taken\n"
+           "END time range 100 to 110\n"
+           "FILL contra 108 40\nFILL 2 108 30\nFILL 3 108 30\nTOTAL 100\n");
+
+    /* Customers by sequence: 60 to 2, and the 40 left to 3, once 1. */
+    e[0] = build_gtx(1, 20, PEER_SELL, 60, 105, PEER_CUSTOMER);
+    e[1] = build_gtx(2, 20, PEER_SELL, 60, 105, PEER_CUSTOMER);
+    e[2] = AMEND(3, 1, 60, 105);
+    figure("Customers go by the amend's sequence", buy(100, 1, 110, 108), e, 3,
+           "AUCTION buy size 100 range 100 to 110\n"
+           "EVENT 1 taken\nEVENT 2 taken\nEVENT 3 taken\n"
+           "END time range 100 to 110\n"
+           "FILL 2 105 60\nFILL 3 105 40\nTOTAL 100\n");
+
+    /* 111 is 36, whether the name is live or not; 110 is taken. There the 10
+     * fit beside Contra's 50, and the rest is Contra's too. */
+    e[0] = SELL_GTX(1, 10, 105);
+    e[1] = AMEND(2, 1, 10, 111);
+    e[2] = AMEND(3, 9, 10, 111);
+    e[3] = AMEND(4, 9, 10, 110);
+    e[4] = AMEND(5, 1, 10, 110);
+    figure("36 above the initiating price, before 37", buy(100, 2, 110, 0), e, 5,
+           "AUCTION buy size 100 range 100 to 110\n"
+           "EVENT 1 taken\nEVENT 2 refused 36\nEVENT 3 refused 36\nEVENT 4 refused 37\nEVENT 5 taken\n"
+           "END time range 100 to 110\n"
+           "FILL contra 110 90\nFILL 5 110 10\nTOTAL 100\n");
+
+    /* Under 50 the initiating price is BO - 1 = 109; G is 5 against one
+     * response, and Contra gets the 2 left over. */
+    e[0] = SELL_GTX(1, 3, 105);
+    e[1] = AMEND(2, 1, 3, 110);
+    e[2] = AMEND(3, 1, 3, 109);
+    figure("36 above a small order's initiating price", buy(10, 2, 110, 0), e, 3,
+           "AUCTION buy size 10 range 101 to 109\n"
+           "EVENT 1 taken\nEVENT 2 refused 36\nEVENT 3 taken\n"
+           "END time range 101 to 109\n"
+           "FILL contra 109 7\nFILL 3 109 3\nTOTAL 10\n");
+
+    /* 95 is below the NBB, and the auction goes on; it works at the bound, 100. */
+    e[0] = SELL_GTX(1, 10, 105);
+    e[1] = AMEND(2, 1, 10, 95);
+    e[2] = SELL_GTX(3, 10, 107);
+    figure("an amend below the bound ends nothing", buy(100, 1, 110, 108), e, 3,
+           "AUCTION buy size 100 range 100 to 110\n"
+           "EVENT 1 taken\nEVENT 2 taken\nEVENT 3 taken\n"
+           "END time range 100 to 110\n"
+           "FILL 2 100 10\nFILL 3 107 10\nFILL contra 108 80\nTOTAL 100\n");
+
+    /* 1 is no name after event 2, and 2 none after event 6. */
+    e[0] = SELL_GTX(1, 10, 105);
+    e[1] = AMEND(2, 1, 10, 106);
+    e[2] = build_cancel(3, 20, 1);
+    e[3] = AMEND(4, 1, 10, 106);
+    e[4] = AMEND(5, 5, 10, 106);
+    e[5] = build_cancel(6, 20, 2);
+    e[6] = AMEND(7, 2, 10, 106);
+    figure("old names and its own are 37, the new name is live", buy(100, 1, 110, 108), e, 7,
+           "AUCTION buy size 100 range 100 to 110\n"
+           "EVENT 1 taken\nEVENT 2 taken\nEVENT 3 refused 37\nEVENT 4 refused 37\nEVENT 5 refused 37\n"
+           "EVENT 6 taken\nEVENT 7 refused 37\n"
+           "END time range 100 to 110\n"
+           "FILL contra 108 100\nTOTAL 100\n");
+
+    /* Neither comes back: both sequences are at most 2, the highest taken. */
+    e[2] = e[0];
+    e[3] = e[1];
+    figure("a resend of the original or the amend", buy(100, 1, 110, 108), e, 4,
+           "AUCTION buy size 100 range 100 to 110\n"
+           "EVENT 1 taken\nEVENT 2 taken\nEVENT 1 refused 33\nEVENT 2 refused 33\n"
+           "END time range 100 to 110\n"
+           "FILL 2 106 10\nFILL contra 108 90\nTOTAL 100\n");
+
+    /* The limit order stays at 105; field 12 may hold any number. */
+    e[0] = build_limit(1, 20, PEER_SELL, 10, 105, 0);
+    e[1] = AMEND(2, 1, 20, 106);
+    e[2] = AMEND(3, 0, 20, 106);
+    e[3] = AMEND(4, UINT32_MAX, 20, 106);
+    figure("no amend of a limit order, nor of any odd number", buy(100, 1, 110, 108), e, 4,
+           "AUCTION buy size 100 range 100 to 110\n"
+           "EVENT 1 taken\nEVENT 2 refused 37\nEVENT 3 refused 37\nEVENT 4 refused 37\n"
+           "END time range 100 to 110\n"
+           "FILL 1 105 10\nFILL contra 108 90\nTOTAL 100\n");
+
+    /* The count stays 64, so a GTX is still 38 after any amend; only a cancel
+     * makes room. Those at 109 are above the stop. */
+    p = full_board(e, text);
+    e[64] = AMEND(65, 7, 2, 105);
+    e[65] = SELL_GTX(66, 1, 109);
+    e[66] = AMEND(67, 7, 2, 105);
+    e[67] = AMEND(68, 65, 3, 106);
+    e[68] = SELL_GTX(69, 1, 109);
+    e[69] = build_cancel(70, 20, 68);
+    e[70] = SELL_GTX(71, 4, 107);
+    e[71] = AMEND(72, 71, 5, 107);
+    e[72] = SELL_GTX(73, 1, 109);
+    p += sprintf(p, "EVENT 65 taken\nEVENT 66 refused 38\nEVENT 67 refused 37\nEVENT 68 taken\nEVENT 69 refused 38\n");
+    p += sprintf(p, "EVENT 70 taken\nEVENT 71 taken\nEVENT 72 taken\nEVENT 73 refused 38\n");
+    p += sprintf(p, "END time range 100 to 110\nFILL 72 107 5\nFILL contra 108 95\nTOTAL 100\n");
+    figure("amends on a full board", buy(100, 1, 110, 108), e, 73, text);
+
+    /* L is 100: at 99 it is taken, at 100 the old response stands. */
+    e[0] = SELL_GTX(1, 30, 105);
+    e[1] = build_amend(2, 99, 1, 50, 104);
+    figure("an amend at the last millisecond", buy(100, 1, 110, 108), e, 2,
+           "AUCTION buy size 100 range 100 to 110\n"
+           "EVENT 1 taken\nEVENT 2 taken\n"
+           "END time range 100 to 110\n"
+           "FILL 2 104 50\nFILL contra 108 50\nTOTAL 100\n");
+    e[1] = build_amend(2, 100, 1, 50, 104);
+    e[2] = build_amend(3, 100, 1, 50, 104);
+    figure("a late amend leaves the old response", buy(100, 1, 110, 108), e, 3,
+           "AUCTION buy size 100 range 100 to 110\n"
+           "EVENT 1 taken\nEVENT 2 late\nEVENT 3 refused 31\n"
+           "END time range 100 to 110\n"
+           "FILL 1 105 30\nFILL contra 108 70\nTOTAL 100\n");
+    e[1] = build_amend(2, 100, 9, 50, 111);
+    figure("late before 36 and 37", buy(100, 1, 110, 108), e, 2,
+           "AUCTION buy size 100 range 100 to 110\n"
+           "EVENT 1 taken\nEVENT 2 late\n"
+           "END time range 100 to 110\n"
+           "FILL 1 105 30\nFILL contra 108 70\nTOTAL 100\n");
+
+    /* Capped at 10: 6 over 10 and 10 is 3 and 3. Over 10 and 100 it would be 1 and 5. */
+    e[0] = SELL_GTX(1, 1, 105);
+    e[1] = build_limit(2, 20, PEER_SELL, 10, 105, 0);
+    e[2] = AMEND(3, 1, 100, 105);
+    figure("an amend is capped", buy(10, 1, 110, 105), e, 3,
+           "AUCTION buy size 10 range 101 to 109\n"
+           "EVENT 1 taken\nEVENT 2 taken\nEVENT 3 taken\n"
+           "END time range 101 to 109\n"
+           "FILL contra 105 4\nFILL 2 105 3\nFILL 3 105 3\nTOTAL 10\n");
+
+    /* The lowest working price is 106 now. Of 150 left 20 and 20 are matched. */
+    e[0] = SELL_GTX(1, 20, 101);
+    e[1] = AMEND(2, 1, 20, 106);
+    e[2] = build_market(3, 20, PEER_SELL, 50, 0);
+    figure("a market order after an amend", buy(200, 2, 110, 0), e, 3,
+           "AUCTION buy size 200 range 100 to 110\n"
+           "EVENT 1 taken\nEVENT 2 taken\nEVENT 3 ended\n"
+           "END opposite range 100 to 110\n"
+           "FILL 3 106 50\nFILL contra 106 20\nFILL 2 106 20\nFILL contra 110 110\nTOTAL 200\n");
+
+    /* A taken amend moves the highest sequence and the clock, a refused one neither. */
+    e[0] = SELL_GTX(1, 10, 105);
+    e[1] = build_amend(9, 60, 2, 10, 106);
+    e[2] = build_amend(5, 50, 1, 10, 106);
+    e[3] = build_gtx(4, 50, PEER_SELL, 10, 105, 0);
+    e[4] = build_gtx(6, 49, PEER_SELL, 10, 105, 0);
+    e[5] = build_amend(5, 50, 5, 10, 107);
+    e[6] = build_amend(6, 49, 5, 10, 107);
+    figure("an amend's sequence and time", buy(100, 1, 110, 108), e, 7,
+           "AUCTION buy size 100 range 100 to 110\n"
+           "EVENT 1 taken\nEVENT 9 refused 37\nEVENT 5 taken\nEVENT 4 refused 33\nEVENT 6 refused 34\n"
+           "EVENT 5 refused 33\nEVENT 6 refused 34\n"
+           "END time range 100 to 110\n"
+           "FILL 5 106 10\nFILL contra 108 90\nTOTAL 100\n");
+
+    /* Out of form, each in one thing: marks, side, field 24, size, price, kind.
+     * Then the least and the greatest size and price. */
+    e[0] = SELL_GTX(1, 10, 105);
+    for (i = 1; i < 11; i++)
+        e[i] = AMEND((uint32_t)i + 1, 1, 10, 106);
+    e[1].marks = PEER_CUSTOMER;
+    e[2].marks = 128;
+    e[3].side = PEER_SELL;
+    e[4].side = PEER_BUY;
+    e[5].field[3] = 1;
+    e[6].field[1] = 0;
+    e[7].field[1] = PEER_SIZE_MAX + 1;
+    e[8].field[2] = 0;
+    e[9].field[2] = PEER_MIRROR;
+    e[10].kind = 7;
+    e[11] = AMEND(12, 1, 1, 1);
+    e[12] = AMEND(13, 12, PEER_SIZE_MAX, 107);
+    e[13] = AMEND(14, 13, 10, PEER_PRICE_MAX);
+    p = text + sprintf(text, "AUCTION buy size 100 range 100 to 110\nEVENT 1 taken\n");
+    for (i = 1; i < 11; i++)
+        p += sprintf(p, "EVENT %d refused 32\n", i + 1);
+    p += sprintf(p, "EVENT 12 taken\nEVENT 13 taken\nEVENT 14 refused 36\n");
+    p += sprintf(p, "END time range 100 to 110\nFILL 13 107 100\nTOTAL 100\n");
+    figure("the form of an amend", buy(100, 1, 110, 108), e, 14, text);
+}
+
 /* One tape whose bytes are given, and its whole listing. */
 static void bytes_give(const char *name, const unsigned char *tape, size_t n, const char *want)
 {
@@ -402,6 +670,36 @@ static void bytes_give(const char *name, const unsigned char *tape, size_t n, co
     }
     failed++;
     printf("FAILED %s\nwanted:\n%sgot:\n%s", name, want, got);
+}
+
+/* The bytes of an amend, each field put at its place by hand. */
+static void amend_bytes(void)
+{
+    unsigned char t[64 + 2 * 32 + 16], *p = t + 96;
+    struct peer_order o = buy(100, 1, 110, 108);
+    struct peer_event e[2];
+    const char *fine = "AUCTION buy size 100 range 100 to 110\nEVENT 1 taken\nEVENT 2 taken\n"
+                       "END time range 100 to 110\nFILL 2 106 20\nFILL contra 108 80\nTOTAL 100\n";
+    const char *not_in_form = "AUCTION buy size 100 range 100 to 110\nEVENT 1 taken\nEVENT 2 refused 32\n"
+                              "END time range 100 to 110\nFILL 1 105 30\nFILL contra 108 70\nTOTAL 100\n";
+    static const int zero_at[] = { 9, 10, 11, 24, 27, 28, 31 };
+    size_t i, n;
+
+    e[0] = e[1] = SELL_GTX(1, 30, 105);
+    n = build_tape(t, &o, e, 2);
+    memset(p, 0, 32);
+    p[0] = 2;
+    p[4] = 20;
+    p[8] = 6;
+    p[12] = 1;
+    p[16] = 20;
+    p[20] = 106;
+    bytes_give("an amend's bytes", t, n, fine);
+    for (i = 0; i < sizeof zero_at / sizeof zero_at[0]; i++) {
+        p[zero_at[i]] = 1;
+        bytes_give("a byte of an amend that must be zero", t, n, not_in_form);
+        p[zero_at[i]] = 0;
+    }
 }
 
 /* The numbers 21, 22, 23 and the recorder's bytes. */
@@ -455,6 +753,8 @@ int main(int argc, char **argv)
     }
     figures();
     readings();
+    amends();
+    amend_bytes();
     tapes();
     printf("figures: %d passed, %d failed\n", passed, failed);
     return failed ? EXIT_FAILURE : EXIT_SUCCESS;

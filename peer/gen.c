@@ -577,14 +577,28 @@ static uint32_t seq_of_sent(const struct draft *d, int i)
     return e.seq;
 }
 
-static struct peer_event any_cancel(struct draft *d)
+/* What some cancel or amend that was sent names: most often gone now. */
+static uint32_t named_before(struct draft *d)
 {
-    struct peer_event e = stamp(d, build_cancel(0, 0, 0));
+    struct peer_event e;
+    int i, from = (int)below(&d->g, (uint32_t)d->n + 1);
+
+    for (i = 0; i < d->n; i++) {
+        peer_read_event(d->bytes + PEER_EVENT_BYTES * ((from + i) % d->n), &e);
+        if (e.kind == PEER_CANCEL || e.kind == PEER_AMEND)
+            return e.field[0];
+    }
+    return 0;
+}
+
+/* What a cancel or an amend of a sequence names. */
+static uint32_t any_name(struct draft *d, uint32_t own)
+{
     const struct peer_auction *a = &d->a;
     uint32_t which = 0;
     int i;
 
-    switch (below(&d->g, 10)) {
+    switch (below(&d->g, 12)) {
     case 0:                                 /* any sent: live, dead or never a response */
     case 1:
         if (d->n > 0)
@@ -594,25 +608,80 @@ static struct peer_event any_cancel(struct draft *d)
         which = d->last_seq + between(&d->g, 1, 5);
         break;
     case 3:                                 /* odd numbers, and its own */
-        which = chance(&d->g, 50) ? e.seq : chance(&d->g, 50) ? 0 : UINT32_MAX;
+        which = chance(&d->g, 50) ? own : chance(&d->g, 50) ? 0 : UINT32_MAX;
         break;
     case 4:                                 /* a limit order that took a place */
         for (i = 0; i < a->n_live; i++)
             if (!a->live[i].gtx)
                 which = a->live[i].seq;
         break;
+    case 5:                                 /* an old name */
+        which = named_before(d);
+        break;
     default:                                /* a live one */
         if (a->n_live > 0)
             which = a->live[below(&d->g, (uint32_t)a->n_live)].seq;
         break;
     }
-    e.field[0] = which;
+    return which;
+}
+
+static struct peer_event any_cancel(struct draft *d)
+{
+    struct peer_event e = stamp(d, build_cancel(0, 0, 0));
+
+    e.field[0] = any_name(d, e.seq);
     return e;
 }
 
+/* Prices that a response can have, and those about the initiating price. */
+static uint32_t amend_price(struct draft *d)
+{
+    switch (below(&d->g, 10)) {
+    case 0: case 1: return as_price((int64_t)d->a.init + PICK(&d->g, -1, 0, 0, 1, 1, 1, 2, 100));
+    case 2: return as_price((int64_t)peer_bound(&d->a) - PICK(&d->g, 0, 1, 2));
+    case 3: return edge_price(d);
+    default: return response_price(d);
+    }
+}
+
+static struct peer_event any_amend(struct draft *d)
+{
+    struct peer_event e = stamp(d, build_amend(0, 0, 0, 1, 1));
+
+    e.field[0] = any_name(d, e.seq);
+    e.field[1] = response_size(d);
+    e.field[2] = amend_price(d);
+    return e;
+}
+
+/* An amend of a live one that moves it among its equals: the rank changes,
+ * and of size and price little or nothing. */
+static struct peer_event rank_amend(struct draft *d)
+{
+    const struct peer_auction *a = &d->a;
+    const struct peer_response *r, *other;
+    struct peer_event e = any_amend(d);
+
+    if (a->n_live == 0)
+        return e;
+    r = &a->live[below(&d->g, (uint32_t)a->n_live)];
+    other = &a->live[below(&d->g, (uint32_t)a->n_live)];
+    e.field[0] = r->seq;
+    switch (below(&d->g, 10)) {
+    case 0: case 1: e.field[1] = other->size; break;
+    case 2: e.field[1] = as_size((int64_t)a->order.size + PICK(&d->g, 0, 1, 1, 100000)); break;
+    default: e.field[1] = as_size((int64_t)r->size + PICK(&d->g, 0, 0, 0, 1, -1)); break;
+    }
+    e.field[2] = chance(&d->g, 30) ? other->price : r->price;
+    return e;
+}
+
+static struct peer_event aimed_amend(struct draft *d) { return chance(&d->g, 50) ? rank_amend(d) : any_amend(d); }
+
 static struct peer_event any_event(struct draft *d)
 {
-    switch (below(&d->g, 16)) {
+    switch (below(&d->g, 18)) {
     case 0: case 1: case 2: case 3: case 4:
         return any_response(d);
     case 5: case 6:
@@ -623,6 +692,8 @@ static struct peer_event any_event(struct draft *d)
         return any_limit(d, PEER_BUY);
     case 12:
         return any_market(d, chance(&d->g, 50) ? PEER_BUY : PEER_SELL);
+    case 13: case 14:
+        return aimed_amend(d);
     default:
         return any_quotes(d);
     }
@@ -637,6 +708,7 @@ static struct peer_event event_of_kind(struct draft *d, uint32_t kind)
     case PEER_CANCEL: return any_cancel(d);
     case PEER_LIMIT: return any_limit(d, side);
     case PEER_MARKET: return any_market(d, side);
+    case PEER_AMEND: return any_amend(d);
     default: return any_quotes(d);
     }
 }
@@ -645,14 +717,16 @@ static struct peer_event event_of_kind(struct draft *d, uint32_t kind)
 static void damage_event(struct rng *g, unsigned char *p)
 {
     uint32_t kind = p[8];
+    int priced = kind == PEER_GTX || kind == PEER_LIMIT || kind == PEER_AMEND;
+    int size_at = kind == PEER_AMEND ? 16 : 12;     /* the price, if there is one, is next to it */
     int k;
 
     switch (below(g, 11)) {
-    case 0:
-        p[8] = (unsigned char)PICK(g, 0, 6, 6, 255);
+    case 0:                                 /* no kind, or another one */
+        p[8] = (unsigned char)PICK(g, 0, 7, 7, 7, 8, 255, 1, 2, 6);
         break;
     case 1:
-        p[9] = (unsigned char)(p[9] | 1 << below(g, 8));
+        p[9] = (unsigned char)(p[9] | PICK(g, 1, 1, 1, 2, 4, 8, 16, 32, 64, 128));
         break;
     case 2:
         p[10] = (unsigned char)PICK(g, 0, 1, 2, 3, 3, 255);
@@ -667,24 +741,20 @@ static void damage_event(struct rng *g, unsigned char *p)
     case 5:
         build_word(p + 4, (uint32_t)PICK(g, 86400001, 86400001, -1, 86400000));
         break;
-    case 6:                                 /* size, in three kinds */
-    case 7:                                 /* price, in two kinds */
+    case 6:                                 /* quotes, size or price */
+    case 7:
         if (kind == PEER_QUOTES) {
             k = (int)below(g, 4);
             build_word(p + 12 + 4 * k, (uint32_t)PICK(g, 0, 0, 1, 999999, 1000000, 1000000, 1000001, -1));
-        } else if (kind == PEER_GTX || kind == PEER_LIMIT) {
-            if (chance(g, 50))
-                build_word(p + 12, (uint32_t)PICK(g, 0, 0, 1, 100000, 100001, 100001, -1));
-            else
-                build_word(p + 16, (uint32_t)PICK(g, 0, 0, 1, 999999, 1000000, 1000000, -1));
+        } else if (priced && chance(g, 50)) {
+            build_word(p + size_at + 4, (uint32_t)PICK(g, 0, 0, 1, 999999, 1000000, 1000000, -1));
         } else {
-            build_word(p + 12, (uint32_t)PICK(g, 0, 0, 1, 100000, 100001, 100001, -1));
+            build_word(p + size_at, (uint32_t)PICK(g, 0, 0, 1, 100000, 100001, 100001, -1));
         }
         break;
     case 8:
     case 9:                                 /* a field that is not used */
-        k = (int)(kind == PEER_GTX || kind == PEER_LIMIT ? between(g, 2, 3) : between(g, 1, 3));
-        k = 12 + 4 * k + (int)below(g, 4);
+        k = (int)between(g, (uint32_t)(size_at + (priced ? 8 : 4)), 27);
         if (kind != PEER_QUOTES)
             p[k] = (unsigned char)PICK(g, 1, 128, 255);
         else
@@ -703,7 +773,7 @@ static void odd_bytes(struct draft *d, unsigned char *p)
     struct peer_auction *a = &d->a;
     struct peer_event e;
 
-    switch (below(&d->g, 12)) {
+    switch (below(&d->g, 14)) {
     case 0:                                 /* the same record again */
     case 1:
         if (d->n > 0) {
@@ -750,8 +820,11 @@ static void odd_bytes(struct draft *d, unsigned char *p)
         e = any_event(d);
         e.seq = a->top_seq + 1;
         break;
+    case 9:                                 /* an amend of any name, about the initiating price or not */
+        e = any_amend(d);
+        break;
     default:                                /* a field at or past its bounds */
-        e = event_of_kind(d, between(&d->g, 1, 5));
+        e = event_of_kind(d, between(&d->g, PEER_GTX, PEER_AMEND));
         if (chance(&d->g, 15))
             e.time = a->order.interval;
         if (chance(&d->g, 15))
@@ -789,6 +862,21 @@ static int send_quiet(struct draft *d, const struct peer_event *e)
     return 1;
 }
 
+/* Sends a response quietly. Now and then a GTX stands at another size and
+ * price first, and comes by an amend to what it is meant to be. */
+static void send_response(struct draft *d, struct peer_event e)
+{
+    if (e.kind == PEER_GTX && chance(&d->g, 12)) {
+        struct peer_event first = e;
+
+        first.field[0] = response_size(d);
+        first.field[1] = response_price(d);
+        send_quiet(d, &first);
+        e = stamp(d, build_amend(0, 0, first.seq, e.field[0], e.field[1]));
+    }
+    send_quiet(d, &e);
+}
+
 /* Tries of one kind until one goes through quietly. */
 static void send_some(struct draft *d, struct peer_event (*make)(struct draft *))
 {
@@ -819,6 +907,8 @@ static void body_one(struct draft *d)
         e = stamp(d, build_cancel(0, 0, seq));
         send_event(d, &e);
     }
+    if (chance(&d->g, 20))
+        send_some(d, aimed_amend);          /* still one */
 }
 
 /* Small sizes at few prices, so that shares have leftovers. */
@@ -827,7 +917,6 @@ static void body_share(struct draft *d)
     uint32_t price[2];
     uint32_t k, count = between(&d->g, 2, 14);
     uint32_t most = (uint32_t)PICK(&d->g, 1, 2, 3, 7, 20, 60);
-    struct peer_event e;
 
     price[0] = response_price(d);
     price[1] = response_price(d);
@@ -839,13 +928,16 @@ static void body_share(struct draft *d)
 
         if (chance(&d->g, 20))
             size = as_size(d->a.order.size / count + below(&d->g, 3));
-        e = response(d, size, price[which]);
-        send_quiet(d, &e);
+        send_response(d, response(d, size, price[which]));
         if (chance(&d->g, 12))
             send_some(d, any_cancel);       /* a freed place is taken again out of order */
         if (chance(&d->g, 8))
+            send_some(d, rank_amend);
+        if (chance(&d->g, 8))
             send_odd(d);
     }
+    if (chance(&d->g, 25))                  /* leftovers and Customers in another order */
+        send_some(d, rank_amend);
 }
 
 /* The sizes at each price are set close to where the rule of the walk
@@ -914,8 +1006,7 @@ static void body_levels(struct draft *d)
     }
     while (n > 0) {                         /* sent in any order of price */
         i = (int)below(&d->g, (uint32_t)n);
-        list[i] = stamp(d, list[i]);
-        send_quiet(d, &list[i]);
+        send_response(d, stamp(d, list[i]));
         list[i] = list[--n];
         if (chance(&d->g, 5))
             send_odd(d);
@@ -936,15 +1027,16 @@ static void body_full(struct draft *d, int wide)
         uint32_t price = spread ? clamp((int64_t)start + k, 1, a->init) : response_price(d);
         uint32_t size = between(&d->g, 1, most);
 
-        e = response(d, size, price);
-        send_quiet(d, &e);
+        send_response(d, response(d, size, price));
         if (!wide && chance(&d->g, 4))
             send_some(d, any_cancel);
+        if (!wide && chance(&d->g, 4))
+            send_some(d, aimed_amend);
         if (!wide && chance(&d->g, 3))
             send_odd(d);
     }
     for (k = (int)below(&d->g, wide ? 3 : 9); k > 0; k--) {
-        switch (below(&d->g, 8)) {
+        switch (below(&d->g, 11)) {
         case 0:                             /* marketable, but it has to be placed */
             e = stamp(d, build_limit(0, 0, PEER_SELL, response_size(d), 1, 0));
             e.field[1] = clamp((int64_t)a->nbb + PICK(&d->g, 0, 0, -1), 1, a->init);
@@ -956,10 +1048,19 @@ static void body_full(struct draft *d, int wide)
         case 2:                             /* a place freed, and the same tried again */
             e = any_cancel(d);
             send_quiet(d, &e);
+            if (chance(&d->g, 40))          /* just after: one place free, or none */
+                send_some(d, aimed_amend);
             e = any_response(d);
             break;
         case 3:
             e = any_limit(d, PEER_BUY);
+            break;
+        case 5:                             /* an amend needs no place, and frees none */
+            send_some(d, wide ? rank_amend : aimed_amend);
+            e = any_response(d);
+            break;
+        case 6: case 7:
+            e = wide ? rank_amend(d) : aimed_amend(d);
             break;
         case 4:
             if (chance(&d->g, 50)) {        /* a national bid above the range */
@@ -984,7 +1085,7 @@ static void body_bound(struct draft *d)
     int k;
 
     for (k = (int)between(&d->g, 3, 14); k > 0; k--) {
-        switch (below(&d->g, 8)) {
+        switch (below(&d->g, 9)) {
         case 0: case 1: case 2:
             send_some(d, any_response);
             break;
@@ -993,6 +1094,9 @@ static void body_bound(struct draft *d)
             break;
         case 5: case 6:
             send_some(d, any_quotes);
+            break;
+        case 7:
+            send_some(d, aimed_amend);
             break;
         default:
             send_some(d, any_offer);
@@ -1046,6 +1150,57 @@ static void near_miss(struct draft *d)
     case 3: try_limit(d, PEER_BUY, (int64_t)a->bo - 1, customer | PEER_NON_ROUTABLE); break;
     case 4: try_limit(d, PEER_BUY, (int64_t)a->init - 1, customer | PEER_NON_ROUTABLE); break;
     default: try_limit(d, PEER_BUY, a->init, PEER_NON_ROUTABLE); break;
+    }
+}
+
+/* Sends an amend of a name, and gives the amend's sequence. */
+static uint32_t amend_named(struct draft *d, uint32_t which)
+{
+    struct peer_event e = rank_amend(d);
+
+    e.field[0] = which;
+    send_event(d, &e);
+    return e.seq;
+}
+
+static void cancel_named(struct draft *d, uint32_t which)
+{
+    struct peer_event e = stamp(d, build_cancel(0, 0, which));
+
+    send_event(d, &e);
+}
+
+/* A GTX amended once or more; then its names, old and new, are tried, and its
+ * records sent again. */
+static void amend_script(struct draft *d)
+{
+    struct peer_event e = stamp(d, build_gtx(0, 0, PEER_SELL, response_size(d), 1, 0));
+    uint32_t first = e.seq, old, name;
+    int sent_at = d->n, k;
+
+    e.field[1] = response_price(d);
+    e.marks = response_mark(d);
+    send_event(d, &e);
+    old = name = first;
+    for (k = PICK(&d->g, 1, 1, 1, 2, 2, 3); k > 0; k--) {
+        old = name;
+        name = amend_named(d, old);
+    }
+    for (k = (int)below(&d->g, 4); k > 0; k--) {
+        switch (below(&d->g, 9)) {
+        case 0: cancel_named(d, old); break;
+        case 1: cancel_named(d, first); break;
+        case 2: cancel_named(d, name); break;
+        case 3: amend_named(d, old); break;
+        case 4: name = amend_named(d, name); break;
+        case 5: send_bytes(d, d->bytes + PEER_EVENT_BYTES * sent_at); break;
+        case 6: case 7:                     /* time going back, to before the amend */
+            e = stamp(d, build_gtx(0, 0, PEER_SELL, 1, d->a.init, 0));
+            e.time = clamp((int64_t)d->a.clock - 1, 0, PEER_TIME_MAX);
+            send_event(d, &e);
+            break;
+        default: send_bytes(d, d->bytes + PEER_EVENT_BYTES * (d->n - 1)); break;
+        }
     }
 }
 
@@ -1109,8 +1264,9 @@ static void script(struct draft *d)
         seq = e.seq;
         to_bytes(d, &e, p);
         send_bytes(d, p);
-        e = stamp(d, build_cancel(0, 0, seq));
-        send_event(d, &e);
+        if (chance(&d->g, 40))
+            amend_named(d, seq);            /* or gone by an amend before */
+        cancel_named(d, seq);
         send_bytes(d, p);
         if (chance(&d->g, 50)) {
             peer_read_event(p, &e);
@@ -1119,18 +1275,18 @@ static void script(struct draft *d)
             build_event(p, &e);
             send_bytes(d, p);
         }
-        if (chance(&d->g, 30)) {
-            e = stamp(d, build_cancel(0, 0, seq));
-            send_event(d, &e);
-        }
+        if (chance(&d->g, 30))
+            cancel_named(d, seq);
         break;
-    case 6:                                 /* a limit order that took a place can't be cancelled */
+    case 6:                                 /* a limit order that took a place can't be cancelled or amended */
         seq = (uint32_t)d->n;
         marks = below(&d->g, 4);
         try_limit(d, PEER_SELL, (int64_t)a->init - PICK(&d->g, 0, 0, 1), marks);
         if ((uint32_t)d->n > seq) {
-            e = stamp(d, build_cancel(0, 0, d->last_seq));
-            send_event(d, &e);
+            seq = d->last_seq;
+            if (chance(&d->g, 50))
+                amend_named(d, seq);
+            cancel_named(d, seq);
         }
         break;
     case 7:                                 /* the bound raised above responses that stand */
@@ -1154,7 +1310,7 @@ static void body_damaged(struct draft *d)
     int k;
 
     for (k = (int)between(&d->g, 10, 60); k > 0; k--) {
-        struct peer_event e = event_of_kind(d, between(&d->g, 1, 5));
+        struct peer_event e = event_of_kind(d, between(&d->g, PEER_GTX, PEER_AMEND));
 
         to_bytes(d, &e, p);
         damage_event(&d->g, p);
@@ -1176,7 +1332,7 @@ static struct peer_event ending_event(struct draft *d, int ending)
 
     switch (ending) {
     case END_LATE:
-        e = any_event(d);
+        e = chance(&d->g, 30) ? aimed_amend(d) : any_event(d);
         e.time = a->order.interval + (uint32_t)PICK(&d->g, 0, 0, 0, 0, 1, 1, 1000);
         if (chance(&d->g, 5))
             e.time = PEER_TIME_MAX;
@@ -1287,12 +1443,16 @@ static void draft_events(struct draft *d, int body, int ending, int wide)
     }
     if (!wide && body != BODY_NONE && chance(&d->g, 20))
         script(d);
+    if (!wide && body != BODY_NONE && chance(&d->g, 10))
+        amend_script(d);
     if (!wide && chance(&d->g, 10))
         send_some(d, chance(&d->g, 50) ? any_bid : any_quotes);
     if (!wide && chance(&d->g, 15))
         near_miss(d);
     if (!wide && chance(&d->g, 20))
         send_odd(d);
+    if (chance(&d->g, 8))                   /* the last word before the ending */
+        send_some(d, aimed_amend);
     send_ending(d, ending);
     if (ending != END_CLOSE && chance(&d->g, 25))
         send_tail(d);

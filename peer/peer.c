@@ -1,7 +1,8 @@
 /* peer.c: one single-leg CUBE auction, from a tape to its listing.
  *
- * The parts follow the headings of document 01. All is worked as a buy;
- * a sell is mirrored on the way in and its fills are mirrored back. */
+ * The parts follow the headings of document 01; the amend is document 02's
+ * W-201. All is worked as a buy; a sell is mirrored on the way in and its
+ * fills are mirrored back. */
 #include "peer.h"
 
 #include <stdlib.h>
@@ -141,6 +142,11 @@ int peer_event_form(const struct peer_event *e)
         side_ok = e->side == 0;
         fields_ok = are_quotes(f[0], f[1], f[2], f[3]);
         break;
+    case PEER_AMEND:
+        allowed = 0;
+        side_ok = e->side == 0;
+        fields_ok = is_size(f[1]) && is_price(f[2]) && f[3] == 0;
+        break;
     default:
         return 0;
     }
@@ -202,6 +208,9 @@ static struct peer_event mirror_event(struct peer_event e)
         e.marks = mirror_marks(e.marks);
         mirror_pair(&e.field[0], &e.field[1]);
         mirror_pair(&e.field[2], &e.field[3]);
+        break;
+    case PEER_AMEND:
+        e.field[2] = mirror(e.field[2]);
         break;
     }
     return e;
@@ -327,17 +336,40 @@ static int gtx_response(struct peer_auction *a, const struct peer_event *e)
     return place(a, e, lower(e->field[0], a->order.size));
 }
 
-static int cancel_gtx(struct peer_auction *a, const struct peer_event *e)
+/* The live GTX of that name, or NULL. */
+static struct peer_response *live_gtx(struct peer_auction *a, uint32_t seq)
 {
     int i;
 
-    for (i = 0; i < a->n_live; i++) {
-        if (a->live[i].gtx && a->live[i].seq == e->field[0]) {
-            a->live[i] = a->live[--a->n_live];
-            return PEER_TAKEN;
-        }
-    }
-    return 37;
+    for (i = 0; i < a->n_live; i++)
+        if (a->live[i].gtx && a->live[i].seq == seq)
+            return &a->live[i];
+    return NULL;
+}
+
+static int cancel_gtx(struct peer_auction *a, const struct peer_event *e)
+{
+    struct peer_response *r = live_gtx(a, e->field[0]);
+
+    if (r == NULL)
+        return 37;
+    *r = a->live[--a->n_live];
+    return PEER_TAKEN;
+}
+
+/* The new response stands where the old one stood, with its Customer mark. */
+static int amend_gtx(struct peer_auction *a, const struct peer_event *e)
+{
+    struct peer_response *r = live_gtx(a, e->field[0]);
+
+    if (e->field[2] > a->init)
+        return 36;
+    if (r == NULL)
+        return 37;
+    r->seq = e->seq;
+    r->size = lower(e->field[1], a->order.size);
+    r->price = e->field[2];
+    return PEER_TAKEN;
 }
 
 static int limit_sell(struct peer_auction *a, const struct peer_event *e)
@@ -432,6 +464,9 @@ int peer_step(struct peer_auction *a, const struct peer_event *raw)
         break;
     case PEER_MARKET:
         answer = market_order(a, &e);
+        break;
+    case PEER_AMEND:
+        answer = amend_gtx(a, &e);
         break;
     default:
         answer = new_quotes(a, &e);

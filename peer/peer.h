@@ -31,7 +31,7 @@ enum peer_order_mark {
 enum peer_event_mark { PEER_CUSTOMER = 1, PEER_NON_ROUTABLE = 2 };
 
 enum peer_kind {
-    PEER_GTX = 1, PEER_CANCEL = 2, PEER_LIMIT = 3, PEER_MARKET = 4, PEER_QUOTES = 5
+    PEER_GTX = 1, PEER_CANCEL = 2, PEER_LIMIT = 3, PEER_MARKET = 4, PEER_QUOTES = 5, PEER_AMEND = 6
 };
 
 /* How an auction stands. */
@@ -62,7 +62,7 @@ struct peer_event {
 struct peer_response {
     uint32_t seq, size, price;
     int customer;
-    int gtx;                            /* only a GTX can be cancelled */
+    int gtx;                            /* only a GTX can be cancelled or amended */
     uint32_t working;                   /* set at the ending */
 };
 

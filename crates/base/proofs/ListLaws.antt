@@ -92,6 +92,10 @@ module _ {A : Type 0} where
   every-in P (x ∷ xs) a h (inl e) = subst P (sym e) (h .0)
   every-in P (x ∷ xs) a h (inr m) = every-in P xs a (h .1) m
 
+  pub every-with : (P : A → Type 0) (xs : List A) → ((x : A) → In x xs → P x) → Every P xs
+  every-with P [] h = tt
+  every-with P (x ∷ xs) h = (h x (inl refl), every-with P xs (λ y i. h y (inr i)))
+
   pub every-filter : (P : A → Type 0) (t : A → Bool) (xs : List A) → Every P xs → Every P (filter t xs)
   unfolding filter
   every-filter P t [] a = tt
@@ -141,6 +145,11 @@ module _ {A : Type 0} where
   unfolding filter
   filter-none t [] a = refl
   filter-none t (x ∷ xs) a = rw (a .0) (filter-none t xs (a .1))
+
+  -- a filter that r alone passes keeps it alone
+  pub inserts-only : (t : A → Bool) {r : A} {xs ys : List A} → t r ≡ true → Every (λ x. t x ≡ false) xs → Inserts r xs ys → filter t ys ≡ r ∷ []
+  inserts-only t {r} {xs} z h here = filter-pass t r xs z ∙ ap (λ (rest : List A). r ∷ rest) (filter-none t xs h)
+  inserts-only t z h (there {x} {ys = ys} i) = filter-fail t x ys (h .0) ∙ inserts-only t z (h .1) i
 
   pub filter-append : (t : A → Bool) (xs ys : List A) → filter t (xs ++ ys) ≡ filter t xs ++ filter t ys
   unfolding filter

@@ -1,7 +1,7 @@
 -- Laws of the rising order of sequence. Assumes nothing.
 use mathlib.Core.Path.{_≡_, refl, sym, ap, _∙_}
 use mathlib.Core.Bool.{Bool, true}
-use mathlib.Core.List.{List, [], _∷_}
+use mathlib.Core.List.{List, [], _∷_, _++_}
 use mathlib.Core.Logic.{⊎-elim}
 use Prim.Native.Nat.{ℕ, _≤_, _<_}
 use native.Mathlib.Omega.{arith}
@@ -120,6 +120,26 @@ sequence-filter t (x ∷ xs) =
     (λ e. inserted-pass t x 0 (inSequence xs) (sequence-rises xs) e ∙ rw (filter-pass t x xs e, ih))
     (λ e. inserts-fail t e (inserted-is x (inSequence xs)) ∙ rw (filter-fail t x xs e) ih)
     (bool-or (t x))
+
+-- one of a higher sequence than all others comes last
+inserted-last : (r : Response) (xs : List Response) → Every (λ (x : Response). x .sequence < r .sequence) xs → inserted r xs ≡ xs ++ (r ∷ [])
+unfolding inserted
+inserted-last r [] h = refl
+inserted-last r (x ∷ xs) h = inserted-high r x xs (h .0) ∙ ap (λ (ys : List Response). x ∷ ys) (inserted-last r xs (h .1))
+
+inserted-before : (x r : Response) (xs : List Response) → x .sequence < r .sequence → inserted x (xs ++ (r ∷ [])) ≡ inserted x xs ++ (r ∷ [])
+unfolding inserted
+inserted-before x r [] h = inserted-low x r [] (omega arith)
+inserted-before x r (y ∷ xs) h =
+    ⊎-elim
+    (λ l. inserted-low x y (xs ++ (r ∷ [])) l ∙ sym (ap (λ (ys : List Response). ys ++ (r ∷ [])) (inserted-low x y xs l)))
+    (λ l. inserted-high x y (xs ++ (r ∷ [])) l ∙ ap (λ (ys : List Response). y ∷ ys) (inserted-before x r xs h) ∙ sym (ap (λ (ys : List Response). ys ++ (r ∷ [])) (inserted-high x y xs l)))
+    (le-or-lt (x .sequence) (y .sequence))
+
+pub sequence-last : {r : Response} {xs ys : List Response} → Inserts r xs ys → Every (λ (x : Response). x .sequence < r .sequence) xs → inSequence ys ≡ inSequence xs ++ (r ∷ [])
+unfolding inSequence
+sequence-last {r} {xs} here h = inserted-last r (inSequence xs) (shuffles-every (λ (x : Response). x .sequence < r .sequence) (sequence-shuffles xs) h)
+sequence-last {r} (there {x} {xs} i) h = ap (inserted x) (sequence-last i (h .1)) ∙ inserted-before x r (inSequence xs) (h .0)
 
 -- responses of one sequence stay in their order
 pub sequence-stable : (s : ℕ) (xs : List Response) → filter (bears s) (inSequence xs) ≡ filter (bears s) xs

@@ -5,7 +5,7 @@ use Rattle.board.specs.inside.Places.{Walking}
 use Rattle.board.proofs.BoardLaws.{seating, amending, seated-past, seated-good, lowest-free, clearing, cleared-dead, cleared-good, empty-good, empty-live, live-count, unseen-live, unseen-find, find-gtx, gtx-found, no-gtx}
 use Rattle.base.proofs.ListLaws.{shuffles-length, shuffles-sum}
 use Rattle.board.proofs.LiveLaws.{word-filters}
-use Rattle.board.proofs.SequenceLaws.{sequence-shuffles, sequence-rises, sequence-stable, sequence-filter}
+use Rattle.board.proofs.SequenceLaws.{sequence-shuffles, sequence-rises, sequence-stable, sequence-last, sequence-filter}
 use Rattle.board.proofs.FirstLaws.{first-earliest, earliest-first, some-first, none-first, first-takes}
 
 pub changes : Changes
@@ -42,6 +42,7 @@ ordering = record {
   stable = sequence-stable;
   length-stays = λ xs. shuffles-length (sequence-shuffles xs);
   sums-stay = λ f xs. shuffles-sum f (sequence-shuffles xs);
+  last = λ r xs ys i h. sequence-last i h;
   filters = sequence-filter;
 }
 

@@ -7,7 +7,8 @@ use Rattle.board.proofs.Theorems.{changes, seen, finding, ordering}
 use Rattle.share.proofs.ShareLaws.{pro-rata}
 use Rattle.demand.proofs.Theorems.{demand3, few}
 use Rattle.run.proofs.Resend.{keeps}
-use Rattle.run.proofs.ComesFrom.{resend}
+use Rattle.run.proofs.MarketFrom.{resend}
+use Rattle.run.proofs.Amends.{amends}
 use Rattle.run.proofs.SoundLaws.{demanded}
 use Rattle.run.proofs.Mirrors.{mirrors}
 use Rattle.run.proofs.LentLaws.{in-place}
@@ -31,6 +32,7 @@ below =
       few = few;
       keeps = keeps;
       resend = resend;
+      amends = amends;
       demanded = demanded;
       mirrors = mirrors;
       in-place = in-place;

@@ -2,6 +2,7 @@
 pub mod Below
 pub mod Carried
 pub mod Answered
+pub mod Sent
 pub mod Resent
 pub mod Tapes
 pub mod Opening
@@ -11,6 +12,7 @@ pub mod BuyShares
 pub mod Shared
 pub mod SharedFigures
 pub mod Standing
+pub mod Gone
 pub mod MarketTrades
 pub mod InRealPrices
 pub mod Mirrored

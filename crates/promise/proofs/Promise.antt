@@ -3,7 +3,8 @@ use Rattle.roundtrip.proofs.TapeBack.{demands}
 use Rattle.run.proofs.Resend.{keeps}
 use Rattle.promise.specs.promises.Promise.{Promise}
 use Rattle.promise.proofs.Answered.{answered, roomed, filling, numbered, event-numbers, without-refused}
-use Rattle.promise.proofs.Resent.{resent, same-records, resends, answered-alike}
+use Rattle.promise.proofs.Resent.{same-records, resends, answered-alike}
+use Rattle.promise.proofs.Gone.{resent}
 use Rattle.promise.proofs.Tapes.{can-lack, can-mirror}
 use Rattle.promise.proofs.Carried.{accepted}
 use Rattle.promise.proofs.Opening.{opens}

@@ -3,7 +3,7 @@ use mathlib.Core.Path.{_≡_, refl, sym, ap, subst, _∙_}
 use mathlib.Core.Bool.{Bool, true, false, cond}
 use mathlib.Core.List.{List, [], _∷_, map}
 use mathlib.Core.Logic.{inl, inr, _≢_}
-use Prim.Native.Nat.{ℕ, _-_, _≤_, _<_, min, max}
+use Prim.Native.Nat.{ℕ, _-_, _≤_, _<_, max}
 use native.Mathlib.Omega.{arith}
 use lib.Dec.{eqb}
 use borrow.Author.Tests.{ltb-true, le-ltb, eq-eqb, ne-eqb}
@@ -16,7 +16,6 @@ use Rattle.board.specs.rules.Board.{liveOf}
 use Rattle.share.specs.rules.Fills.{Fill}
 use Rattle.tape.specs.declared.order.Order.{Order}
 use Rattle.tape.specs.declared.event.Event.{Event}
-use Rattle.tape.specs.rules.Fields.{sizeOf}
 use Rattle.tape.proofs.FormLaws.{order-bounds}
 use Rattle.trade.specs.rules.Trade.{working, entry}
 use Rattle.trade.specs.rules.Write.{reportedPrice}
@@ -29,11 +28,12 @@ use Rattle.auction.specs.declared.Terms.{Terms}
 use Rattle.auction.specs.declared.Entry.the-variants.{Accepted}
 use Rattle.fills.specs.rules.Fills.{dealOf}
 use Rattle.run.proofs.Accepted.{opened, below-limit}
-use Rattle.promise.specs.rules.Sides.{isSell, better, sent, atEnd, writtenFills, liveAtEnd, marketOrder, workingPrice, sentBy}
+use Rattle.promise.specs.rules.Sides.{isSell, better, sent, atEnd, writtenFills, liveAtEnd, marketOrder, workingPrice}
 use Rattle.promise.specs.promises.Parts.{Trader, OneRecord, auctionAfter}
 use Rattle.promise.specs.promises.Parts.Trader.{theContra, aResponse, theMarket}
 use Rattle.promise.proofs.RealLaws.{better-shown, shown, Shows, in-shown, sent-in, close-terms, close-board, deal, live, dealt, demand, terms-are, mode-is, written-is, there-is, sent-fits, initiating-fits, price-fits, working-fits, works-is, got-is, was-live, every-written}
-use Rattle.promise.proofs.Resent.{one-record, ended-by, MarketRecord}
+use Rattle.promise.proofs.Resent.{ended-by, MarketRecord}
+use Rattle.promise.proofs.Standing.{one-record, given}
 
 -- ---- a price against a field of the order
 
@@ -74,11 +74,6 @@ buy-stop o n = go (isSell o)
     go : (s : Bool) → cond {A = Order} s (mirroredOrder o) o .stop ≡ reportedPrice s (o .stop)
     go true = simp (ne-eqb (o .mode) 2 n)
     go false = refl
-
--- a size that may be capped is at most the size
-capped : (b : Bool) (n m k : ℕ) → k ≡ cond b (min n m) n → k ≤ n
-capped true n m k e = omega (arith, e)
-capped false n m k e = omega (arith, e)
 
 -- ---- what needs no level of the walk
 
@@ -167,15 +162,15 @@ module _ (o : Order) (es : List Event) (h : acceptOf o .answer ≡ Accepted) whe
       let t : In (sent (isSell o) r) (liveAtEnd o es) = subst (In (sent (isSell o) r)) (sym (there-is o es h)) (sent-in (isSell o) (live o es h) r j) in
       let k : OneRecord o es (sent (isSell o) r) = every-in (OneRecord o es) (liveAtEnd o es) (sent (isSell o) r) still t in
       let e : Event = k .record-of in
-      let is : sent (isSell o) r ≡ sentBy o e = k .sends .response in
-      let s : r .sequence ≡ e .sequence = ap (λ (x : Response). x .sequence) is in
+      let is = given o es (k .sends) in
+      let s : r .sequence ≡ e .sequence = is .0 in
       let g : got (e .sequence) (writtenFills o es) ≡ got (r .sequence) (dealt o es h) = ap (λ (m : ℕ). got m (writtenFills o es)) (sym s) ∙ got-is o es h (r .sequence) in
       let p : r .price ≤ f .price = every-in (λ x. x .party ≡ r .sequence → r .price ≤ x .price) (dealt o es h) f (dealing .own-limit r j) i (sym z) in
       let b : better (isSell o) (reportedPrice (isSell o) (f .price)) (reportedPrice (isSell o) (r .price)) ≡ false =
       better-shown (isSell o) (f .price) (r .price) (omega (arith, price-fits o es h f i)) (omega (arith, sent-fits o es h r j, initiating-fits o es h)) ∙ le-ltb _ _ p in
       aResponse e (sent (isSell o) r) t (k .sends) (sym z ∙ s)
-      (omega (arith, g, dealing .response-fits r j, capped (eqb (e .kind) 1) (sizeOf e) (o .size) (r .size) (ap (λ (x : Response). x .size) is)))
-      (sym (ap (λ (q : ℕ). better (isSell o) (reportedPrice (isSell o) (f .price)) q) (ap (λ (x : Response). x .price) is)) ∙ b)
+      (omega (arith, g, dealing .response-fits r j, is .1))
+      (sym (ap (λ (q : ℕ). better (isSell o) (reportedPrice (isSell o) (f .price)) q) (is .2)) ∙ b)
 
   pub parties : Every (Trader o es) (writtenFills o es)
   parties = every-written o es h (λ f. demands.Party (deal o es h) (atEnd o es .board) (f .party)) (Trader o es) party-of (dealing .nobody-else)

@@ -133,7 +133,7 @@ unnamed a e (inr k) f t =
 -- ---- an amend that is taken
 
 -- what holds of each live response holds of what stands at a live place
-live-at : (P : Response → Type 0) (b : Board) (j : ℕ) → Good b → isLive b j ≡ true → Every P (liveOf b) → P (responseAt (b .places) j)
+pub live-at : (P : Response → Type 0) (b : Board) (j : ℕ) → Good b → isLive b j ≡ true → Every P (liveOf b) → P (responseAt (b .places) j)
 live-at P b j g l h = every-inserts P (clearing b j g l .takes) h .0
 
 -- the others of one of a list whose sequences are apart do not bear its sequence

@@ -57,7 +57,7 @@ unfolding buyEvent
 buy-form true e f = event-form e f
 buy-form false e f = f
 
-other-side : (s : Bool) (e : Event) → (buyEvent s e .kind ≡ 1) ⊎ ((buyEvent s e .kind ≡ 3) ⊎ (buyEvent s e .kind ≡ 4)) → eventFormed e ≡ true → eqb (buyEvent s e .side) 1 ≡ false → buyEvent s e .side ≡ 2
+pub other-side : (s : Bool) (e : Event) → (buyEvent s e .kind ≡ 1) ⊎ ((buyEvent s e .kind ≡ 3) ⊎ (buyEvent s e .kind ≡ 4)) → eventFormed e ≡ true → eqb (buyEvent s e .side) 1 ≡ false → buyEvent s e .side ≡ 2
 other-side s e k f n = side-two (buyEvent s e) (sided (buyEvent s e .kind) k) (buy-form s e f) n
 
 -- the terms never change

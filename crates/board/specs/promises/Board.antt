@@ -1,11 +1,11 @@
 -- What the board's definitions mean, as statements. Each has its proof. Assumes nothing.
 use mathlib.Core.Path.{_≡_}
 use mathlib.Core.Bool.{Bool, true, false}
-use mathlib.Core.List.{List, [], _∷_, map}
+use mathlib.Core.List.{List, [], _∷_, _++_, map}
 use Prim.Native.Nat.{ℕ, suc, _+_, _^_, _≤_, _<_}
 use lib.Dec.{eqb}
 use lib.ListN.{length}
-use Rattle.base.specs.Lists.{filter, sum, Inserts, Shuffles}
+use Rattle.base.specs.Lists.{Every, filter, sum, Inserts, Shuffles}
 use Rattle.board.specs.rules.Board.{responseAt, emptyBoard, isLive, liveCount, firstFree, liveOf, seatedAt, cleared, findGtx, inSequence}
 use Rattle.board.specs.declared.Response.{Response}
 use Rattle.board.specs.declared.Board.{Board}
@@ -115,5 +115,7 @@ pub record Ordering : Type 0 where
   pub stable : (s : ℕ) (xs : List Response) → filter (λ r. eqb (r .sequence) s) (inSequence xs) ≡ filter (λ r. eqb (r .sequence) s) xs
   pub length-stays : (xs : List Response) → length (inSequence xs) ≡ length xs
   pub sums-stay : (f : Response → ℕ) (xs : List Response) → sum (map f (inSequence xs)) ≡ sum (map f xs)
+  -- one of a higher sequence than all others comes last
+  pub last : (r : Response) (xs ys : List Response) → Inserts r xs ys → Every (λ x. x .sequence < r .sequence) xs → inSequence ys ≡ inSequence xs ++ (r ∷ [])
   -- any filter goes through
   pub filters : (t : Response → Bool) (xs : List Response) → filter t (inSequence xs) ≡ inSequence (filter t xs)

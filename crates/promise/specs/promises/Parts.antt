@@ -7,10 +7,10 @@ use Prim.Native.Nat.{ℕ, _+_, _*_, _≤_, _<_, min, max}
 use Prim.Native.String.{String}
 use lib.Dec.{ltb, eqb}
 use lib.ListN.{length, take, drop}
-use Rattle.base.specs.Lists.{In, Every, sum, Shuffles}
+use Rattle.base.specs.Lists.{In, Every, sum}
 use Rattle.words.specs.rules.Bytes.{wordAt}
 use Rattle.board.specs.declared.Response.{Response}
-use Rattle.board.specs.rules.Board.{liveOf}
+use Rattle.board.specs.rules.Board.{inSequence}
 use Rattle.board.specs.promises.Board.{Good}
 use Rattle.share.specs.rules.Fills.{Fill, sizes, words}
 use Rattle.share.specs.promises.Share.{Near}
@@ -19,7 +19,7 @@ use Rattle.tape.specs.declared.event.Event.{Event}
 use Rattle.tape.specs.declared.trailer.Trailer.{Trailer}
 use Rattle.tape.specs.rules.Form.{orderFormed, eventFormed}
 use Rattle.tape.specs.rules.Records.{cubt, orderOf, orderSpare, readOrder, orderAnswer, eventOf, eventSpare, readEvent, eventAnswer, trailerOf, readTrailer, trailerAnswer}
-use Rattle.tape.specs.rules.Fields.{sizeOf, priceOf, nameOf}
+use Rattle.tape.specs.rules.Fields.{sizeOf, nameOf, newPriceOf}
 use Rattle.tape.specs.rules.Tape.{openTape, orderIn}
 use Rattle.trade.specs.rules.Trade.{offers, fills, traded}
 use Rattle.trade.specs.rules.Write.{reported}
@@ -28,16 +28,17 @@ use Rattle.auction.specs.rules.Accept.{acceptOf}
 use Rattle.auction.specs.rules.Range.{isOpen}
 use Rattle.auction.specs.declared.Auction.{Auction}
 use Rattle.auction.specs.declared.Ending.{Ending}
+use Rattle.events.specs.rules.Decide.{isAmend}
 use Rattle.events.specs.rules.Step.{stepOf}
 use Rattle.events.specs.declared.Answer.{Answer}
 use Rattle.fills.specs.rules.Fills.{dealOf, auctionFills, fillsAnswer, fillsAfter}
 use Rattle.run.specs.rules.Run.{Said, run, heard, played, runOf}
-use Rattle.run.specs.promises.Demands.{Within, Trades}
+use Rattle.run.specs.promises.Demands.{Within, Trades, Names, InTime}
 use Rattle.listing.specs.rules.Text.{text, newline}
 use Rattle.listing.specs.rules.Listing.{field, answerText, endText, refusedLine, auctionLine, eventLines, endLines, listingOf, roomOf, listedOf, lengthIn, bytesOf}
 use Rattle.promise.specs.rules.Answers.{Accepts, no, yes, openedIs, orderIs, eventIs, trailerIs, writtenIs, entryIs, answerIs, endingIs, filledIs, runIs, listedIs}
 use Rattle.promise.specs.rules.Tapes.{Carries}
-use Rattle.promise.specs.rules.Sides.{isSell, otherSide, better, gotBetter, responses, takenRecords, atEnd, rangeAtEnd, writtenFills, liveAtEnd, marketOrder, workingPrice, othersAtPrice, guaranteeAtEnd, planAtPrice, leftToOthersAtPrice, sentBy, standingOf}
+use Rattle.promise.specs.rules.Sides.{isSell, otherSide, better, gotBetter, responses, takenRecords, atEnd, rangeAtEnd, writtenFills, liveAtEnd, marketOrder, workingPrice, othersAtPrice, guaranteeAtEnd, planAtPrice, leftToOthersAtPrice, sentBy, sentInstead, initiatingPrice, standingOf, givenSize, givenPrice}
 
 -- ---- 1. every tape is answered
 
@@ -92,12 +93,12 @@ EventNumber x = (n : ℕ) → answerIs (x .answer) ≡ no n → In n (31 ∷ 32 
 -- ---- 3. demand 3, in real prices
 
 module _ (o : Order) (es : List Event) where
-  -- the response r is that of the record e: taken, on the other side, a GTX response (its size capped at the CUBE size) or a limit order
-  pub record Sends (e : Event) (r : Response) : Type 0 where
-    pub taken : In e (takenRecords o es)
-    pub side : e .side ≡ otherSide o
-    pub kind : (e .kind ≡ 1) ⊎ (e .kind ≡ 3)
-    pub response : r ≡ sentBy o e
+  -- the response r is that of the record e, its latest, which was taken
+  pub data Sends : Event → Response → Type 0 where
+    -- a GTX response (its size capped at the CUBE size) or a limit order, on the other side
+    places : (e : Event) → In e (takenRecords o es) → (e .kind ≡ 1) ⊎ (e .kind ≡ 3) → e .side ≡ otherSide o → Sends e (sentBy o e)
+    -- an amend of the GTX response of an earlier record g
+    amends : (e g : Event) (old : Response) → In e (takenRecords o es) → e .kind ≡ 6 → Sends g old → old .gtx ≡ true → nameOf e ≡ g .sequence → g .sequence < e .sequence → Sends e (sentInstead o e old)
 
   -- the record e is the market order that ended the auction: the last that was taken, on the other side
   pub record Ends (e : Event) : Type 0 where
@@ -109,10 +110,10 @@ module _ (o : Order) (es : List Event) where
     pub ending : endingIs (atEnd o es .head .ending) ≡ "opposite"
     pub latest : atEnd o es .head .sequence ≡ e .sequence
 
-  -- who trades: the Contra Order, the response of a record, or the market order that ended the auction; no more than the record's size field, and a response not beyond its price field
+  -- who trades: the Contra Order, the response of a record (its latest), or the market order that ended the auction; no more than the record's size, and a response not beyond its price
   pub data Trader (f : Fill) : Type 0 where
     theContra : f .party ≡ 0 → Trader f
-    aResponse : (e : Event) (r : Response) → In r (liveAtEnd o es) → Sends e r → f .party ≡ e .sequence → got (e .sequence) (writtenFills o es) ≤ sizeOf e → better (isSell o) (f .price) (priceOf e) ≡ false → Trader f
+    aResponse : (e : Event) (r : Response) → In r (liveAtEnd o es) → Sends e r → f .party ≡ e .sequence → got (e .sequence) (writtenFills o es) ≤ givenSize e → better (isSell o) (f .price) (givenPrice e) ≡ false → Trader f
     theMarket : (e : Event) → Ends e → f .party ≡ e .sequence → got (e .sequence) (writtenFills o es) ≤ sizeOf e → Trader f
 
   pub record InRealPrices : Type 0 where
@@ -127,8 +128,8 @@ module _ (o : Order) (es : List Event) where
     -- they are those of demand 3's clauses, which hold of the buy that the order is or mirrors, with a sell's prices mirrored back
     pub clauses : Trades (atEnd o es)
     pub link : writtenFills o es ≡ reported (isSell o) (fills (dealOf (atEnd o es .head)) (offers (atEnd o es .board)))
-    -- the responses are those that the records taken leave standing
-    pub stand : Shuffles (standingOf o (takenRecords o es)) (liveAtEnd o es)
+    -- the responses, by sequence, are those that the records taken leave standing: an amended one is counted once, with its latest size and price
+    pub stand : inSequence (liveAtEnd o es) ≡ standingOf o (takenRecords o es)
     -- each party is the Contra Order, or exactly one record
     pub parties : Every Trader (writtenFills o es)
     pub told-apart : (e g : Event) → In e (takenRecords o es) → In g (takenRecords o es) → e .sequence ≡ g .sequence → e ≡ g
@@ -161,7 +162,7 @@ module _ (o : Order) (es : List Event) where
 
 -- ---- 4. a response that stands on the board is never counted twice
 
--- the response r is that of one record of es that was taken, and of no other
+-- the response r is that of one record of es that was taken, its latest, and of no other
 pub record OneRecord (o : Order) (es : List Event) (r : Response) : Type 0 where
   pub record-of : Event
   pub sends : Sends o es record-of r
@@ -176,10 +177,16 @@ module _ (o : Order) where
     -- once a record was taken, or ended the auction, every record with its sequence or a lower one is refused, whatever else it says, and changes nothing: 31 once ended; else 32 where it is out of form, and 33
     pub refused : (before : List Event) (e g : Event) → In e (takenRecords o before) → g .sequence ≤ e .sequence
         → (answerIs (stepOf (auctionAfter before) g .answer) ≡ no (cond (isOpen (auctionAfter before .head .ending)) (cond (eventFormed g) 33 32) 31)) × (stepOf (auctionAfter before) g .auction ≡ auctionAfter before)
-    -- each live response comes from one record
+    -- the live responses, by sequence, are a fold of the records taken: 1 and 3 add, 2 takes away, 6 takes away and adds
+    pub counted-once : (es : List Event) → Accepts o → inSequence (responses (auctionAfter es)) ≡ standingOf o (takenRecords o es)
+    -- each comes from one record, or from an amend of what came from one
     pub one-record : (es : List Event) → Accepts o → Every (OneRecord o es) (responses (auctionAfter es))
     -- no two of them bear one sequence
     pub apart : (es : List Event) → Accepts o → Distinct (responses (auctionAfter es))
-    -- a cancelled one never comes back
-    pub never-back : (before : List Event) (e : Event) (es : List Event) → Accepts o → e .kind ≡ 2 → answerIs (stepOf (auctionAfter before) e .answer) ≡ yes "taken"
-        → Absent (nameOf e) (liveOf (auctionAfter (before ++ (e ∷ es)) .board))
+    -- one that was cancelled or amended never comes back
+    pub never-back : (before : List Event) (e : Event) (es : List Event) → Accepts o → Names e → answerIs (stepOf (auctionAfter before) e .answer) ≡ yes "taken"
+        → Absent (nameOf e) (responses (auctionAfter (before ++ (e ∷ es))))
+    -- and a cancel or an amend of it is refused: 37, and 36 before it where the new price of an amend is worse than the initiating price
+    pub named-no-more : (before : List Event) (e : Event) (es : List Event) (g : Event) → Accepts o → Names e → answerIs (stepOf (auctionAfter before) e .answer) ≡ yes "taken"
+        → Names g → nameOf g ≡ nameOf e → InTime (auctionAfter (before ++ (e ∷ es)) .head) g
+        → answerIs (stepOf (auctionAfter (before ++ (e ∷ es))) g .answer) ≡ no (cond (isAmend g && better (isSell o) (initiatingPrice o) (newPriceOf g)) 36 37)

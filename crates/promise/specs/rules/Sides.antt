@@ -1,6 +1,6 @@
 -- An ended auction in real prices, buys and sells alike: the fills as they are written, the responses with their prices as they were sent.
-use mathlib.Core.Bool.{Bool, cond, not, _&&_, _||_}
-use mathlib.Core.List.{List, [], _∷_, map}
+use mathlib.Core.Bool.{Bool, true, cond, not, _&&_, _||_}
+use mathlib.Core.List.{List, [], _∷_, _++_, map}
 use Prim.Native.Nat.{ℕ, _+_, _-_, min, max}
 use lib.Dec.{ltb, eqb}
 use lib.ListN.{length}
@@ -10,7 +10,7 @@ use Rattle.board.specs.rules.Board.{liveOf, isGtx}
 use Rattle.share.specs.rules.Fills.{Fill, sizes}
 use Rattle.tape.specs.declared.order.Order.{Order}
 use Rattle.tape.specs.declared.event.Event.{Event}
-use Rattle.tape.specs.rules.Fields.{sizeOf, priceOf, nameOf}
+use Rattle.tape.specs.rules.Fields.{sizeOf, priceOf, nameOf, newSizeOf, newPriceOf}
 use Rattle.trade.specs.rules.Plan.{Plan, planOf}
 use Rattle.trade.specs.rules.Trade.{fromCustomer, fromOther, guaranteeOf, workingStop}
 use Rattle.trade.specs.rules.Write.{reportedPrice}
@@ -20,7 +20,7 @@ use Rattle.auction.specs.rules.Range.{rangeOf}
 use Rattle.auction.specs.declared.Auction.{Auction}
 use Rattle.auction.specs.declared.Range.{Range}
 use Rattle.auction.specs.declared.Market.{Market}
-use Rattle.events.specs.rules.Decide.{isCustomer}
+use Rattle.events.specs.rules.Decide.{isCustomer, isAmend}
 use Rattle.fills.specs.rules.Fills.{dealOf, auctionFills}
 use Rattle.run.specs.rules.Run.{takenOf, played}
 
@@ -71,6 +71,10 @@ module _ (o : Order) where
         gtx = eqb (e .kind) 1;
       }
 
+  -- the response that an amend sends instead of an old one: the record's sequence, the new size, capped at the CUBE size, and the new price; the Customer mark stays
+  abbrev pub sentInstead : Event → Response → Response
+  sentInstead e old = record { sequence = e .sequence; size = min (newSizeOf e) (o .size); price = newPriceOf e; customer = old .customer; gtx = true }
+
   -- the initiating price
   abbrev pub initiatingPrice : ℕ
   initiatingPrice = cond (isSell o) (sellRange o .low) (buyRange o .high)
@@ -79,21 +83,32 @@ module _ (o : Order) where
   abbrev pub takesPlace : Event → Bool
   takesPlace e = eqb (e .side) (otherSide o) && not (better (isSell o) initiatingPrice (priceOf e))
 
-  -- a GTX response stands, a cancel takes away the GTX response that it names, a limit order stands where it takes a place; no other record changes what stands
+  -- what stands, by sequence, after a record: a GTX response stands, a cancel takes away the GTX response that it names, a limit order stands where it takes a place, an amend takes away the GTX response that it names and
+  -- another stands instead; no other record changes what stands
   abbrev pub standsAfter : List Response → Event → List Response
   standsAfter rs e =
-      cond (eqb (e .kind) 1) (sentBy e ∷ rs)
-      (cond (eqb (e .kind) 2) (filter (λ r. not (isGtx (nameOf e) r)) rs)
-      (cond (eqb (e .kind) 3 && takesPlace e) (sentBy e ∷ rs)
-      rs))
+      let named = filter (isGtx (nameOf e)) rs in
+      let others = filter (λ r. not (isGtx (nameOf e) r)) rs in
+      cond (eqb (e .kind) 1) (rs ++ (sentBy e ∷ []))
+      (cond (eqb (e .kind) 2) others
+      (cond (eqb (e .kind) 3 && takesPlace e) (rs ++ (sentBy e ∷ []))
+      (cond (isAmend e) (others ++ map (sentInstead e) named)
+      rs)))
 
   abbrev pub standingFrom : List Response → List Event → List Response
   standingFrom rs [] = rs
   standingFrom rs (e ∷ es) = standingFrom (standsAfter rs e) es
 
-  -- what a list of records taken leaves standing
+  -- what a list of records taken leaves standing, by sequence
   abbrev pub standingOf : List Event → List Response
   standingOf es = standingFrom [] es
+
+-- the size and the price that a record gives its response: those of an amend are new
+abbrev pub givenSize : Event → ℕ
+givenSize e = cond (isAmend e) (newSizeOf e) (sizeOf e)
+
+abbrev pub givenPrice : Event → ℕ
+givenPrice e = cond (isAmend e) (newPriceOf e) (priceOf e)
 
 -- ---- fills
 
