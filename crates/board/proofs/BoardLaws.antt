@@ -11,10 +11,10 @@ use lib.Seq.{getD-set-same, getD-set-other}
 use borrow.Author.Tests.{lt-ltb, le-ltb, eq-eqb, eqb-true}
 use Rattle.words.specs.rules.Bits.{bitAt, withBit, withoutBit, onesIn}
 use Rattle.base.proofs.Numbers.{le-or-lt}
-use Rattle.words.proofs.BitLaws.{past-bit, with-same, with-other, with-ones, with-fits, with-clear, without-same, without-ones, without-le, without-clear, clear-is, clear-least}
+use Rattle.words.proofs.BitLaws.{past-bit, with-same, with-other, with-ones, with-fits, with-clear, with-set, without-same, without-ones, without-le, without-clear, without-not, clear-is, clear-least}
 use Rattle.base.specs.Lists.{Inserts}
 use Rattle.board.specs.rules.Board.{noResponse, responseAt, emptyBoard, isLive, liveCount, firstFree, liveIn, liveOf, seatedAt, cleared, isGtx, findGtx}
-use Rattle.board.specs.promises.Board.{Good, Seating, LowestFree, Clearing, GtxAt}
+use Rattle.board.specs.promises.Board.{Good, Seating, Amending, LowestFree, Clearing, GtxAt}
 use Rattle.board.specs.declared.Response.{Response}
 use Rattle.board.specs.declared.Board.{Board}
 use Rattle.base.proofs.ListLaws.{inserts-sum}
@@ -111,6 +111,31 @@ clearing b i g t =
           (λ le. le)
           (λ lt. absurd (true≢false (sym (clear-least 64 (withoutBit (b .live) i) i lt) ∙ without-same (b .live) i)))
           (le-or-lt (firstFree (cleared b i)) i);
+    }
+
+-- ---- seating at a live place
+pub amending : (b : Board) (i : ℕ) (r : Response) → Good b → isLive b i ≡ true → Amending b i r
+amending b i r g t =
+    let h = live-lt b i g t in
+    let ps = set (b .places) i r in
+    let n : Board = record { places = ps; live = b .live } in
+    let is : seatedAt b i r ≡ n = seated-is b i r h ∙ ap (λ (w : ℕ). record { places = ps; live = w }) (with-set (b .live) i t) in
+    let good : Good n = record { places-are = length-set (b .places) i r ∙ g .places-are; live-fits = g .live-fits } in
+    let stands : responseAt ps i ≡ r = getD-set-same (b .places) i r noResponse (omega (arith, g .places-are)) in
+    let old = clearing b i g t in
+    let new = clearing n i good t in
+    -- without place i both boards have the same live responses: what stands there is not seen
+    let rest : liveOf (cleared n i) ≡ liveOf (cleared b i) =
+    live-same (withoutBit (b .live) i) ps (b .places) noResponse (length-set (b .places) i r)
+    (λ j l. getD-set-other (b .places) i j r noResponse (without-not (b .live) i j l)) in
+    record {
+      takes = old .takes;
+      adds = rw is (rw (stands, rest) at (new .takes));
+      sums = λ f. rw is (omega (arith, old .sums f, rw (stands, rest) at (new .sums f)));
+      stands = rw is stands;
+      others = λ j k. rw is (getD-set-other (b .places) i j r noResponse k);
+      word = rw is refl;
+      count = rw is refl;
     }
 
 pub cleared-dead : (b : Board) (i : ℕ) → isLive b i ≡ false → cleared b i ≡ b

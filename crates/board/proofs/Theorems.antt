@@ -2,7 +2,7 @@
 use Rattle.words.proofs.BitLaws.{without-other, ones-clear, clear-ones}
 use Rattle.board.specs.promises.Board.{Changes, Seen, Finding, Ordering}
 use Rattle.board.specs.inside.Places.{Walking}
-use Rattle.board.proofs.BoardLaws.{seating, seated-past, seated-good, lowest-free, clearing, cleared-dead, cleared-good, empty-good, empty-live, live-count, unseen-live, unseen-find, find-gtx, gtx-found, no-gtx}
+use Rattle.board.proofs.BoardLaws.{seating, amending, seated-past, seated-good, lowest-free, clearing, cleared-dead, cleared-good, empty-good, empty-live, live-count, unseen-live, unseen-find, find-gtx, gtx-found, no-gtx}
 use Rattle.base.proofs.ListLaws.{shuffles-length, shuffles-sum}
 use Rattle.board.proofs.LiveLaws.{word-filters}
 use Rattle.board.proofs.SequenceLaws.{sequence-shuffles, sequence-rises, sequence-stable, sequence-filter}
@@ -11,6 +11,7 @@ use Rattle.board.proofs.FirstLaws.{first-earliest, earliest-first, some
 pub changes : Changes
 changes = record {
   seats = seating;
+  amends = amending;
   lowest = lowest-free;
   clears = clearing;
   past = seated-past;

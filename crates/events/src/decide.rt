@@ -2,7 +2,7 @@
 ghost use mathlib.Core.Path.{_≡_};
 ghost use mathlib.Core.Bool.{cond};
 ghost use lib.Dec.{ltb};
-ghost use Rattle.events.specs.rules.Decide.{seats, gtxOutcome, cancelOutcome, sellLimitOutcome, bidQuotes, moves, buyLimitOutcome, limitOutcome, marketOutcome, newQuotes, quotesOutcome, outcomeOf, responseOf, isNonRoutable};
+ghost use Rattle.events.specs.rules.Decide.{seats, gtxOutcome, cancelOutcome, amendedBy, amendOutcome, sellLimitOutcome, bidQuotes, moves, buyLimitOutcome, limitOutcome, marketOutcome, newQuotes, quotesOutcome, outcomeOf, responseOf, isNonRoutable};
 ghost use Rattle.auction.specs.rules.Range.{boundBy};
 use crate::Change;
 use crate::Outcome;
@@ -61,6 +61,32 @@ fn cancel(s: Sight) -> Outcome
     let found = s.found;
     if found < 64 {
         return Outcome::Does(Change::Free(found), Ending::Open);
+    }
+    Outcome::Refuses(37)
+}
+
+// The response that an amend makes of an old one: its Customer mark stays.
+fn amended(t: Terms, old: Response, e: Event) -> Response
+    ensures { λ r. ⌜ r ≡ amendedBy t old e ⌝ }
+{
+    Response {
+        sequence: e.sequence,
+        size: lower(e.f16, t.size),
+        price: e.f20,
+        customer: old.customer,
+        gtx: true,
+    }
+}
+
+fn amend(t: Terms, s: Sight, e: Event) -> Outcome
+    ensures { λ r. ⌜ r ≡ amendOutcome t s e ⌝ }
+{
+    if t.initiating < e.f20 {
+        return Outcome::Refuses(36);
+    }
+    let found = s.found;
+    if found < 64 {
+        return Outcome::Does(Change::Seat(found, amended(t, s.old, e)), Ending::Open);
     }
     Outcome::Refuses(37)
 }
@@ -207,6 +233,9 @@ pub(crate) fn decide(t: Terms, q: Quotes, s: Sight, e: Event) -> Outcome
     }
     if e.kind == 4 {
         return market(e);
+    }
+    if e.kind == 6 {
+        return amend(t, s, e);
     }
     quotes(t, e)
 }

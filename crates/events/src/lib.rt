@@ -22,8 +22,7 @@ pub struct Stepped {
     pub auction: Auction,
 }
 
-// What the board tells of an event: the place that a response would take (64: none), the place of the GTX that is named (64: none), and what stands there (for
-// whoever amends it).
+// What the board tells of an event: the place that a response would take (64: none), the place of the GTX that is named (64: none), and what stands there.
 pub struct Sight {
     pub at: usize,
     pub found: usize,

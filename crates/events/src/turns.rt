@@ -18,12 +18,12 @@ use board::Board;
 use mirror::buy_event;
 use tape::Event;
 
-// What the board tells of an event: it is looked over for a cancel alone.
+// What the board tells of an event: it is looked over for a cancel and an amend alone.
 pub fn sight(b: Board, e: Event) -> Sight
     ensures { λ r. ⌜ r ≡ sightOf b e ⌝ }
 {
     let at = board::first_free(b) as usize;
-    if e.kind == 2 {
+    if (e.kind == 2) | (e.kind == 6) {
         let found = board::find_gtx(b, e.f12);
         let old = board::response_at(b, found);
         return Sight { at, found, old };

@@ -6,18 +6,19 @@ use native.Mathlib.Omega.{arith}
 use lib.Dec.{eqb}
 use borrow.Author.Tests.{eq-eqb, ne-eqb, eqb-true}
 use Rattle.tape.specs.declared.event.Event.{Event}
-use Rattle.mirror.specs.rules.Mirror.{mirroredPriced, mirroredMarket, mirroredQuotes, mirroredEvent, buyEvent}
+use Rattle.mirror.specs.rules.Mirror.{mirroredPriced, mirroredMarket, mirroredQuotes, mirroredAmend, mirroredEvent, buyEvent}
 use Rattle.base.proofs.Bools.{by}
 
 -- what each kind's mirror keeps, the mirror keeps
-mirror-keeps : {A : Type 0} (f : Event → A) (e : Event) → f (mirroredPriced e) ≡ f e → f (mirroredMarket e) ≡ f e → f (mirroredQuotes e) ≡ f e → f (mirroredEvent e) ≡ f e
+mirror-keeps : {A : Type 0} (f : Event → A) (e : Event) → f (mirroredPriced e) ≡ f e → f (mirroredMarket e) ≡ f e → f (mirroredQuotes e) ≡ f e → f (mirroredAmend e) ≡ f e → f (mirroredEvent e) ≡ f e
 unfolding mirroredEvent
-mirror-keeps f e p m q =
+mirror-keeps f e p m q n =
     let P : Event → Type 0 = λ x. f x ≡ f e in
     by P (eqb (e .kind) 1) _ _ (λ _. p) (λ _.
     by P (eqb (e .kind) 3) _ _ (λ _. p) (λ _.
     by P (eqb (e .kind) 4) _ _ (λ _. m) (λ _.
-    by P (eqb (e .kind) 5) _ _ (λ _. q) (λ _. refl))))
+    by P (eqb (e .kind) 5) _ _ (λ _. q) (λ _.
+    by P (eqb (e .kind) 6) _ _ (λ _. n) (λ _. refl)))))
 
 buy-keeps : {A : Type 0} (f : Event → A) (s : Bool) (e : Event) → f (mirroredEvent e) ≡ f e → f (buyEvent s e) ≡ f e
 unfolding buyEvent
@@ -26,16 +27,16 @@ buy-keeps f false e h = refl
 
 module _ (e : Event) where
   pub mirror-sequence : mirroredEvent e .sequence ≡ e .sequence
-  unfolding mirroredPriced mirroredMarket mirroredQuotes
-  mirror-sequence = mirror-keeps (λ x. x .sequence) e refl refl refl
+  unfolding mirroredPriced mirroredMarket mirroredQuotes mirroredAmend
+  mirror-sequence = mirror-keeps (λ x. x .sequence) e refl refl refl refl
 
   pub mirror-time : mirroredEvent e .time ≡ e .time
-  unfolding mirroredPriced mirroredMarket mirroredQuotes
-  mirror-time = mirror-keeps (λ x. x .time) e refl refl refl
+  unfolding mirroredPriced mirroredMarket mirroredQuotes mirroredAmend
+  mirror-time = mirror-keeps (λ x. x .time) e refl refl refl refl
 
   pub mirror-kind : mirroredEvent e .kind ≡ e .kind
-  unfolding mirroredPriced mirroredMarket mirroredQuotes
-  mirror-kind = mirror-keeps (λ x. x .kind) e refl refl refl
+  unfolding mirroredPriced mirroredMarket mirroredQuotes mirroredAmend
+  mirror-kind = mirror-keeps (λ x. x .kind) e refl refl refl refl
 
   pub buy-sequence : (s : Bool) → buyEvent s e .sequence ≡ e .sequence
   buy-sequence s = buy-keeps (λ x. x .sequence) s e mirror-sequence
@@ -67,16 +68,21 @@ module _ (e : Event) where
   unfolding mirroredEvent
   mirror-five h = simp (ne-eqb (e .kind) 1 (λ z. omega arith), ne-eqb (e .kind) 3 (λ z. omega arith), ne-eqb (e .kind) 4 (λ z. omega arith), eq-eqb _ _ h)
 
-  pub mirror-rest : eqb (e .kind) 1 ≡ false → eqb (e .kind) 3 ≡ false → eqb (e .kind) 4 ≡ false → eqb (e .kind) 5 ≡ false → mirroredEvent e ≡ e
+  pub mirror-six : e .kind ≡ 6 → mirroredEvent e ≡ mirroredAmend e
   unfolding mirroredEvent
-  mirror-rest a b c d = simp (a, b, c, d)
+  mirror-six h = simp (ne-eqb (e .kind) 1 (λ z. omega arith), ne-eqb (e .kind) 3 (λ z. omega arith), ne-eqb (e .kind) 4 (λ z. omega arith), ne-eqb (e .kind) 5 (λ z. omega arith), eq-eqb _ _ h)
+
+  pub mirror-rest : eqb (e .kind) 1 ≡ false → eqb (e .kind) 3 ≡ false → eqb (e .kind) 4 ≡ false → eqb (e .kind) 5 ≡ false → eqb (e .kind) 6 ≡ false → mirroredEvent e ≡ e
+  unfolding mirroredEvent
+  mirror-rest a b c d g = simp (a, b, c, d, g)
 
 -- what holds of each kind's mirror holds of the mirror
-pub mirror-by : (P : Event → Type 0) (e : Event) → (e .kind ≡ 1 → P (mirroredPriced e)) → (e .kind ≡ 3 → P (mirroredPriced e)) → (e .kind ≡ 4 → P (mirroredMarket e)) → (e .kind ≡ 5 → P (mirroredQuotes e))
-    → (eqb (e .kind) 1 ≡ false → eqb (e .kind) 3 ≡ false → eqb (e .kind) 4 ≡ false → eqb (e .kind) 5 ≡ false → P e) → P (mirroredEvent e)
+pub mirror-by : (P : Event → Type 0) (e : Event) → (e .kind ≡ 1 → P (mirroredPriced e)) → (e .kind ≡ 3 → P (mirroredPriced e)) → (e .kind ≡ 4 → P (mirroredMarket e)) → (e .kind ≡ 5 → P (mirroredQuotes e)) → (e .kind ≡ 6 → P (mirroredAmend e))
+    → (eqb (e .kind) 1 ≡ false → eqb (e .kind) 3 ≡ false → eqb (e .kind) 4 ≡ false → eqb (e .kind) 5 ≡ false → eqb (e .kind) 6 ≡ false → P e) → P (mirroredEvent e)
 unfolding mirroredEvent
-mirror-by P e p1 p3 p4 p5 p =
+mirror-by P e p1 p3 p4 p5 p6 p =
     by P (eqb (e .kind) 1) _ _ (λ z. p1 (eqb-true _ _ z)) (λ a.
     by P (eqb (e .kind) 3) _ _ (λ z. p3 (eqb-true _ _ z)) (λ b.
     by P (eqb (e .kind) 4) _ _ (λ z. p4 (eqb-true _ _ z)) (λ c.
-    by P (eqb (e .kind) 5) _ _ (λ z. p5 (eqb-true _ _ z)) (λ d. p a b c d))))
+    by P (eqb (e .kind) 5) _ _ (λ z. p5 (eqb-true _ _ z)) (λ d.
+    by P (eqb (e .kind) 6) _ _ (λ z. p6 (eqb-true _ _ z)) (λ g. p a b c d g)))))

@@ -15,9 +15,9 @@ use Rattle.base.specs.Price.{mirrored}
 use Rattle.base.proofs.Numbers.{mirror-twice}
 use Rattle.mirror.specs.promises.Records.{RecordsMirror}
 use Rattle.mirror.proofs.MarkLaws.{marks-mirror, marks-twice, marks-below}
-use Rattle.mirror.specs.rules.Mirror.{mirroredMarks, mirroredSide, mirroredOrder, mirroredPriced, mirroredMarket, mirroredQuotes, mirroredEvent, buyOrder}
+use Rattle.mirror.specs.rules.Mirror.{mirroredMarks, mirroredSide, mirroredOrder, mirroredPriced, mirroredMarket, mirroredQuotes, mirroredAmend, mirroredEvent, buyOrder}
 use Rattle.base.proofs.Bools.{by}
-use Rattle.mirror.proofs.EventLaws.{mirror-one, mirror-three, mirror-four, mirror-five, mirror-rest, mirror-by}
+use Rattle.mirror.proofs.EventLaws.{mirror-one, mirror-three, mirror-four, mirror-five, mirror-six, mirror-rest, mirror-by}
 
 pub side-twice : (s : ℕ) → mirroredSide (mirroredSide s) ≡ s
 unfolding mirroredSide
@@ -140,15 +140,20 @@ module _ (e : Event) (f : eventFormed e ≡ true) where
       let b = event-bounds e f in
       simp (marks-twice (e .marks), mirror-twice (e .f12) (omega (arith, b .nbb k)), mirror-twice (e .f16) (omega (arith, b .price)), mirror-twice (e .f20) (omega (arith, b .bb)), mirror-twice (e .f24) (omega (arith, b .bo)))
 
+  amend-twice : mirroredAmend (mirroredAmend e) ≡ e
+  unfolding mirroredAmend
+  amend-twice = simp (mirror-twice (e .f20) (omega (arith, event-bounds e f .bb)))
+
   pub event-twice : mirroredEvent (mirroredEvent e) ≡ e
-  unfolding mirroredPriced mirroredMarket mirroredQuotes
+  unfolding mirroredPriced mirroredMarket mirroredQuotes mirroredAmend
   event-twice =
       mirror-by (λ x. mirroredEvent x ≡ e) e
       (λ k. mirror-one (mirroredPriced e) k ∙ priced-twice)
       (λ k. mirror-three (mirroredPriced e) k ∙ priced-twice)
       (λ k. mirror-four (mirroredMarket e) k ∙ market-twice)
       (λ k. mirror-five (mirroredQuotes e) k ∙ quotes-twice k)
-      (λ a b c d. mirror-rest e a b c d)
+      (λ k. mirror-six (mirroredAmend e) k ∙ amend-twice)
+      (λ a b c d g. mirror-rest e a b c d g)
 
 -- an event is in form where each test of its kind's row passes
 formed-by : (e : Event) → leb (e .time) 86400000 ≡ true → inside (e .marks) (shapeOf (e .kind) .marks) ≡ true
@@ -210,6 +215,11 @@ module _ (e : Event) (f : eventFormed e ≡ true) where
       formed-by (mirroredQuotes e) (test 0) (rw k (marks-in (e .marks) t1)) (rw k (low-same (e .marks) ∙ t2)) (rw k t3)
       (rw k (price-in (e .f16) t5)) (rw k (price-in (e .f12) t4)) (rw k (bid-in (e .f24) t7)) (rw k (offer-in (e .f20) t6))
 
+  -- a row whose field 20 is a price
+  amend-form : shapeOf (e .kind) .f20 ≡ prices → eventFormed (mirroredAmend e) ≡ true
+  unfolding mirroredAmend shapeTests
+  amend-form p = formed-by (mirroredAmend e) (test 0) (test 1) (test 2) (test 3) (test 4) (test 5) (rw p (price-in (e .f20) (rw p at (test 6)))) (test 7)
+
   pub event-form : eventFormed (mirroredEvent e) ≡ true
   unfolding shapeOf
   event-form =
@@ -218,7 +228,8 @@ module _ (e : Event) (f : eventFormed e ≡ true) where
       (λ k. priced-form (ap (λ (n : ℕ). shapeOf n .side) k) (ap (λ (n : ℕ). shapeOf n .f16) k))
       (λ k. market-form (ap (λ (n : ℕ). shapeOf n .side) k))
       quotes-form
-      (λ _ _ _ _. f)
+      (λ k. amend-form (ap (λ (n : ℕ). shapeOf n .f20) k))
+      (λ _ _ _ _ _. f)
 
 -- ---- all that is promised
 

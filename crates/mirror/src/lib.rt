@@ -3,7 +3,7 @@ ghost use mathlib.Core.Path.{_≡_};
 ghost use mathlib.Core.Bool.{cond};
 ghost use lib.Dec.{eqb};
 ghost use Rattle.base.specs.Price.{mirrored};
-ghost use Rattle.mirror.specs.rules.Mirror.{withMark, mirroredMarks, mirroredSide, mirroredOrder, mirroredPriced, mirroredMarket, mirroredQuotes, mirroredEvent, buyOrder, buyEvent};
+ghost use Rattle.mirror.specs.rules.Mirror.{withMark, mirroredMarks, mirroredSide, mirroredOrder, mirroredPriced, mirroredMarket, mirroredQuotes, mirroredAmend, mirroredEvent, buyOrder, buyEvent};
 use base::mirror;
 use tape::Event;
 use tape::Order;
@@ -103,6 +103,14 @@ fn mirror_quotes(e: Event) -> Event
     n
 }
 
+fn mirror_amend(e: Event) -> Event
+    ensures { λ r. ⌜ r ≡ mirroredAmend e ⌝ }
+{
+    let mut n = e;
+    n.f20 = mirror(e.f20);
+    n
+}
+
 fn mirror_event(e: Event) -> Event
     ensures { λ r. ⌜ r ≡ mirroredEvent e ⌝ }
 {
@@ -117,6 +125,9 @@ fn mirror_event(e: Event) -> Event
     }
     if e.kind == 5 {
         return mirror_quotes(e);
+    }
+    if e.kind == 6 {
+        return mirror_amend(e);
     }
     e
 }

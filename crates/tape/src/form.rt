@@ -131,6 +131,17 @@ fn shape_of(kind: u8) -> Shape
             f24: OFFERS,
         };
     }
+    if kind == 6 {
+        return Shape {
+            marks: UNUSED,
+            low: true,
+            side: UNUSED,
+            f12: ANY,
+            f16: SIZES,
+            f20: PRICES,
+            f24: UNUSED,
+        };
+    }
     Shape {
         marks: Range { low: 1, high: 0 },
         low: true,

@@ -44,9 +44,22 @@ pub record Clearing (b : Board) (i : ℕ) : Type 0 where
   pub dead : isLive (cleared b i) i ≡ false
   pub free : firstFree (cleared b i) ≤ i
 
+-- a response is seated at a live place: it stands for the one that stood there
+pub record Amending (b : Board) (i : ℕ) (r : Response) : Type 0 where
+  -- of the live responses the old one is gone, r is new, and all others stay
+  pub takes : Inserts (responseAt (b .places) i) (liveOf (cleared b i)) (liveOf b)
+  pub adds : Inserts r (liveOf (cleared b i)) (liveOf (seatedAt b i r))
+  pub sums : (f : Response → ℕ) → f (responseAt (b .places) i) + sum (map f (liveOf (seatedAt b i r))) ≡ f r + sum (map f (liveOf b))
+  -- r stands there now; every other place, the word and the count stay
+  pub stands : responseAt (seatedAt b i r .places) i ≡ r
+  pub others : (j : ℕ) → (j ≡ i → ⊥) → responseAt (seatedAt b i r .places) j ≡ responseAt (b .places) j
+  pub word : seatedAt b i r .live ≡ b .live
+  pub count : liveCount (seatedAt b i r) ≡ liveCount b
+
 -- what seating and clearing do, and when they do nothing
 pub record Changes : Type 0 where
   pub seats : (b : Board) (i : ℕ) (r : Response) → Good b → i < 64 → isLive b i ≡ false → Seating b i r
+  pub amends : (b : Board) (i : ℕ) (r : Response) → Good b → isLive b i ≡ true → Amending b i r
   pub lowest : (b : Board) → firstFree b < 64 → LowestFree b
   pub clears : (b : Board) (i : ℕ) → Good b → isLive b i ≡ true → Clearing b i
   -- where there is no such place, and where the place is not live, the board stays

@@ -5,7 +5,7 @@ use lib.Dec.{leb, ltb, eqb}
 use Rattle.words.specs.rules.Bits.{bitAt}
 use Rattle.board.specs.declared.Response.{Response}
 use Rattle.tape.specs.declared.event.Event.{Event}
-use Rattle.tape.specs.rules.Fields.{sizeOf, priceOf, nbbOf, nboOf, bbOf, boOf}
+use Rattle.tape.specs.rules.Fields.{sizeOf, priceOf, newSizeOf, newPriceOf, nbbOf, nboOf, bbOf, boOf}
 use Rattle.auction.specs.rules.Accept.{bidMark, offerMark}
 use Rattle.auction.specs.rules.Range.{boundBy}
 use Rattle.auction.specs.declared.Terms.{Terms}
@@ -19,6 +19,9 @@ use Rattle.events.specs.declared.Outcome.the-variants.{Refuses, Does}
 
 abbrev pub isCancel : Event → Bool
 isCancel e = eqb (e .kind) 2
+
+abbrev pub isAmend : Event → Bool
+isAmend e = eqb (e .kind) 6
 
 abbrev pub isCustomer : Event → Bool
 isCustomer e = bitAt (e .marks) 0
@@ -43,6 +46,16 @@ gtxOutcome t s e =
 
 unfoldable pub cancelOutcome : Sight → Outcome
 cancelOutcome s = cond (ltb (s .found) 64) (Does (Free (s .found)) Open) (Refuses 37)
+
+-- the GTX response that an amend makes of an old one: the event's sequence, the new size, capped at the CUBE size, the new price; the Customer mark stays
+abbrev pub amendedBy : Terms → Response → Event → Response
+amendedBy t old e = record { sequence = e .sequence; size = min (newSizeOf e) (t .size); price = newPriceOf e; customer = old .customer; gtx = true }
+
+-- an amend: the new response stands at the place of the GTX response that is named
+unfoldable pub amendOutcome : Terms → Sight → Event → Outcome
+amendOutcome t s e =
+    cond (ltb (t .initiating) (newPriceOf e)) (Refuses 36)
+    (cond (ltb (s .found) 64) (Does (Seat (s .found) (amendedBy t (s .old) e)) Open) (Refuses 37))
 
 -- a sell limit: marketable at the NBB or below (non-routable: the BB); it takes a place where it is not above the initiating price
 unfoldable pub sellLimitOutcome : Terms → Quotes → Sight → Event → Outcome
@@ -92,4 +105,5 @@ outcomeOf t q s e =
     (cond (isCancel e) (cancelOutcome s)
     (cond (eqb (e .kind) 3) (limitOutcome t q s e)
     (cond (eqb (e .kind) 4) (marketOutcome e)
-    (quotesOutcome t e))))
+    (cond (isAmend e) (amendOutcome t s e)
+    (quotesOutcome t e)))))

@@ -1,5 +1,5 @@
 -- What an event does (document 01): what it sees of the board, one turn by what is decided of it, and the step.
-use mathlib.Core.Bool.{cond, not}
+use mathlib.Core.Bool.{cond, not, _||_}
 use Prim.Native.Nat.{ℕ}
 use lib.Dec.{leb, ltb, eqb}
 use Rattle.board.specs.declared.Board.{Board}
@@ -8,7 +8,7 @@ use Rattle.tape.specs.declared.event.Event.{Event}
 use Rattle.tape.specs.rules.Form.{eventFormed}
 use Rattle.tape.specs.rules.Fields.{nameOf}
 use Rattle.mirror.specs.rules.Mirror.{buyEvent}
-use Rattle.events.specs.rules.Decide.{isCancel, outcomeOf}
+use Rattle.events.specs.rules.Decide.{isCancel, isAmend, outcomeOf}
 use Rattle.auction.specs.rules.Range.{isOpen}
 use Rattle.auction.specs.declared.Auction.{Auction}
 use Rattle.auction.specs.declared.Head.{Head}
@@ -40,7 +40,7 @@ eventRefusal h e =
 
 -- the place of the GTX response that an event names, and 64 where it names none that is live
 abbrev pub foundFor : Board → Event → ℕ
-foundFor b e = cond (isCancel e) (findGtx b (nameOf e)) 64
+foundFor b e = cond (isCancel e || isAmend e) (findGtx b (nameOf e)) 64
 
 -- the place that a response would take, the lowest free one (64: none); the place of the GTX that is named; what stands there
 unfoldable pub sightOf : Board → Event → Sight

@@ -32,9 +32,16 @@ returns-4 : tie.Need-returns-4
 unfolding mirroredEvent
 returns-4 c = simp ((ne-eqb _ _ (c .before .before .before .before .before .before .before .if1 .left)), (ne-eqb _ _ (c .before .before .before .before .before .if2 .left)), (ne-eqb _ _ (c .before .before .before .if3 .left)), (eq-eqb _ _ (c .before .if4 .taken))) (c .mirror-quotes .ensures)
 
+mirror-amend-requires : tie.Need-mirror-amend-requires
+mirror-amend-requires c κs = search needs
+
 returns-5 : tie.Need-returns-5
 unfolding mirroredEvent
-returns-5 c = simp ((ne-eqb _ _ (c .before .before .before .before .before .before .if1 .left)), (ne-eqb _ _ (c .before .before .before .before .if2 .left)), (ne-eqb _ _ (c .before .before .if3 .left)), (ne-eqb _ _ (c .if4 .left)))
+returns-5 c = simp (ne-eqb _ _ (c .before .before .before .before .before .before .before .before .before .if1 .left), ne-eqb _ _ (c .before .before .before .before .before .before .before .if2 .left), ne-eqb _ _ (c .before .before .before .before .before .if3 .left), ne-eqb _ _ (c .before .before .before .if4 .left), eq-eqb _ _ (c .before .if5 .taken)) (c .mirror-amend .ensures)
+
+returns-6 : tie.Need-returns-6
+unfolding mirroredEvent
+returns-6 c = simp (ne-eqb _ _ (c .before .before .before .before .before .before .before .before .if1 .left), ne-eqb _ _ (c .before .before .before .before .before .before .if2 .left), ne-eqb _ _ (c .before .before .before .before .if3 .left), ne-eqb _ _ (c .before .before .if4 .left), ne-eqb _ _ (c .if5 .left))
 
 pub mirror-event-spec : {M : Type 1} → statement M
 mirror-event-spec =
@@ -48,4 +55,6 @@ mirror-event-spec =
     returns-3
     mirror-quotes-requires
     returns-4
-    returns-5)
+    mirror-amend-requires
+    returns-5
+    returns-6)

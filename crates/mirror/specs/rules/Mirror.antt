@@ -4,7 +4,7 @@ use Prim.Native.Nat.{ℕ}
 use lib.Dec.{eqb}
 use Rattle.base.specs.Price.{mirrored}
 use Rattle.words.specs.rules.Bits.{bitAt, withBit, withoutBit}
-use Rattle.tape.specs.rules.Fields.{sizeOf, priceOf, nbbOf, nboOf, bbOf, boOf}
+use Rattle.tape.specs.rules.Fields.{sizeOf, priceOf, nameOf, newSizeOf, newPriceOf, nbbOf, nboOf, bbOf, boOf}
 use Rattle.tape.specs.declared.order.Order.{Order}
 use Rattle.tape.specs.declared.event.Event.{Event}
 
@@ -52,6 +52,10 @@ mirroredMarket e = record { sequence = e .sequence; time = e .time; kind = e .ki
 unfoldable pub mirroredQuotes : Event → Event
 mirroredQuotes e = record { sequence = e .sequence; time = e .time; kind = e .kind; marks = mirroredMarks (e .marks); side = e .side; f12 = mirrored (nboOf e); f16 = mirrored (nbbOf e); f20 = mirrored (boOf e); f24 = mirrored (bbOf e) }
 
+-- an amend: its new price
+unfoldable pub mirroredAmend : Event → Event
+mirroredAmend e = record { sequence = e .sequence; time = e .time; kind = e .kind; marks = e .marks; side = e .side; f12 = nameOf e; f16 = newSizeOf e; f20 = mirrored (newPriceOf e); f24 = e .f24 }
+
 -- a cancel has nothing to mirror
 unfoldable pub mirroredEvent : Event → Event
 mirroredEvent e =
@@ -59,7 +63,8 @@ mirroredEvent e =
     (cond (eqb (e .kind) 3) (mirroredPriced e)
     (cond (eqb (e .kind) 4) (mirroredMarket e)
     (cond (eqb (e .kind) 5) (mirroredQuotes e)
-    e)))
+    (cond (eqb (e .kind) 6) (mirroredAmend e)
+    e))))
 
 -- the buy that an order or an event is for the engine
 unfoldable pub buyOrder : Order → Order

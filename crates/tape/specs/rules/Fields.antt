@@ -9,9 +9,16 @@ sizeOf e = e .f12
 abbrev pub priceOf : Event → ℕ
 priceOf e = e .f16
 
--- of a cancel: the sequence of the GTX response that it names
+-- of a cancel and of an amend: the sequence of the GTX response that it names
 abbrev pub nameOf : Event → ℕ
 nameOf e = e .f12
+
+-- of an amend: the size and the price that the GTX response gets
+abbrev pub newSizeOf : Event → ℕ
+newSizeOf e = e .f16
+
+abbrev pub newPriceOf : Event → ℕ
+newPriceOf e = e .f20
 
 -- of quotes
 abbrev pub nbbOf : Event → ℕ

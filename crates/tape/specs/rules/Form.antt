@@ -78,7 +78,7 @@ offers = range 1 1000000
 abbrev pub row : Range → Bool → Range → Range → Range → Range → Range → Shape
 row marks low side f12 f16 f20 f24 = record { marks = marks; low = low; side = side; f12 = f12; f16 = f16; f20 = f20; f24 = f24 }
 
--- the table, by kind: 1 GTX response, 2 cancel, 3 limit order or quote, 4 market order, 5 quotes; nothing fits another kind
+-- the table, by kind: 1 GTX response, 2 cancel, 3 limit order or quote, 4 market order, 5 quotes, 6 amend; nothing fits another kind
 unfoldable pub shapeOf : ℕ → Shape
 shapeOf kind =
     cond (eqb kind 1) (row (range 0 1) true sides sizes prices unused unused)
@@ -86,7 +86,8 @@ shapeOf kind =
     (cond (eqb kind 3) (row (range 0 3) true sides sizes prices unused unused)
     (cond (eqb kind 4) (row (range 0 1) true sides sizes unused unused unused)
     (cond (eqb kind 5) (row (range 0 15) false unused prices prices bids offers)
-    (row (range 1 0) true unused unused unused unused unused)))))
+    (cond (eqb kind 6) (row unused true unused anyNumber sizes prices unused)
+    (row (range 1 0) true unused unused unused unused unused))))))
 
 unfoldable pub shapeTests : Shape → Event → List Bool
 shapeTests s e =

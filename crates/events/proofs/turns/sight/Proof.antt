@@ -1,4 +1,3 @@
-use borrow.Author.Tests.{eq-eqb, ne-eqb}
 use Rattle.events.specs.rules.Step.{sightOf}
 use borrow.Author.Needs.{needs}
 use Rattle.events.proofs.turns.sight.Statement.{statement}
@@ -18,14 +17,14 @@ response-at-requires c κs = search needs
 
 returns : tie.Need-returns
 unfolding sightOf
-returns c = simp (eq-eqb _ _ (c .before .before .if1 .taken), c .before .before .before .before .first-free .ensures, c .before .find-gtx .ensures, c .response-at .ensures)
+returns c = simp (c .before .before .if1 .taken, c .before .before .before .before .before .first-free .ensures, c .before .find-gtx .ensures, c .response-at .ensures)
 
 response-at-requires-2 : tie.Need-response-at-requires-2
 response-at-requires-2 c κs = search needs
 
 returns-2 : tie.Need-returns-2
 unfolding sightOf
-returns-2 c = simp (ne-eqb _ _ (c .before .if1 .left), c .before .before .before .first-free .ensures, c .response-at2 .ensures)
+returns-2 c = simp (c .before .if1 .left, c .before .before .before .before .first-free .ensures, c .response-at2 .ensures)
 
 pub sight-spec : {M : Type 1} → statement M
 sight-spec =
