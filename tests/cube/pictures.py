@@ -40,14 +40,16 @@ amend sequence=10 time=100 of=8 size=40 price=102
 def amending(r):
     """A text with many amends and cancels, most of them of responses that stand."""
     side, other = r.choice([("buy", "sell"), ("sell", "buy")])
-    lines, last = [AMENDED.splitlines()[0].replace("side=buy", "side=" + side).replace("limit=110 stop=108", "limit=105 stop=105")], 0
-    for time in sorted(r.sample(range(102), r.randint(5, 16))):
-        sequence, of = last + r.choice([1, 1, 1, 1, 0]), r.randint(max(1, last - 4), last + 1)
-        price, size, mark = r.randint(*((99, 106) if side == "buy" else (104, 111))), r.randint(1, 130), r.choice(["", " customer=yes"])
-        placed = " sequence=%d time=%d side=%s size=%d price=%d%s" % (sequence, time, other, size, price, mark)
-        lines.append(r.choice(["gtx" + placed, "limit" + placed, "cancel sequence=%d time=%d of=%d" % (sequence, time, of)]
-                              + ["amend sequence=%d time=%d of=%d size=%d price=%d" % (sequence, time, of, size, price)] * 3))
+    lines, last, names = [AMENDED.splitlines()[0].replace("side=buy", "side=" + side).replace("limit=110 stop=108", "limit=105 stop=105")], 0, [1]
+    for time in sorted(r.sample(range(102), r.randint(8, 20))):
+        sequence, of = last + r.choice([1, 1, 1, 1, 1, 0]), r.choice(names[-3:] * 3 + [r.randint(1, last + 1)])
+        kind, price = r.choice(["gtx", "gtx", "limit", "cancel", "amend", "amend", "amend"]), r.randint(*((101, 106) if side == "buy" else (104, 109)))
+        words = "of=%d" % of if kind in ("cancel", "amend") else "side=" + other
+        words += "" if kind == "cancel" else " size=%d price=%d" % (r.randint(1, 130), price)
+        lines.append("%s sequence=%d time=%d %s%s" % (kind, sequence, time, words, r.choice(["", " customer=yes"]) if kind in ("gtx", "limit") else ""))
         last = max(last, sequence)
+        if kind == "gtx" or kind == "amend" and of in names:
+            names = [n for n in names if kind == "gtx" or n != of] + [sequence]
     return "\n".join(lines) + "\n"
 
 
