@@ -5,7 +5,9 @@ use Prim.Native.Nat.{ℕ}
 use native.Mathlib.Omega.{arith}
 use lib.Dec.{eqb}
 use borrow.Author.Tests.{eq-eqb, ne-eqb, eqb-true}
+use mathlib.Core.Logic.{_⊎_, inl, inr}
 use Rattle.tape.specs.declared.event.Event.{Event}
+use Rattle.tape.specs.rules.Fields.{nameOf}
 use Rattle.mirror.specs.rules.Mirror.{mirroredPriced, mirroredMarket, mirroredQuotes, mirroredAmend, mirroredEvent, buyEvent}
 use Rattle.base.proofs.Bools.{by}
 
@@ -72,6 +74,11 @@ module _ (e : Event) where
   unfolding mirroredEvent
   mirror-six h = simp (ne-eqb (e .kind) 1 (λ z. omega arith), ne-eqb (e .kind) 3 (λ z. omega arith), ne-eqb (e .kind) 4 (λ z. omega arith), ne-eqb (e .kind) 5 (λ z. omega arith), eq-eqb _ _ h)
 
+  -- a mirrored amend keeps its new size
+  pub amend-size : (s : Bool) → e .kind ≡ 6 → buyEvent s e .f16 ≡ e .f16
+  unfolding mirroredAmend
+  amend-size s h = buy-keeps (λ x. x .f16) s e (ap (λ (x : Event). x .f16) (mirror-six h))
+
   pub mirror-rest : eqb (e .kind) 1 ≡ false → eqb (e .kind) 3 ≡ false → eqb (e .kind) 4 ≡ false → eqb (e .kind) 5 ≡ false → eqb (e .kind) 6 ≡ false → mirroredEvent e ≡ e
   unfolding mirroredEvent
   mirror-rest a b c d g = simp (a, b, c, d, g)
@@ -86,3 +93,16 @@ mirror-by P e p1 p3 p4 p5 p6 p =
     by P (eqb (e .kind) 4) _ _ (λ z. p4 (eqb-true _ _ z)) (λ c.
     by P (eqb (e .kind) 5) _ _ (λ z. p5 (eqb-true _ _ z)) (λ d.
     by P (eqb (e .kind) 6) _ _ (λ z. p6 (eqb-true _ _ z)) (λ g. p a b c d g)))))
+
+-- a cancel and an amend keep the name that they have
+module _ (e : Event) (k : (e .kind ≡ 2) ⊎ (e .kind ≡ 6)) where
+  pub mirror-name : nameOf (mirroredEvent e) ≡ nameOf e
+  unfolding mirroredPriced mirroredMarket mirroredAmend
+  mirror-name = mirror-by (λ x. nameOf x ≡ nameOf e) e (λ _. refl) (λ _. refl) (λ _. refl) (λ z. absurd (no-quotes k z)) (λ _. refl) (λ _ _ _ _ _. refl)
+    where
+      no-quotes : (e .kind ≡ 2) ⊎ (e .kind ≡ 6) → e .kind ≡ 5 → ⊥
+      no-quotes (inl k) z = omega arith
+      no-quotes (inr k) z = omega arith
+
+  pub buy-name : (s : Bool) → nameOf (buyEvent s e) ≡ nameOf e
+  buy-name s = buy-keeps nameOf s e mirror-name

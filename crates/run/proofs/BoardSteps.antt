@@ -1,6 +1,6 @@
 -- What seating and clearing keep of the live responses, and what an event sees of a board. Assumes nothing.
 use mathlib.Core.Path.{_≡_, refl, sym, subst}
-use mathlib.Core.Bool.{Bool, true, false}
+use mathlib.Core.Bool.{Bool, true, false, _||_}
 use mathlib.Core.List.{List}
 use mathlib.Core.Logic.{_≢_}
 use Prim.Native.Nat.{ℕ, _<_}
@@ -13,12 +13,12 @@ use Rattle.board.specs.rules.Board.{isLive, liveOf, seatedAt, cleared, findGtx}
 use Rattle.board.specs.promises.Board.{Good}
 use Rattle.board.specs.declared.Board.{Board}
 use Rattle.board.specs.declared.Response.{Response}
-use Rattle.board.proofs.BoardLaws.{seating, clearing, cleared-dead, find-gtx}
+use Rattle.board.proofs.BoardLaws.{seating, amending, clearing, cleared-dead, find-gtx}
 use Rattle.words.proofs.BitLaws.{clear-is}
 use Rattle.tape.specs.declared.event.Event.{Event}
 use Rattle.demand.specs.promises.Demands.{Absent, Distinct}
 use Rattle.tape.specs.rules.Fields.{nameOf}
-use Rattle.events.specs.rules.Decide.{isCancel}
+use Rattle.events.specs.rules.Decide.{isCancel, isAmend}
 use Rattle.events.specs.rules.Step.{sightOf}
 use Rattle.run.specs.promises.Demands.{Fits}
 
@@ -28,13 +28,17 @@ unfolding sightOf
 sees b e g =
     record {
       free = λ h. clear-is 64 (b .live) h;
-      found = by (λ (i : ℕ). i < 64 → isLive b i ≡ true) (isCancel e) (findGtx b (nameOf e)) 64 (λ _ h. find-gtx b (nameOf e) g h .live) (λ _ h. absurd (omega arith));
+      found = by (λ (i : ℕ). i < 64 → isLive b i ≡ true) (isCancel e || isAmend e) (findGtx b (nameOf e)) 64 (λ _ h. find-gtx b (nameOf e) g h .live) (λ _ h. absurd (omega arith));
       old = refl;
     }
 
 module _ (b : Board) (g : Good b) where
   pub seat-every : (P : Response → Type 0) (i : ℕ) (r : Response) → i < 64 → isLive b i ≡ false → P r → Every P (liveOf b) → Every P (liveOf (seatedAt b i r))
   seat-every P i r l z p h = inserts-every P (seating b i r g l z .adds) p h
+
+  -- at a live place
+  pub amend-every : (P : Response → Type 0) (i : ℕ) (r : Response) → isLive b i ≡ true → P r → Every P (liveOf b) → Every P (liveOf (seatedAt b i r))
+  amend-every P i r z p h = let m = amending b i r g z in inserts-every P (m .adds) p (every-inserts P (m .takes) h .1)
 
   pub clear-every : (P : Response → Type 0) (i : ℕ) → Every P (liveOf b) → Every P (liveOf (cleared b i))
   clear-every P i h = go (isLive b i) refl
@@ -54,6 +58,9 @@ distinct-less (there {x} i) d = (every-inserts (λ y. y .sequence ≢ x .sequenc
 module _ (b : Board) (g : Good b) where
   pub seat-distinct : (i : ℕ) (r : Response) → i < 64 → isLive b i ≡ false → Absent (r .sequence) (liveOf b) → Distinct (liveOf b) → Distinct (liveOf (seatedAt b i r))
   seat-distinct i r l z a d = distinct-more (seating b i r g l z .adds) a d
+
+  pub amend-distinct : (i : ℕ) (r : Response) → isLive b i ≡ true → Absent (r .sequence) (liveOf b) → Distinct (liveOf b) → Distinct (liveOf (seatedAt b i r))
+  amend-distinct i r z a d = let m = amending b i r g z in distinct-more (m .adds) (every-inserts (λ x. x .sequence ≢ r .sequence) (m .takes) a .1) (distinct-less (m .takes) d)
 
   pub clear-distinct : (i : ℕ) → Distinct (liveOf b) → Distinct (liveOf (cleared b i))
   clear-distinct i d = go (isLive b i) refl

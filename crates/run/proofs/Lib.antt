@@ -4,7 +4,8 @@ pub mod Resend
 pub mod BoardSteps
 pub mod Accepted
 pub mod SoundLaws
-pub mod ComesFrom
+pub mod Amends
+pub mod MarketFrom
 pub mod Mirrors
 pub mod LentLaws
 pub mod Figures

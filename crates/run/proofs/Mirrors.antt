@@ -5,7 +5,6 @@ use mathlib.Core.List.{List, [], _∷_, _++_}
 use Prim.Native.Nat.{ℕ, zero, suc, _+_, _-_, _≤_, min, max}
 use native.Mathlib.Omega.{arith}
 use lib.Dec.{leb, ltb, eqb}
-use borrow.Author.Tests.{eqb-true, ne-eqb}
 use Rattle.base.specs.Lists.{Every}
 use Rattle.base.proofs.Bools.{by, no}
 use Rattle.base.proofs.Numbers.{mirror-twice}
@@ -27,7 +26,7 @@ use Rattle.mirror.specs.rules.Mirror.{mirroredOrder, mirroredEvent, buyOrder, b
 use Rattle.auction.specs.rules.Accept.{orderRefusal, termsOf, openedBy, noAuction, acceptOf}
 use Rattle.auction.specs.rules.Range.{isOpen}
 use Rattle.events.specs.rules.Step.{foundFor, sightOf, eventRefusal, stays, endedByTime, headAfter, boardAfter, carried, turnOf, closeTurn, seatedOn, stepBy, stepOf, closeOf}
-use Rattle.events.specs.rules.Decide.{gtxOutcome, cancelOutcome, sellLimitOutcome, buyLimitOutcome, limitOutcome, marketOutcome, quotesOutcome, outcomeOf}
+use Rattle.events.specs.rules.Decide.{isCancel, isAmend, gtxOutcome, cancelOutcome, amendOutcome, sellLimitOutcome, buyLimitOutcome, limitOutcome, marketOutcome, quotesOutcome, outcomeOf}
 use Rattle.auction.specs.rules.Range.{boundNow, rangeOf}
 use Rattle.fills.specs.rules.Fills.{dealOf, auctionFills}
 use Rattle.run.specs.rules.Run.{run, Said, said, heard, closed, played}
@@ -46,7 +45,9 @@ use Rattle.events.specs.declared.Turn.{Turn}
 use Rattle.events.specs.declared.Change.{Change}
 use Rattle.events.specs.declared.Outcome.{Outcome}
 use Rattle.events.specs.declared.Outcome.the-variants.{Refuses, Does}
-use Rattle.mirror.proofs.EventLaws.{mirror-sequence, mirror-time, mirror-kind, mirror-rest}
+use Rattle.mirror.proofs.EventLaws.{mirror-sequence, mirror-time, mirror-kind, mirror-name}
+use Rattle.run.proofs.StepLaws.{names-is}
+use Rattle.tape.specs.rules.Fields.{nameOf}
 use Rattle.run.proofs.Accepted.{opened}
 use Rattle.run.proofs.SoundLaws.{sound-deal}
 use Rattle.mirror.proofs.MirrorForm.{order-form, buy-mirrored, other-side, event-twice, event-form}
@@ -86,7 +87,7 @@ opens o h =
 
 -- the decision does not look at the side that the terms are for
 sides-same : (t : Terms) (q : Quotes) (v : Sight) (m : Event) → outcomeOf (flippedTerms t) q v m ≡ outcomeOf t q v m
-unfolding outcomeOf gtxOutcome cancelOutcome sellLimitOutcome buyLimitOutcome limitOutcome marketOutcome quotesOutcome
+unfolding outcomeOf gtxOutcome cancelOutcome amendOutcome sellLimitOutcome buyLimitOutcome limitOutcome marketOutcome quotesOutcome
 sides-same t q v m = refl
 
 -- the same turn, for the other side
@@ -113,18 +114,12 @@ sight-same : (b : Board) (e : Event) → sightOf b (mirroredEvent e) ≡ sightOf
 unfolding sightOf
 sight-same b e = ap (λ (i : ℕ). record { at = firstFree b; found = i; old = responseAt (b .places) i }) found
   where
-    name : eqb (e .kind) 2 ≡ true → mirroredEvent e .f12 ≡ e .f12
-    name z =
-        let k2 : e .kind ≡ 2 = eqb-true _ _ z in
-        let other : (n : ℕ) → (n ≡ 2 → ⊥) → eqb (e .kind) n ≡ false = λ n h. ne-eqb (e .kind) n (λ z. h (sym z ∙ k2)) in
-        ap (λ (x : Event). x .f12) (mirror-rest e (other 1 (λ z. omega arith)) (other 3 (λ z. omega arith)) (other 4 (λ z. omega arith)) (other 5 (λ z. omega arith)))
-
-    go : (t : Bool) → eqb (e .kind) 2 ≡ t → cond t (findGtx b (mirroredEvent e .f12)) 64 ≡ cond t (findGtx b (e .f12)) 64
-    go true z = ap (findGtx b) (name z)
+    go : (t : Bool) → (isCancel e || isAmend e) ≡ t → cond t (findGtx b (nameOf (mirroredEvent e))) 64 ≡ cond t (findGtx b (nameOf e)) 64
+    go true z = ap (findGtx b) (mirror-name e (names-is e z))
     go false z = refl
 
     found : foundFor b (mirroredEvent e) ≡ foundFor b e
-    found = ap (λ (k : ℕ). cond (eqb k 2) (findGtx b (mirroredEvent e .f12)) 64) (mirror-kind e) ∙ go (eqb (e .kind) 2) refl
+    found = ap (λ (k : ℕ). cond (eqb k 2 || eqb k 6) (findGtx b (nameOf (mirroredEvent e))) 64) (mirror-kind e) ∙ go (isCancel e || isAmend e) refl
 
 module _ (h : Head) (v : Sight) (e : Event) where
   abbrev s : Bool

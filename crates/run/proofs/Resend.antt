@@ -25,7 +25,7 @@ use Rattle.auction.specs.declared.Auction.{Auction}
 use Rattle.auction.specs.declared.Terms.{Terms}
 use Rattle.auction.specs.declared.Quotes.{Quotes}
 use Rattle.auction.specs.declared.Ending.{Ending}
-use Rattle.events.specs.declared.Answer.the-variants.{Taken, Ended, Refused}
+use Rattle.events.specs.declared.Answer.the-variants.{Taken, Ended, Late, Refused}
 use Rattle.events.specs.declared.Stepped.{Stepped}
 use Rattle.events.specs.declared.Sight.{Sight}
 use Rattle.events.specs.declared.Turn.{Turn}
@@ -46,14 +46,19 @@ any-change t q s m P r d =
       gtx = λ _ _ _ _. d (Seat _ _) _;
       limit = λ g _ _ _ _. d (Seat _ _) g;
       clear = λ _ _. d (Free _) _;
+      amend = λ _ _ _. d (Seat _ _) _;
       quote = λ n _ _. d (Quote n) _;
       sell = λ _ _. d (Sell _) _;
     }
 
--- an event that was taken or ended the auction was not refused
+-- an event that was taken or ended the auction was not refused, and not late
 not-refused : {X : Type 0} (b : Bool) (n : ℕ) → cond b Taken Ended ≡ Refused n → X
 not-refused true n z = no cc
 not-refused false n z = no cc
+
+not-late : {X : Type 0} (b : Bool) → cond b Taken Ended ≡ Late → X
+not-late true z = no cc
+not-late false z = no cc
 
 pub taken-any : (b : Bool) → isTaken (cond b Taken Ended) ≡ true
 taken-any true = refl
@@ -71,6 +76,15 @@ module _ (s : Sight) (a : Auction) (e : Event) where
         refused = λ k _ z. refl;
         late = λ o z. no cc;
         does = λ o. any-change _ _ _ _ _ (λ k _ z. refl) (λ c g z. not-refused (isOpen g) n z);
+      })
+
+  late-ends : stepBy s a e .answer ≡ Late → stepBy s a e .auction ≡ record { head = endedByTime (a .head); board = a .board }
+  late-ends =
+      by-cases (λ p. p .answer ≡ Late → p .auction ≡ record { head = endedByTime (a .head); board = a .board })
+      (record {
+        refused = λ k _ z. no cc;
+        late = λ o z. refl;
+        does = λ o. any-change _ _ _ _ _ (λ k _ z. no cc) (λ c g z. not-late (isOpen g) z);
       })
 
   pub rises : a .head .sequence ≤ stepBy s a e .auction .head .sequence
@@ -182,7 +196,7 @@ order-numbers o n =
     (λ h z. let q : orderRefusal o ≡ n = cc in let s : orderRefusal o ≡ 0 → ⊥ = eqb-false _ _ h in (omega (arith, s), omega (arith, order-most o)))
 
 pub keeps : Keeps
-keeps = record { refused = refused-stays; not-closed = closed-stays; order-numbers = order-numbers; event-numbers = event-numbers; taken = taken-is; old = old-refused; rises = rises; ended = ended-refuses; ended-close = ended-stays }
+keeps = record { refused = refused-stays; not-closed = closed-stays; order-numbers = order-numbers; event-numbers = event-numbers; taken = taken-is; old = old-refused; rises = rises; late = late-ends; ended = ended-refuses; ended-close = ended-stays }
 
 -- ---- the sequences of the events taken rise, so no two are the same
 

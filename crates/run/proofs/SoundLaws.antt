@@ -9,7 +9,7 @@ use lib.Dec.{eqb}
 use Rattle.base.specs.Lists.{Every}
 use Rattle.base.proofs.Bools.{by, no}
 use Rattle.base.proofs.ListLaws.{every-map}
-use Rattle.board.specs.rules.Board.{liveOf}
+use Rattle.board.specs.rules.Board.{liveOf, seatedAt}
 use Rattle.board.specs.promises.Board.{Good}
 use Rattle.board.specs.declared.Response.{Response}
 use Rattle.board.proofs.BoardLaws.{empty-good, empty-live, seated-good, cleared-good}
@@ -26,9 +26,9 @@ use Rattle.base.specs.Price.{mirrored}
 use Rattle.mirror.specs.rules.Mirror.{mirroredOrder, buyOrder, buyEvent}
 use Rattle.auction.specs.rules.Accept.{initiatingOf, termsOf, quotesOf, openedBy, acceptOf}
 use Rattle.auction.specs.rules.Range.{isOpen, boundBy}
-use Rattle.tape.specs.rules.Fields.{sizeOf}
+use Rattle.tape.specs.rules.Fields.{sizeOf, newSizeOf}
 use Rattle.events.specs.rules.Step.{sightOf, boardAfter, quotesAfter, marketAfter, headAfter, endedByTime, carried, closeTurn, seatedOn, stepBy, stepOf, closeOf}
-use Rattle.events.specs.rules.Decide.{responseOf}
+use Rattle.events.specs.rules.Decide.{responseOf, amendedBy}
 use Rattle.auction.specs.rules.Range.{boundNow, rangeOf}
 use Rattle.fills.specs.rules.Fills.{dealOf}
 use Rattle.run.specs.rules.Run.{run, played}
@@ -43,8 +43,8 @@ use Rattle.events.specs.declared.Sight.{Sight}
 use Rattle.events.specs.declared.Turn.{Turn}
 use Rattle.auction.specs.declared.Entry.the-variants.{Accepted}
 use Rattle.run.proofs.StepLaws.{Outcomes, Ordinary, cases}
-use Rattle.mirror.proofs.EventLaws.{buy-sequence, buy-kind, mirror-one, mirror-three, priced-size}
-use Rattle.run.proofs.BoardSteps.{sees, seat-every, clear-every, seat-distinct, clear-distinct}
+use Rattle.mirror.proofs.EventLaws.{buy-sequence, buy-kind, mirror-one, mirror-three, priced-size, amend-size}
+use Rattle.run.proofs.BoardSteps.{sees, seat-every, amend-every, clear-every, seat-distinct, amend-distinct, clear-distinct}
 use Rattle.run.proofs.Accepted.{Passed, bound-fits, opened, price-fits}
 use Rattle.run.proofs.Resend.{keeps}
 
@@ -93,6 +93,13 @@ sized k (inr (inr z)) = ap (λ (n : ℕ). shapeOf n .f12 .low) z
 pub size-least : (e : Event) → (e .kind ≡ 1) ⊎ ((e .kind ≡ 3) ⊎ (e .kind ≡ 4)) → eventFormed e ≡ true → 1 ≤ sizeOf e
 size-least e k h = omega (arith, size-some e h, sized (e .kind) k)
 
+-- the new size of an amend in form
+new-size-least : (e : Event) → e .kind ≡ 6 → eventFormed e ≡ true → 1 ≤ newSizeOf e
+unfolding eventFormed shapeTests shapeOf
+new-size-least e k h =
+    let low : shapeOf (e .kind) .f16 .low ≡ 1 = ap (λ (n : ℕ). shapeOf n .f16 .low) k in
+    omega (arith, low, within-ge (newSizeOf e) (shapeOf (e .kind) .f16 .low) (shapeOf (e .kind) .f16 .high) (each (shapeTests (shapeOf (e .kind)) e) true h 5))
+
 -- the auction after an event that changed it
 abbrev after : Auction → Event → Change → Ending → Auction
 after a e c g = record { head = headAfter (a .head) e c g; board = boardAfter (a .board) c }
@@ -133,13 +140,20 @@ module _ (v : Sight) (a : Auction) (e : Event) (fits : Fits (a .board) v) (s : S
   fresh : (k : ℕ) → k ≡ e .sequence → Absent k (liveOf (a .board))
   fresh k z = every-map (Stands (a .head .sequence) (a .head .terms .initiating)) (λ r. r .sequence ≢ k) (liveOf (a .board)) (λ r h q. omega (arith, h .1, o .newer)) (s .live)
 
-  -- a response of the event is seated
-  seated-sound : (r : Response) (g : Ending) → v .at < 64 → r .sequence ≡ e .sequence → 1 ≤ r .size → r .price ≤ a .head .terms .initiating → Sound (after a e (Seat (v .at) r) g)
-  seated-sound r g f q n p =
-      after-sound a e (Seat (v .at) r) g s (s .bound-below) (seated-good (a .board) (v .at) r (s .board))
-      (seat-every (a .board) (s .board) (Stands (e .sequence) (a .head .terms .initiating)) (v .at) r f (fits .free f) (omega (arith, q, o .newer), omega (arith, q), n, p) stand)
-      (seat-distinct (a .board) (s .board) (v .at) r f (fits .free f) (fresh (r .sequence) q) (s .distinct))
+  -- a response of the event stands at a place i: a free one, or one of which the old response is gone
+  seated-sound : (i : ℕ) (r : Response) (g : Ending) → r .sequence ≡ e .sequence → 1 ≤ r .size → r .price ≤ a .head .terms .initiating
+      → ((P : Response → Type 0) → P r → Every P (liveOf (a .board)) → Every P (liveOf (seatedAt (a .board) i r)))
+      → (Absent (r .sequence) (liveOf (a .board)) → Distinct (liveOf (a .board)) → Distinct (liveOf (seatedAt (a .board) i r)))
+      → Sound (after a e (Seat i r) g)
+  seated-sound i r g q n p every distinct =
+      after-sound a e (Seat i r) g s (s .bound-below) (seated-good (a .board) i r (s .board))
+      (every (Stands (e .sequence) (a .head .terms .initiating)) (omega (arith, q, o .newer), omega (arith, q), n, p) stand)
+      (distinct (fresh (r .sequence) q) (s .distinct))
       (λ _. no-size) no-more
+
+  placed-sound : (r : Response) (g : Ending) → v .at < 64 → r .sequence ≡ e .sequence → 1 ≤ r .size → r .price ≤ a .head .terms .initiating → Sound (after a e (Seat (v .at) r) g)
+  placed-sound r g f q n p =
+      seated-sound (v .at) r g q n p (λ P. seat-every (a .board) (s .board) P (v .at) r f (fits .free f)) (seat-distinct (a .board) (s .board) (v .at) r f (fits .free f))
 
   does-sound : Outcomes (a .head .terms) (a .head .quotes) v (buyEvent (a .head .terms .sell) e) (λ u. Sound (seatedOn (a .board) (carried (a .head) e u) .auction))
   does-sound =
@@ -149,17 +163,22 @@ module _ (v : Sight) (a : Auction) (e : Event) (fits : Fits (a .board) v) (s : S
         nothing = λ g _. after-sound a e Nothing g s (s .bound-below) (s .board) stand (s .distinct) (λ _. no-size) no-more;
         gtx = λ k _ f p.
             let k1 : e .kind ≡ 1 = sym (buy-kind e sell) ∙ k in
-            seated-sound (responseOf true (min (sizeOf (buyEvent sell e)) (a .head .terms .size)) (buyEvent sell e)) Open f (buy-sequence e sell)
+            placed-sound (responseOf true (min (sizeOf (buyEvent sell e)) (a .head .terms .size)) (buyEvent sell e)) Open f (buy-sequence e sell)
             (omega (arith, priced-size e sell (mirror-one e k1), size-least e (inl k1) (o .formed), s .size)) p;
         limit = λ g k _ f p.
             let k3 : e .kind ≡ 3 = sym (buy-kind e sell) ∙ k in
-            seated-sound (responseOf false (sizeOf (buyEvent sell e)) (buyEvent sell e)) g f (buy-sequence e sell)
+            placed-sound (responseOf false (sizeOf (buyEvent sell e)) (buyEvent sell e)) g f (buy-sequence e sell)
             (omega (arith, priced-size e sell (mirror-three e k3), size-least e (inr (inl k3)) (o .formed))) p;
         clear = λ k f.
             after-sound a e (Free (v .found)) Open s (s .bound-below) (cleared-good (a .board) (v .found) (s .board))
             (clear-every (a .board) (s .board) (Stands (e .sequence) (a .head .terms .initiating)) (v .found) stand)
             (clear-distinct (a .board) (s .board) (v .found) (s .distinct))
             (λ _. no-size) no-more;
+        amend = λ k f p.
+            let k6 : e .kind ≡ 6 = sym (buy-kind e sell) ∙ k in
+            let r : Response = amendedBy (a .head .terms) (v .old) (buyEvent sell e) in
+            seated-sound (v .found) r Open (buy-sequence e sell) (omega (arith, amend-size e sell k6, new-size-least e k6 (o .formed), s .size)) p
+            (λ P. amend-every (a .board) (s .board) P (v .found) r (fits .found f)) (amend-distinct (a .board) (s .board) (v .found) r (fits .found f));
         quote = λ n f _. after-sound a e (Quote n) Open s (f (s .bound-below)) (s .board) stand (s .distinct) (λ _. no-size) no-more;
         sell = λ _ _.
             after-sound a e (Sell (record { sequence = buyEvent sell e .sequence; size = sizeOf (buyEvent sell e) })) Opposite s (s .bound-below) (s .board) stand (s .distinct)

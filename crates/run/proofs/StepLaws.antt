@@ -1,6 +1,7 @@
 -- The turn by cases: what holds of each outcome holds of the turn, whatever sight it has of the board. Assumes nothing.
 use mathlib.Core.Path.{_≡_, refl, sym, ap, _∙_}
 use mathlib.Core.Bool.{Bool, true, false, cond, not, _&&_, _||_}
+use mathlib.Core.Logic.{_⊎_, inl, inr}
 use Prim.Native.Nat.{ℕ, _+_, _≤_, _<_, min, max}
 use native.Mathlib.Omega.{arith}
 use lib.Dec.{leb, ltb, eqb}
@@ -17,8 +18,9 @@ use Rattle.auction.specs.declared.Quotes.{Quotes}
 use Rattle.auction.specs.declared.Ending.{Ending}
 use Rattle.auction.specs.declared.Ending.the-variants.{Open, Same, Opposite, Improve}
 use Rattle.events.specs.rules.Step.{eventRefusal, stays, endedByTime, carried, turnOf}
-use Rattle.events.specs.rules.Decide.{isCustomer, isNonRoutable, responseOf, gtxOutcome, cancelOutcome, sellLimitOutcome, bidQuotes, moves, buyLimitOutcome, limitOutcome, marketOutcome, newQuotes, quotesOutcome, outcomeOf}
-use Rattle.tape.specs.rules.Fields.{sizeOf, priceOf}
+use Rattle.events.specs.rules.Decide.{isCancel, isAmend, isCustomer, isNonRoutable, responseOf, gtxOutcome, cancelOutcome, amendedBy, amendOutcome, sellLimitOutcome, bidQuotes, moves, buyLimitOutcome, limitOutcome, marketOutcome, newQuotes, quotesOutcome, outcomeOf}
+use Rattle.tape.specs.rules.Fields.{sizeOf, priceOf, newPriceOf}
+use Rattle.run.specs.promises.Demands.{Names}
 use Rattle.events.specs.declared.Answer.the-variants.{Late, Refused}
 use Rattle.events.specs.declared.Sight.{Sight}
 use Rattle.events.specs.declared.Turn.{Turn}
@@ -50,10 +52,11 @@ bid-still t q p c h = go (ltb (q .bb) p) (eqb p (q .bb)) c (q .bidmark) refl ref
 abbrev pub EventNumber : ℕ → Type 0
 EventNumber n = (31 ≤ n) × (n ≤ 38)
 
--- an event that takes no place and frees none, and is no sell at the market
+-- an event that takes no place, frees none and amends none, and is no sell at the market
 pub record Leaves (t : Terms) (m : Event) : Type 0 where
   pub no-gtx : eqb (m .kind) 1 ≡ false
   pub no-cancel : eqb (m .kind) 2 ≡ false
+  pub no-amend : eqb (m .kind) 6 ≡ false
   pub no-place : eqb (m .kind) 3 ≡ true → (not (eqb (m .side) 1) && leb (priceOf m) (t .initiating)) ≡ false
   pub no-sell : eqb (m .kind) 4 ≡ true → eqb (m .side) 1 ≡ true
 
@@ -64,19 +67,20 @@ pub record Outcomes (t : Terms) (q : Quotes) (s : Sight) (m : Event) (P : Outcom
   pub gtx : m .kind ≡ 1 → eqb (m .side) 1 ≡ false → s .at < 64 → priceOf m ≤ t .initiating → P (Does (Seat (s .at) (responseOf true (min (sizeOf m) (t .size)) m)) Open)
   pub limit : (g : Ending) → m .kind ≡ 3 → eqb (m .side) 1 ≡ false → s .at < 64 → priceOf m ≤ t .initiating → P (Does (Seat (s .at) (responseOf false (sizeOf m) m)) g)
   pub clear : m .kind ≡ 2 → s .found < 64 → P (Does (Free (s .found)) Open)
+  pub amend : m .kind ≡ 6 → s .found < 64 → newPriceOf m ≤ t .initiating → P (Does (Seat (s .found) (amendedBy t (s .old) m)) Open)
   pub quote : (n : Quotes) → (boundBy t q ≤ t .initiating → boundBy t n ≤ t .initiating) → Leaves t m → P (Does (Quote n) Open)
   pub sell : m .kind ≡ 4 → eqb (m .side) 1 ≡ false → P (Does (Sell (record { sequence = m .sequence; size = sizeOf m })) Opposite)
 
 module _ (t : Terms) (q : Quotes) (s : Sight) (m : Event) (P : Outcome → Type 0) (k : Outcomes t q s m P) where
-  -- a limit order that does not take a place, a buy at the market, and what is of no kind up to 4
+  -- a limit order that does not take a place, a buy at the market, and what is of no kind up to 4 and not of kind 6
   limit-leaves : m .kind ≡ 3 → (not (eqb (m .side) 1) && leb (priceOf m) (t .initiating)) ≡ false → Leaves t m
-  limit-leaves e h = record { no-gtx = ne-eqb (m .kind) 1 (λ z. omega arith); no-cancel = ne-eqb (m .kind) 2 (λ z. omega arith); no-place = λ _. h; no-sell = λ z. absurd (omega (arith, eqb-true (m .kind) 4 z)) }
+  limit-leaves e h = record { no-gtx = ne-eqb (m .kind) 1 (λ z. omega arith); no-cancel = ne-eqb (m .kind) 2 (λ z. omega arith); no-amend = ne-eqb (m .kind) 6 (λ z. omega arith); no-place = λ _. h; no-sell = λ z. absurd (omega (arith, eqb-true (m .kind) 4 z)) }
 
   market-leaves : m .kind ≡ 4 → eqb (m .side) 1 ≡ true → Leaves t m
-  market-leaves e h = record { no-gtx = ne-eqb (m .kind) 1 (λ z. omega arith); no-cancel = ne-eqb (m .kind) 2 (λ z. omega arith); no-place = λ z. absurd (omega (arith, eqb-true (m .kind) 3 z)); no-sell = λ _. h }
+  market-leaves e h = record { no-gtx = ne-eqb (m .kind) 1 (λ z. omega arith); no-cancel = ne-eqb (m .kind) 2 (λ z. omega arith); no-amend = ne-eqb (m .kind) 6 (λ z. omega arith); no-place = λ z. absurd (omega (arith, eqb-true (m .kind) 3 z)); no-sell = λ _. h }
 
-  rest-leaves : eqb (m .kind) 1 ≡ false → eqb (m .kind) 2 ≡ false → eqb (m .kind) 3 ≡ false → eqb (m .kind) 4 ≡ false → Leaves t m
-  rest-leaves a b c d = record { no-gtx = a; no-cancel = b; no-place = λ z. no (sym z ∙ c); no-sell = λ z. no (sym z ∙ d) }
+  rest-leaves : eqb (m .kind) 1 ≡ false → eqb (m .kind) 2 ≡ false → eqb (m .kind) 3 ≡ false → eqb (m .kind) 4 ≡ false → eqb (m .kind) 6 ≡ false → Leaves t m
+  rest-leaves a b c d f = record { no-gtx = a; no-cancel = b; no-amend = f; no-place = λ z. no (sym z ∙ c); no-sell = λ z. no (sym z ∙ d) }
 
   gtx-case : m .kind ≡ 1 → P (gtxOutcome t s m)
   unfolding gtxOutcome
@@ -88,6 +92,12 @@ module _ (t : Terms) (q : Quotes) (s : Sight) (m : Event) (P : Outcome → Type 
   cancel-case : m .kind ≡ 2 → P (cancelOutcome s)
   unfolding cancelOutcome
   cancel-case e = by P (ltb (s .found) 64) _ _ (λ h. k .clear e (ltb-true _ _ h)) (λ _. k .refuses 37 (omega arith, omega arith))
+
+  amend-case : m .kind ≡ 6 → P (amendOutcome t s m)
+  unfolding amendOutcome
+  amend-case e =
+      by P (ltb (t .initiating) (newPriceOf m)) _ _ (λ _. k .refuses 36 (omega arith, omega arith)) (λ p.
+      by P (ltb (s .found) 64) _ _ (λ h. k .amend e (ltb-true _ _ h) (ltb-false _ _ p)) (λ _. k .refuses 37 (omega arith, omega arith)))
 
   sell-limit-case : m .kind ≡ 3 → eqb (m .side) 1 ≡ false → P (sellLimitOutcome t q s m)
   unfolding sellLimitOutcome
@@ -127,7 +137,17 @@ module _ (t : Terms) (q : Quotes) (s : Sight) (m : Event) (P : Outcome → Type 
       by P (eqb (m .kind) 1) _ _ (λ e. gtx-case (eqb-true _ _ e)) (λ a.
       by P (eqb (m .kind) 2) _ _ (λ e. cancel-case (eqb-true _ _ e)) (λ b.
       by P (eqb (m .kind) 3) _ _ (λ e. limit-case (eqb-true _ _ e)) (λ c.
-      by P (eqb (m .kind) 4) _ _ (λ e. market-case (eqb-true _ _ e)) (λ d. quotes-case (rest-leaves a b c d)))))
+      by P (eqb (m .kind) 4) _ _ (λ e. market-case (eqb-true _ _ e)) (λ d.
+      by P (eqb (m .kind) 6) _ _ (λ e. amend-case (eqb-true _ _ e)) (λ f. quotes-case (rest-leaves a b c d f))))))
+
+-- an event that names a GTX response is a cancel or an amend
+pub names-is : (m : Event) → (isCancel m || isAmend m) ≡ true → Names m
+names-is m z = go (isCancel m) (isAmend m) refl refl z
+  where
+    go : (x y : Bool) → isCancel m ≡ x → isAmend m ≡ y → (x || y) ≡ true → Names m
+    go true y p q h = inl (eqb-true _ _ p)
+    go false true p q h = inr (eqb-true _ _ q)
+    go false false p q h = no (sym h)
 
 -- ---- the turn
 

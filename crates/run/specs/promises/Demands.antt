@@ -1,13 +1,13 @@
 -- What is promised of an auction, in the user's words.
 use mathlib.Core.Path.{_≡_}
-use mathlib.Core.Bool.{true, false, cond}
+use mathlib.Core.Bool.{Bool, true, false, cond, _&&_}
 use mathlib.Core.List.{List, [], _∷_}
 use mathlib.Core.Logic.{_⊎_}
-use Prim.Native.Nat.{ℕ, _≤_, _<_, min}
-use lib.Dec.{eqb}
+use Prim.Native.Nat.{ℕ, _≤_, _<_}
+use lib.Dec.{ltb}
 use Rattle.base.specs.Lists.{In, Every}
-use Rattle.board.specs.rules.Board.{responseAt, isLive, liveOf}
-use Rattle.board.specs.promises.Board.{Good}
+use Rattle.board.specs.rules.Board.{responseAt, isLive, liveCount, liveOf, findGtx}
+use Rattle.board.specs.promises.Board.{Good, GtxAt}
 use Rattle.board.specs.declared.Board.{Board}
 use Rattle.board.specs.declared.Response.{Response}
 use Rattle.share.specs.rules.Fills.{Fill}
@@ -21,9 +21,9 @@ use Rattle.base.specs.Price.{mirrored}
 use Rattle.mirror.specs.rules.Mirror.{mirroredOrder, mirroredEvent, buyEvent}
 use Rattle.auction.specs.rules.Accept.{acceptOf}
 use Rattle.auction.specs.rules.Range.{isOpen, boundBy}
-use Rattle.tape.specs.rules.Fields.{sizeOf}
-use Rattle.events.specs.rules.Step.{sightOf, gives, stepBy, stepOf, closeOf}
-use Rattle.events.specs.rules.Decide.{responseOf}
+use Rattle.tape.specs.rules.Fields.{sizeOf, nameOf, newPriceOf}
+use Rattle.events.specs.rules.Step.{sightOf, endedByTime, headAfter, gives, stepBy, stepOf, closeOf}
+use Rattle.events.specs.rules.Decide.{isAmend, amendedBy}
 use Rattle.fills.specs.rules.Fills.{dealOf, auctionFills}
 use Rattle.auction.specs.rules.Range.{rangeOf}
 use Rattle.run.specs.rules.Run.{run, heard, played, isTaken, takenOf}
@@ -31,9 +31,10 @@ use Rattle.auction.specs.declared.Auction.{Auction}
 use Rattle.auction.specs.declared.Head.{Head}
 use Rattle.auction.specs.declared.Terms.{Terms}
 use Rattle.auction.specs.declared.Range.{Range}
-use Rattle.auction.specs.declared.Ending.the-variants.{Opposite}
+use Rattle.auction.specs.declared.Ending.the-variants.{Open, Opposite}
 use Rattle.auction.specs.declared.Entry.the-variants.{Accepted, Refused as NotAccepted}
-use Rattle.events.specs.declared.Answer.the-variants.{Refused}
+use Rattle.events.specs.declared.Answer.the-variants.{Taken, Ended, Late, Refused}
+use Rattle.events.specs.declared.Change.the-variants.{Nothing}
 use Rattle.events.specs.declared.Sight.{Sight}
 
 -- ---- what an event sees of the board
@@ -58,29 +59,13 @@ pub record Keeps : Type 0 where
   pub old : (s : Sight) (a : Auction) (e : Event) → e .sequence ≤ a .head .sequence → stepBy s a e ≡ gives (Refused (cond (isOpen (a .head .ending)) (cond (eventFormed e) 33 32) 31)) a
   -- the highest sequence never falls
   pub rises : (s : Sight) (a : Auction) (e : Event) → a .head .sequence ≤ stepBy s a e .auction .head .sequence
+  -- a late event ends the auction by time, and is not applied
+  pub late : (s : Sight) (a : Auction) (e : Event) → stepBy s a e .answer ≡ Late → stepBy s a e .auction ≡ record { head = endedByTime (a .head); board = a .board }
   -- an ended auction never changes again, and answers 31 to all
   pub ended : (s : Sight) (a : Auction) (e : Event) → isOpen (a .head .ending) ≡ false → stepBy s a e ≡ gives (Refused 31) a
   pub ended-close : (a : Auction) → isOpen (a .head .ending) ≡ false → closeOf a ≡ gives (Refused 31) a
 
 -- ---- a response that stands on the board is never counted twice
-
--- the response that an event places: a GTX is capped at the CUBE size, a limit order keeps its own
-abbrev pub madeBy : Terms → Event → Response
-madeBy t e =
-    cond (eqb (e .kind) 1)
-    (responseOf true (min (sizeOf (buyEvent (t .sell) e)) (t .size)) (buyEvent (t .sell) e))
-    (responseOf false (sizeOf (buyEvent (t .sell) e)) (buyEvent (t .sell) e))
-
--- the live response r comes from one of the events
-pub record ComesFrom (t : Terms) (es : List Event) (r : Response) : Type 0 where
-  pub event : Event
-  pub taken : In event es
-  -- a GTX response or a limit order
-  pub kind : (event .kind ≡ 1) ⊎ (event .kind ≡ 3)
-  -- for the other side
-  pub side : buyEvent (t .sell) event .side ≡ 2
-  pub made : r ≡ madeBy t event
-  pub named : r .sequence ≡ event .sequence
 
 -- the market order of the auction b is one of the events that the auction a took, for the other side: it ended the auction, and none was taken after it
 pub record MarketFrom (a : Auction) (es : List Event) (b : Auction) : Type 0 where
@@ -110,9 +95,7 @@ pub record Resend : Type 0 where
   pub apart : (o : Order) (es : List Event) → acceptOf o .answer ≡ Accepted → Distinct (liveOf (run (acceptOf o .auction) es .board))
   -- the sequences of the events taken rise: none is taken twice, and none bears another's
   pub rising : (a : Auction) (es : List Event) → Rising (a .head .sequence) (takenOf a es)
-  -- each live response comes from an event taken, and a sequence tells which
-  pub comes-from : (o : Order) (es : List Event) → acceptOf o .answer ≡ Accepted → Every (ComesFrom (acceptOf o .auction .head .terms) (takenOf (acceptOf o .auction) es)) (liveOf (run (acceptOf o .auction) es .board))
-  -- so does a market order that ended the auction
+  -- a market order that ended the auction comes from an event taken, and a sequence tells which
   pub market-from : (o : Order) (es : List Event) → acceptOf o .answer ≡ Accepted → 0 < run (acceptOf o .auction) es .head .market .size → MarketFrom (acceptOf o .auction) es (run (acceptOf o .auction) es)
   pub one : (a : Auction) (es : List Event) (e f : Event) → In e (takenOf a es) → In f (takenOf a es) → e .sequence ≡ f .sequence → e ≡ f
 
@@ -160,6 +143,53 @@ pub record Demanded : Type 0 where
   pub demand-3 : (o : Order) (es : List Event) → acceptOf o .answer ≡ Accepted → Trades (played o es)
   -- also where an event ended it: closing by hand then changes nothing
   pub by-event : (o : Order) (es : List Event) → isOpen (run (acceptOf o .auction) es .head .ending) ≡ false → played o es ≡ run (acceptOf o .auction) es
+
+-- ---- a response that is amended
+
+-- an event that none of 31 to 34 refuses, and that is not late
+pub record InTime (h : Head) (e : Event) : Type 0 where
+  pub opened : isOpen (h .ending) ≡ true
+  pub formed : eventFormed e ≡ true
+  pub newer : h .sequence < e .sequence
+  pub later : h .clock ≤ e .time
+  pub early : e .time < h .terms .interval
+
+-- a cancel or an amend
+abbrev pub Names : Event → Type 0
+Names e = (e .kind ≡ 2) ⊎ (e .kind ≡ 6)
+
+-- the place of the GTX response that it names; 64: there is none
+abbrev pub namedPlace : Auction → Event → ℕ
+namedPlace a e = findGtx (a .board) (nameOf e)
+
+-- the new price of an amend is above the initiating price
+abbrev pub isAbove : Auction → Event → Bool
+isAbove a e = ltb (a .head .terms .initiating) (newPriceOf (buyEvent (a .head .terms .sell) e))
+
+-- the amend e made the auction b of a
+pub record Amended (a : Auction) (e : Event) (b : Auction) : Type 0 where
+  -- the GTX response that it names was live
+  pub named : GtxAt (a .board) (nameOf e) (namedPlace a e)
+  -- the new one stands at its place: the event's sequence, the new size, capped at the CUBE size, the new price, the old Customer mark
+  pub stands : responseAt (b .board .places) (namedPlace a e) ≡ amendedBy (a .head .terms) (responseAt (a .board .places) (namedPlace a e)) (buyEvent (a .head .terms .sell) e)
+  -- every other place, the word and the count stay
+  pub others : (j : ℕ) → (j ≡ namedPlace a e → ⊥) → responseAt (b .board .places) j ≡ responseAt (a .board .places) j
+  pub word : b .board .live ≡ a .board .live
+  pub count : liveCount (b .board) ≡ liveCount (a .board)
+  -- the old name is found no more, and the new one at that place
+  pub gone : findGtx (b .board) (nameOf e) ≡ 64
+  pub found : findGtx (b .board) (e .sequence) ≡ namedPlace a e
+  -- of the rest the highest sequence and the clock alone move
+  pub rest : b .head ≡ headAfter (a .head) e Nothing Open
+
+pub record Amends : Type 0 where
+  -- what an amend that is taken does
+  pub takes : (a : Auction) (e : Event) → Sound a → e .kind ≡ 6 → isTaken (stepOf a e .answer) ≡ true → Amended a e (stepOf a e .auction)
+  -- 36, then 37; 35 and 38 never, and it never ends the auction
+  pub answers : (a : Auction) (e : Event) → e .kind ≡ 6 → InTime (a .head) e → stepOf a e .answer ≡ cond (isAbove a e) (Refused 36) (cond (ltb (namedPlace a e) 64) Taken (Refused 37))
+  pub never : (s : Sight) (a : Auction) (e : Event) → e .kind ≡ 6 → (stepBy s a e .answer ≡ Refused 35 → ⊥) × (stepBy s a e .answer ≡ Refused 38 → ⊥) × (stepBy s a e .answer ≡ Ended → ⊥)
+  -- a cancel or an amend of a name that is not found is refused, and changes nothing
+  pub unnamed : (a : Auction) (e : Event) → Names e → namedPlace a e ≡ 64 → InTime (a .head) e → stepOf a e ≡ gives (Refused (cond (isAmend e && isAbove a e) 36 37)) a
 
 -- ---- the mirror
 

@@ -1,18 +1,14 @@
--- Each live response comes from one event taken, and so does a market order that ended the auction. Assumes nothing.
+-- A market order that ended the auction comes from one event taken. Assumes nothing.
 use mathlib.Core.Path.{_≡_, refl, sym, ap, subst, _∙_}
 use mathlib.Core.Bool.{Bool, true, false}
 use mathlib.Core.List.{List, [], _∷_}
 use mathlib.Core.Logic.{_⊎_, inl, inr}
-use Prim.Native.Nat.{ℕ, _≤_, _<_, min}
+use Prim.Native.Nat.{ℕ, _≤_, _<_}
 use lib.Dec.{eqb}
 use native.Mathlib.Omega.{arith}
-use borrow.Author.Tests.{eq-eqb, ne-eqb, eqb-true, eqb-false}
-use Rattle.base.specs.Lists.{In, Every, keep}
+use borrow.Author.Tests.{eq-eqb, eqb-true, eqb-false}
+use Rattle.base.specs.Lists.{In, keep}
 use Rattle.base.proofs.Bools.{no}
-use Rattle.base.proofs.ListLaws.{every-map}
-use Rattle.board.specs.rules.Board.{liveOf}
-use Rattle.board.specs.declared.Response.{Response}
-use Rattle.board.proofs.BoardLaws.{empty-live}
 use Rattle.tape.specs.declared.order.Order.{Order}
 use Rattle.tape.specs.declared.event.Event.{Event}
 use Rattle.mirror.specs.rules.Mirror.{mirroredMarket, buyOrder, buyEvent}
@@ -21,33 +17,21 @@ use Rattle.auction.specs.rules.Range.{isOpen}
 use Rattle.tape.specs.rules.Form.{within, sides, eventFormed, shapeOf, shapeTests}
 use Rattle.tape.specs.rules.Fields.{sizeOf}
 use Rattle.tape.proofs.FormLaws.{each, within-ge, within-le}
-use Rattle.events.specs.rules.Step.{sightOf, boardAfter, headAfter, endedByTime, carried, seatedOn, stepOf}
-use Rattle.events.specs.rules.Decide.{responseOf}
+use Rattle.events.specs.rules.Step.{sightOf, boardAfter, headAfter, endedByTime, seatedOn, stepOf}
 use Rattle.run.specs.rules.Run.{run, isTaken, takenOf}
-use Rattle.run.specs.promises.Demands.{madeBy, ComesFrom, MarketFrom, Sound, Resend}
+use Rattle.run.specs.promises.Demands.{MarketFrom, Resend}
 use Rattle.auction.specs.declared.Auction.{Auction}
 use Rattle.auction.specs.declared.Terms.{Terms}
 use Rattle.auction.specs.declared.Market.{Market}
 use Rattle.auction.specs.declared.Ending.the-variants.{Opposite}
 use Rattle.events.specs.declared.Stepped.{Stepped}
-use Rattle.events.specs.declared.Sight.{Sight}
 use Rattle.auction.specs.declared.Entry.the-variants.{Accepted}
-use Rattle.run.proofs.StepLaws.{Leaves, Outcomes, cases}
+use Rattle.run.proofs.StepLaws.{Leaves, cases}
 use Rattle.mirror.proofs.EventLaws.{buy-sequence, buy-kind, mirror-four}
 use Rattle.mirror.proofs.MirrorForm.{event-form}
-use Rattle.run.proofs.BoardSteps.{sees, seat-every, clear-every}
 use Rattle.run.proofs.Accepted.{opened}
 use Rattle.run.proofs.Resend.{any-change, taken-any, keeps, older, again, rising, one}
-use Rattle.run.proofs.SoundLaws.{sound-opened, sound-step, sound-run}
-
--- r comes from an event of which Q holds
-record From (Q : Event → Type 0) (t : Terms) (r : Response) : Type 0 where
-  event : Event
-  holds : Q event
-  kind : (event .kind ≡ 1) ⊎ (event .kind ≡ 3)
-  side : buyEvent (t .sell) event .side ≡ 2
-  made : r ≡ madeBy t event
-  named : r .sequence ≡ event .sequence
+use Rattle.run.proofs.SoundLaws.{sound-opened, sound-run}
 
 -- an event in form that has a side is of side 1 or 2
 pub side-in : (e : Event) → shapeOf (e .kind) .side ≡ sides → eventFormed e ≡ true → (1 ≤ e .side) × (e .side ≤ 2)
@@ -91,42 +75,6 @@ untaken a e =
     cases (a .head) e (sightOf (a .board) e) (λ t. isTaken (t .answer) ≡ false → boardAfter (a .board) (t .change) ≡ a .board)
     (record { refused = λ _ _ _. refl; late = λ _ _. refl; does = λ _. any-change _ _ _ _ _ (λ _ _ _. refl) (λ c g z. no (sym (taken-any (isOpen g)) ∙ z)) })
 
--- the response of a GTX, and of a limit order
-pub made-gtx : (t : Terms) (e : Event) → e .kind ≡ 1 → responseOf true (min (sizeOf (buyEvent (t .sell) e)) (t .size)) (buyEvent (t .sell) e) ≡ madeBy t e
-made-gtx t e k = simp (eq-eqb _ _ k)
-
-pub made-limit : (t : Terms) (e : Event) → e .kind ≡ 3 → responseOf false (sizeOf (buyEvent (t .sell) e)) (buyEvent (t .sell) e) ≡ madeBy t e
-made-limit t e k = let n : e .kind ≡ 1 → ⊥ = λ z. omega arith in simp (ne-eqb _ _ n)
-
-module _ (Q : Event → Type 0) (a : Auction) (e : Event) (s : Sound a) where
-  abbrev view : Sight
-  view = sightOf (a .board) e
-
-  does-from : (Q e) → eventFormed e ≡ true → Every (From Q (a .head .terms)) (liveOf (a .board))
-      → Outcomes (a .head .terms) (a .head .quotes) view (buyEvent (a .head .terms .sell) e) (λ u. Every (From Q (a .head .terms)) (liveOf (seatedOn (a .board) (carried (a .head) e u) .auction .board)))
-  does-from q formed h =
-      let free = sees (a .board) e (s .board) .free in
-      record {
-        refuses = λ n _. h;
-        nothing = λ g _. h;
-        gtx = λ k d f p.
-            seat-every (a .board) (s .board) (From Q (a .head .terms)) (view .at) (responseOf true (min (sizeOf (buyEvent (a .head .terms .sell) e)) (a .head .terms .size)) (buyEvent (a .head .terms .sell) e)) f (free f)
-            (record { event = e; holds = q; kind = inl (sym (buy-kind e (a .head .terms .sell)) ∙ k); side = other-side (a .head .terms .sell) e (inl k) formed d; made = made-gtx (a .head .terms) e (sym (buy-kind e (a .head .terms .sell)) ∙ k); named = buy-sequence e (a .head .terms .sell) }) h;
-        limit = λ g k d f p.
-            seat-every (a .board) (s .board) (From Q (a .head .terms)) (view .at) (responseOf false (sizeOf (buyEvent (a .head .terms .sell) e)) (buyEvent (a .head .terms .sell) e)) f (free f)
-            (record { event = e; holds = q; kind = inr (sym (buy-kind e (a .head .terms .sell)) ∙ k); side = other-side (a .head .terms .sell) e (inr (inl k)) formed d; made = made-limit (a .head .terms) e (sym (buy-kind e (a .head .terms .sell)) ∙ k); named = buy-sequence e (a .head .terms .sell) }) h;
-        clear = λ k f. clear-every (a .board) (s .board) (From Q (a .head .terms)) (view .found) h;
-        quote = λ n f _. h;
-        sell = λ _ _. h;
-      }
-
-  step-from : (isTaken (stepOf a e .answer) ≡ true → Q e) → Every (From Q (a .head .terms)) (liveOf (a .board)) → Every (From Q (a .head .terms)) (liveOf (stepOf a e .auction .board))
-  step-from q h = go (isTaken (stepOf a e .answer)) refl
-    where
-      go : (b : Bool) → isTaken (stepOf a e .answer) ≡ b → Every (From Q (a .head .terms)) (liveOf (stepOf a e .auction .board))
-      go true z = cases (a .head) e view (λ t. Every (From Q (a .head .terms)) (liveOf (boardAfter (a .board) (t .change)))) (record { refused = λ _ _. h; late = λ _. h; does = λ o. does-from (q z) (o .formed) h })
-      go false z = subst (λ b. Every (From Q (a .head .terms)) (liveOf b)) (sym (untaken a e z)) h
-
 -- what is taken later is taken
 in-later : (t : Bool) (e f : Event) (es : List Event) → In f es → In f (keep t e es)
 in-later true e f es i = inr i
@@ -134,30 +82,6 @@ in-later false e f es i = i
 
 in-first : (t : Bool) (e : Event) (es : List Event) → t ≡ true → In e (keep t e es)
 in-first t e es z = subst (λ (t : Bool). In e (keep t e es)) (sym z) (inl refl)
-
-run-from : (Q : Event → Type 0) (es : List Event) (a : Auction) → Sound a → Every (From Q (a .head .terms)) (liveOf (a .board)) → ((e : Event) → In e (takenOf a es) → Q e) → Every (From Q (a .head .terms)) (liveOf (run a es .board))
-run-from Q [] a s h q = h
-run-from Q (e ∷ es) a s h q =
-    let b : Auction = stepOf a e .auction in
-    let first : isTaken (stepOf a e .answer) ≡ true → Q e = λ z. q e (in-first (isTaken (stepOf a e .answer)) e (takenOf b es) z) in
-    let here : Every (From Q (b .head .terms)) (liveOf (b .board)) = subst (λ (t : Terms). Every (From Q t) (liveOf (b .board))) (sym (terms-stay a e)) (step-from Q a e s first h) in
-    subst (λ (t : Terms). Every (From Q t) (liveOf (run b es .board))) (terms-stay a e)
-    (run-from Q es b (sound-step a e s) here (λ f i. q f (in-later (isTaken (stepOf a e .answer)) e f (takenOf b es) i)))
-
--- a board that was just opened has no response
-empty-from : (Q : Event → Type 0) (s : Bool) (b : Order) → Every (From Q (openedBy s b .head .terms)) (liveOf (openedBy s b .board))
-unfolding openedBy
-empty-from Q s b = subst (Every (From Q (openedBy s b .head .terms))) (sym empty-live) tt
-
-pub comes-from : (o : Order) (es : List Event) → acceptOf o .answer ≡ Accepted → Every (ComesFrom (acceptOf o .auction .head .terms) (takenOf (acceptOf o .auction) es)) (liveOf (run (acceptOf o .auction) es .board))
-comes-from o es h =
-    let a : Auction = acceptOf o .auction in
-    let Q : Event → Type 0 = λ e. In e (takenOf a es) in
-    every-map (From Q (a .head .terms)) (ComesFrom (a .head .terms) (takenOf a es)) (liveOf (run a es .board)) (λ r f. record { event = f .event; taken = f .holds; kind = f .kind; side = f .side; made = f .made; named = f .named })
-    (run-from Q es a (sound-opened o h) (nobody (opened o h .auction) Q) (λ e i. i))
-  where
-    nobody : acceptOf o .auction ≡ openedBy (eqb (o .side) 2) (buyOrder o) → (Q : Event → Type 0) → Every (From Q (acceptOf o .auction .head .terms)) (liveOf (acceptOf o .auction .board))
-    nobody z Q = subst (λ (a : Auction). Every (From Q (a .head .terms)) (liveOf (a .board))) (sym z) (empty-from Q (eqb (o .side) 2) (buyOrder o))
 
 -- ---- the market order
 
@@ -197,6 +121,7 @@ market-step a e =
         gtx = λ k _ _ _. stays refl (λ _ z. omega (arith, z .0, buy-kind e sell));
         limit = λ _ k _ _ _. stays refl (λ _ z. omega (arith, z .0, buy-kind e sell));
         clear = λ k _. stays refl (λ _ z. omega (arith, z .0, buy-kind e sell));
+        amend = λ k _ _. stays refl (λ _ z. omega (arith, z .0, buy-kind e sell));
         quote = λ _ _ l. stays refl (λ _ z. leaves l z);
         sell = λ k d.
             let k4 : e .kind ≡ 4 = sym (buy-kind e sell) ∙ k in
@@ -281,4 +206,4 @@ pub market-from : (o : Order) (es : List Event) → acceptOf o .answer ≡ Accep
 market-from o es h = market-run es (acceptOf o .auction) (ap (λ (a : Auction). a .head .market .size) (opened o h .auction) ∙ none-opened (eqb (o .side) 2) (buyOrder o))
 
 pub resend : Resend
-resend = record { older = older; again = again; apart = λ o es h. sound-run es (acceptOf o .auction) (sound-opened o h) .distinct; rising = λ a es. rising es a; comes-from = comes-from; market-from = market-from; one = one }
+resend = record { older = older; again = again; apart = λ o es h. sound-run es (acceptOf o .auction) (sound-opened o h) .distinct; rising = λ a es. rising es a; market-from = market-from; one = one }
