@@ -1,5 +1,5 @@
 #!/usr/bin/env python3
-"""The cases of crates/tape_cases and what they must print, from document 01 alone (it knows nothing of the crates).
+"""The cases of crates/tape_cases and what they must print, from document 01 and document 02's W-201 alone (it knows nothing of the crates).
 
     tests/tape_cases.py            writes crates/tape_cases/stdin and stdout
     tests/tape_cases.py --check    says whether the two files are what it would write; exit status 1 where they are not
@@ -13,7 +13,7 @@ WHAT = {"order": 1, "event": 2, "trailer": 3, "open": 4, "put order": 5, "put ev
 U32 = 2 ** 32 - 1
 DAY = 86400000
 
-# ---- document 01, "The tape"
+# ---- document 01, "The tape", and W-201 for kind 6
 
 ORDER = ["side", "mode", "marks", "size", "limit", "stop", "nbb", "nbo", "bb", "bo", "time", "open", "close", "L"]
 ORDER_AT = {"side": 0, "mode": 1, "marks": 2, "size": 4, "limit": 8, "stop": 12, "nbb": 16, "nbo": 20, "bb": 24, "bo": 28,
@@ -21,6 +21,10 @@ ORDER_AT = {"side": 0, "mode": 1, "marks": 2, "size": 4, "limit": 8, "stop": 12,
 EVENT = ["sequence", "time", "kind", "marks", "side", "f12", "f16", "f20", "f24"]
 EVENT_AT = {"sequence": 0, "time": 4, "kind": 8, "marks": 9, "side": 10, "f12": 12, "f16": 16, "f20": 20, "f24": 24}
 SMALL = {"side", "mode", "marks", "kind"}
+
+
+def a_size(x):
+    return 1 <= x <= 100000
 
 
 def price(x):
@@ -36,7 +40,7 @@ def order_formed(o):
 
 
 def event_formed(e):
-    size, cost = 1 <= e["f12"] <= 100000, price(e["f16"])
+    size, cost = a_size(e["f12"]), price(e["f16"])
     late = e["f20"] == 0 and e["f24"] == 0
     sided, plain = e["side"] in (1, 2), e["side"] == 0
     only = lambda bits: e["marks"] & ~bits == 0
@@ -52,6 +56,8 @@ def event_formed(e):
         return only(1) and sided and size and e["f16"] == 0 and late
     if e["kind"] == 5:
         return only(12) and plain and price(e["f12"]) and cost and e["f20"] <= 999999 and 1 <= e["f24"] <= 1000000
+    if e["kind"] == 6:
+        return only(0) and plain and a_size(e["f16"]) and price(e["f20"]) and e["f24"] == 0
     return False
 
 
@@ -169,10 +175,11 @@ GOOD_EVENTS = [dict(sequence=1, time=20, kind=1, marks=1, side=2, f12=3, f16=105
                dict(sequence=U32, time=0, kind=2, marks=0, side=0, f12=U32, f16=0, f20=0, f24=0),
                dict(sequence=0, time=DAY, kind=3, marks=3, side=1, f12=100000, f16=999999, f20=0, f24=0),
                dict(sequence=7, time=99, kind=4, marks=1, side=2, f12=1, f16=0, f20=0, f24=0),
-               dict(sequence=8, time=100, kind=5, marks=12, side=0, f12=999999, f16=1, f20=0, f24=1000000)]
+               dict(sequence=8, time=100, kind=5, marks=12, side=0, f12=999999, f16=1, f20=0, f24=1000000),
+               dict(sequence=9, time=101, kind=6, marks=0, side=0, f12=U32, f16=100000, f20=999999, f24=0)]
 EVENT_EDGES = {"sequence": [0, 1, U32], "time": [0, DAY, DAY + 1, U32], "kind": [0, 1, 2, 3, 4, 5, 6, 7, 255],
                "marks": list(range(17)) + [32, 64, 128, 255], "side": [0, 1, 2, 3, 255], "f12": [0, 1, 100000, 100001, 999999, 1000000, U32],
-               "f16": [0, 1, 999999, 1000000, U32], "f20": [0, 1, 999999, 1000000, U32], "f24": [0, 1, 1000000, 1000001, U32]}
+               "f16": [0, 1, 100000, 100001, 999999, 1000000, U32], "f20": [0, 1, 999999, 1000000, U32], "f24": [0, 1, 1000000, 1000001, U32]}
 
 
 def make():

@@ -7,7 +7,7 @@ import subprocess
 
 from fractions import Fraction
 
-from support import ROOT, Case, cube, random_tapes, samples
+from support import ROOT, TEXT, Case, cube, random_tapes, samples, tape_of
 
 KEYS = "name,refused,ending,low,high,events_taken,events_refused,contra,others,average,total".split(",")
 
@@ -100,6 +100,16 @@ class Why(Case):
         from cube.reasons import REASONS, line
         self.assertEqual(text, "".join(line(n) for n in REASONS))
         self.ends(cube("why", "33", "1"), 0, line(33) + line(1))
+
+    def test_amends(self):
+        """What why says of 36 and 37 names amends, and stands beside the engine's refusals of them."""
+        text = TEXT + "amend sequence=2 time=30 of=1 size=3 price=110\namend sequence=3 time=30 of=9 size=3 price=105\n"
+        listed = cube("list", "--why", given=tape_of(text)).stdout.decode().splitlines()
+        for line, number in zip(listed[3:5], (36, 37)):
+            when, meaning = re.fullmatch(r"%d  \(event\) (.*)\n    (.*)\n" % number, cube("why", str(number)).stdout.decode()).groups()
+            self.assertRegex(line, r"EVENT \d refused %d +%s$" % (number, re.escape(when)))
+            self.assertIn("amend", when)
+            self.assertIn("amended", meaning)
 
     def test_every_number_that_the_engine_gives(self):
         """The sources of the engine refuse by no number that why does not know."""

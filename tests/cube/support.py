@@ -84,11 +84,11 @@ def tape_of(text):
 
 
 def random_event(r, k):
-    kind = r.choice([1, 1, 1, 2, 3, 3, 4, 5, 6])
+    kind = r.choice([1, 1, 1, 2, 3, 3, 4, 5, 6, 6, 7])
     sided, marks = kind in (1, 3, 4), {1: 1, 3: 3, 4: 1, 5: 12}.get(kind, 0) & r.randrange(16)
     price = lambda: r.choice([r.randint(95, 115), r.randint(1, 999999)])
     fields = {1: [r.randint(1, 90), price()], 2: [r.randint(1, 9)], 3: [r.randint(1, 90), price()], 4: [r.randint(1, 90)],
-              5: [r.randint(95, 105), r.randint(105, 115), r.randint(95, 105), r.randint(105, 115)]}.get(kind, [])
+              5: [r.randint(95, 105), r.randint(105, 115), r.randint(95, 105), r.randint(105, 115)], 6: [r.randint(1, 9), r.randint(1, 90), price()]}.get(kind, [])
     record = struct.pack("<II", r.choice([k + 1, k + 1, k + 1, r.randint(0, 9)]), k * 7 + r.randint(0, 9))
     record += bytes([kind, marks, r.choice([1, 2]) if sided else 0, 0]) + struct.pack("<5I", *(fields + [0] * (5 - len(fields))))
     if r.randrange(12) == 0:

@@ -19,6 +19,8 @@ EVENTS = """
 gtx sequence=1 time=10 side=%(other)s size=30 price=105
 gtx sequence=2 time=15 side=%(other)s size=60 price=%(near)d
 limit sequence=3 time=20 side=%(other)s size=40 price=%(near)d customer=yes
+amend sequence=4 time=25 of=1 size=35 price=106
+amend sequence=5 time=25 of=1 size=20 price=106
 """
 
 

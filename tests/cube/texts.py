@@ -1,5 +1,7 @@
 """make, show and check: round trips, and all that can be wrong with a text."""
 import os
+import re
+import struct
 
 from support import LISTING, TEXT, Case, cube, random_tapes, tape_of
 
@@ -14,8 +16,25 @@ cancel sequence=2 time=30 of=1
 limit sequence=3 time=40 side=buy size=5 price=103 customer=yes nonroutable=yes
 market sequence=4 time=50 side=sell size=4 customer=yes
 quotes sequence=5 time=60 nbb=100 nbo=110 bb=100 bo=110 customer-at-bb=yes customer-at-bo=yes
-record hex=0600000032000000090000000000000000000000000000000000000000000000
+amend sequence=6 time=70 of=1 size=2 price=104
+record hex=0700000032000000090000000000000000000000000000000000000000000000
 """
+ORDER, GTX = TEXT.splitlines()[:2]
+AMEND = "amend sequence=2 time=30 of=1 size=4 price=104"
+AMENDED = """\
+AUCTION buy size 10 range 101 to 109
+EVENT 1 taken
+EVENT 2 taken
+END time range 101 to 109
+FILL contra 104 4
+FILL 2 104 4
+FILL contra 109 2
+TOTAL 10
+"""
+
+
+def lines_of(*lines):
+    return "".join(line + "\n" for line in lines)
 
 
 class Texts(Case):
@@ -62,7 +81,7 @@ class Texts(Case):
         self.assertEqual(checked.stdout.decode().splitlines()[:-1], list(sentences))
 
     def test_wrong_texts(self):
-        order, gtx = TEXT.splitlines()[:2]
+        order, gtx = ORDER, GTX
         self.wrong("", "there is no order: a line that begins with order")
         self.wrong(gtx + "\n" + order, "line 1: the order stands before the events: a line that begins with order")
         self.wrong(order + "\n" + order, "line 2: there is one order, and it stands before the events")
@@ -75,7 +94,7 @@ class Texts(Case):
         self.wrong(TEXT.replace(" size=10", ""), "line 1: size is missing")
         self.wrong(order + "\n" + gtx + " price=1 colour=red fish", "line 2: price stands twice", "line 2: 'fish' is not key=value", "line 2: colour does not belong here")
         self.wrong(order + "\ngtx\noops a=1\nrecord hex=00\nown bytes=00", "line 2: sequence is missing", "line 2: time is missing", "line 2: side is missing", "line 2: size is missing",
-                   "line 2: price is missing", "line 3: 'oops' is none of gtx, cancel, limit, market, quotes, record", "line 4: a record here has 32 bytes, and this has 1",
+                   "line 2: price is missing", "line 3: 'oops' is none of gtx, cancel, limit, market, quotes, amend, record", "line 4: a record here has 32 bytes, and this has 1",
                    "line 5: the recorder's own bytes stand first, and once")
         self.wrong(order + " halted=no", "line 1: halted=no: a mark is yes or left out")
         self.wrong(order.replace("auto-match", "stop"), "line 1: stop is missing")
@@ -92,6 +111,58 @@ class Texts(Case):
         self.write("c.txt", TEXT.splitlines()[0].encode())
         self.ends(cube("check", "c.txt", cwd=self.folder), 0, "a tape of 80 bytes can be made: an order and 0 events\n")
         self.assertEqual(sorted(os.listdir(self.folder)), ["c.tape", "c.txt"])
+
+    def test_amend(self):
+        """The record of document 02: kind 6 with the name, the size and the price in fields 12, 16 and 20. Its fills are those of a response sent so at once."""
+        text = lines_of(ORDER, GTX, AMEND)
+        made = cube("make", given=text.encode())
+        self.ends(made, 0)
+        self.assertEqual(made.stdout[-48:-16], struct.pack("<II4B5I", 2, 30, 6, 0, 0, 0, 1, 4, 104, 0, 0))
+        self.ends(cube("show", given=made.stdout), 0, text)
+        self.ends(cube("check", given=text.encode()), 0, "a tape of 144 bytes can be made: an order and 2 events\n")
+        self.ends(cube(given=made.stdout), 0, AMENDED)
+        at_once = cube(given=tape_of(lines_of(ORDER, "gtx sequence=2 time=30 side=sell size=4 price=104"))).stdout.decode()
+        self.assertEqual(at_once[at_once.index("END "):], AMENDED[AMENDED.index("END "):])
+
+    def test_wrong_amends(self):
+        missing = ["line 3: %s is missing" % key for key in ("sequence", "time", "of", "size", "price")]
+        self.wrong(lines_of(ORDER, GTX, "amend"), *missing)
+        for key, sentence in zip(("sequence", "time", "of", "size", "price"), missing):
+            self.wrong(lines_of(ORDER, GTX, re.sub(r" %s=\d+" % key, "", AMEND)), sentence)
+        self.wrong(lines_of(ORDER, GTX, AMEND + " side=sell customer=yes"), "line 3: customer, side does not belong here")
+        self.wrong(lines_of(ORDER, GTX, AMEND + " of=1"), "line 3: of stands twice")
+        self.wrong(lines_of(ORDER, GTX, AMEND.replace("of=1", "of=4294967296")), "line 3: of=4294967296 is not a number from 0 to 4294967295")
+        self.wrong(lines_of(ORDER, AMEND.replace("size=4", "size=-4")), "line 2: size=-4 is not a number from 0 to 4294967295")
+        self.wrong(lines_of(AMEND, ORDER), "line 1: the order stands before the events: a line that begins with order")
+
+    def test_amends_that_the_engine_refuses(self):
+        """Numbers that only fit their fields are made; the numbers that refuse them are document 02's, in the words of why."""
+        amends = [("sequence=2 time=30 of=1 size=0 price=104", 32), ("sequence=2 time=30 of=1 size=100001 price=104", 32), ("sequence=2 time=30 of=1 size=4294967295 price=104", 32),
+                  ("sequence=2 time=30 of=1 size=4 price=0", 32), ("sequence=2 time=30 of=1 size=4 price=1000000", 32), ("sequence=2 time=86400001 of=1 size=4 price=104", 32),
+                  ("sequence=1 time=30 of=1 size=4 price=104", 33), ("sequence=2 time=19 of=1 size=4 price=104", 34), ("sequence=2 time=30 of=1 size=4 price=110", 36),
+                  ("sequence=2 time=30 of=9 size=4 price=110", 36), ("sequence=2 time=30 of=0 size=4 price=104", 37), ("sequence=2 time=30 of=2 size=4 price=104", 37),
+                  ("sequence=2 time=30 of=4294967295 size=4 price=104", 37), ("sequence=2 time=30 of=1 size=100000 price=109", None), ("sequence=2 time=30 of=1 size=100000 price=109", 33),
+                  ("sequence=3 time=40 of=1 size=4 price=104", 37), ("sequence=3 time=40 of=2 size=1 price=1", None)]
+        text = lines_of(ORDER, GTX, *["amend " + words for words, _ in amends])
+        self.ends(cube("show", given=tape_of(text)), 0, text)
+        want = []
+        for i, (words, number) in enumerate(amends, 3):
+            if number is not None:
+                when = re.match(r"\d+  \(event\) (.*)\n", cube("why", str(number)).stdout.decode()).group(1)
+                want.append("line %d: the engine refuses event %s by %d: %s" % (i, re.match(r"sequence=(\d+)", words).group(1), number, when))
+        made = cube("check", given=text.encode())
+        self.ends(made, 0, lines_of(*want, "a tape of %d bytes can be made: an order and %d events" % (80 + 32 * (len(amends) + 1), len(amends) + 1)))
+
+    def test_amends_out_of_form(self):
+        """A record of kind 6 that the line can't say is shown in hex, and the engine refuses it."""
+        tape = tape_of(lines_of(ORDER, GTX, AMEND))
+        for at in (9, 10, 11, *range(24, 32)):
+            place = len(tape) - 48 + at
+            odd = tape[:place] + b"\x01" + tape[place + 1:]
+            shown = cube("show", given=odd)
+            self.ends(shown, 0, lines_of(ORDER, GTX, "record hex=" + odd[-48:-16].hex()))
+            self.ends(cube("make", given=shown.stdout), 0, odd)
+            self.assertIn(b"EVENT 2 refused 32\n", cube(given=odd).stdout)
 
     def test_show_of_no_tape(self):
         tape = tape_of(TEXT)

@@ -6,8 +6,8 @@ from .trouble import FINE
 NAME = "why"
 SUMMARY = "what the numbers of refusals mean"
 DESCRIPTION = """\
-Each number in words: of what it is said, document 01's condition (written for a buy; a sell is its mirror), and what it means. Without a number:
-all of them."""
+Each number in words: of what it is said, its condition in documents 01 and 02 (written for a buy; a sell is its mirror), and what it means. Without
+a number: all of them."""
 EXAMPLES = [("cube why 33", "why an event was refused by 33")]
 
 

@@ -3,7 +3,7 @@ from . import form, reasons
 from .listing import decimals
 from .svg import Canvas, spread, ticks
 
-WIDTH, HEIGHT = 1040, 620
+WIDTH, HEIGHT = 1040, 640
 LEFT, RIGHT, TOP, BOTTOM = 78, 690, 96, 440     # the plot
 LANE = 462                                      # events that have no price
 BARS, LABELS, EDGE = 722, 830, 1034             # the fills: their bars, and what they are
@@ -14,12 +14,12 @@ text { font-family: Helvetica, Arial, sans-serif; font-size: 11px; fill: #222 }
 .band { fill: #d9e4ef } .edge { stroke: #3d5a80; stroke-width: 1.5; fill: none } .after { fill: #f1f1f1 }
 .grid { stroke: #ddd; stroke-width: 0.6 } .frame { stroke: #444; stroke-width: 1; fill: none }
 .response line { stroke: #222; stroke-width: 2 } .response circle { fill: #222; stroke: #222 } .customer circle { fill: #fff; stroke-width: 1.5 }
-.cancel { stroke: #222; stroke-width: 1.6; fill: none } .refusal path { stroke: #b00020; stroke-width: 1.6; fill: #fff } .refusal text { fill: #b00020 }
+.cancel { stroke: #222; stroke-width: 1.6; fill: none } .amend { stroke: #222; stroke-width: 1; fill: none } .refusal path { stroke: #b00020; stroke-width: 1.6; fill: #fff } .refusal text { fill: #b00020 }
 .event path { stroke: #3d5a80; stroke-width: 1.4; fill: #fff } .event text { fill: #3d5a80 }
 .stop { stroke: #222; stroke-width: 1; stroke-dasharray: 6 3 } .ending { stroke: #b00020; stroke-width: 1.8 } .ended { fill: #b00020; font-weight: bold; font-size: 12px }
 .contra { fill: #444; stroke: #222; stroke-width: 0.6 } .other { fill: #c9c9c9; stroke: #222; stroke-width: 0.6 } .lead { stroke: #999; stroke-width: 0.6; stroke-dasharray: 2 2 }
 """
-WORDS = {"gtx": "GTX", "cancel": "cancel", "limit": "limit", "market": "market", "quotes": "quotes", "record": "record"}
+WORDS = {"gtx": "GTX", "cancel": "cancel", "limit": "limit", "market": "market", "quotes": "quotes", "amend": "amend", "record": "record"}
 
 
 class Scales:
@@ -104,20 +104,38 @@ def around(x, y):
 ROOM = (LEFT + 1, TOP + 1, RIGHT - 1, BOTTOM - 1)
 
 
+def told(span):
+    """A response in words, as it stood and as it went."""
+    words = "response %d: %d at %d, from %d ms to %d ms" % (span.sequence, span.size, span.price, span.begin, span.end)
+    words += ", amends %d" % span.amends.sequence if span.amends else ""
+    words += ", amended by %d" % span.amended.sequence if span.amended else ""
+    return words + (", cancelled" if span.cancelled else "")
+
+
+def square(canvas, x, y, **more):
+    """The end of a response that was amended."""
+    canvas.path([(x - 5, y - 5), (x + 5, y - 5), (x + 5, y + 5), (x - 5, y + 5)], "amend", closed=True, **more)
+
+
 def responses(canvas, picture, scales):
     for span in picture.spans:
         x, y, end = scales.x(span.begin), scales.y(span.price), scales.x(span.end)
-        canvas.open("response customer" if span.customer else "response", "response %d: %d at %d, from %d ms to %d ms%s" % (
-            span.sequence, span.size, span.price, span.begin, span.end, ", cancelled" if span.cancelled else ""),
-            data_sequence=span.sequence, data_size=span.size, data_price=span.price, data_begin=span.begin, data_end=span.end)
+        canvas.open("response customer" if span.customer else "response", told(span),
+                    data_sequence=span.sequence, data_size=span.size, data_price=span.price, data_begin=span.begin, data_end=span.end)
         canvas.line(x, y, end, y, "line")
-        canvas.crossed(x, end, y)
+        canvas.crossed(x, y, end, y)
+        if span.amends:
+            canvas.path([(x, scales.y(span.amends.price)), (x, y)], "amend", data_amends=span.amends.sequence)
+            canvas.crossed(x, scales.y(span.amends.price), x, y)
         canvas.add("circle", cx=x, cy=y, r=3.2)
         canvas.taken(x - 4, y - 4, 8, 8)
         if span.cancelled:
             canvas.path([(end - 5, y - 5), (end + 5, y + 5)], "cancel")
             canvas.path([(end - 5, y + 5), (end + 5, y - 5)], "cancel", data_of=span.sequence)
             canvas.taken(end - 6, y - 6, 12, 12)
+        if span.amended:
+            square(canvas, end, y, data_amended_by=span.amended.sequence)
+            canvas.taken(end - 4, y - 5, 8, 10)
         canvas.close()
     for span in picture.spans:
         x, y = scales.x(span.begin), scales.y(span.price)
@@ -129,7 +147,7 @@ def marks(canvas, picture, scales):
     """Events that placed nothing: refusals as triangles, others as diamonds; those without a price stand in the lane below."""
     for mark in picture.marks:
         x, y = place_of(mark, scales)
-        words = "%s %d" % (WORDS[mark.kind], mark.sequence)
+        words = "%s %d" % (WORDS[mark.kind], mark.sequence) + ("" if mark.of is None else " of %d" % mark.of)
         if mark.number is not None:
             canvas.open("refusal", "%s refused by %d: %s" % (words, mark.number, reasons.condition(mark.number)),
                         data_sequence=mark.sequence, data_number=mark.number, data_time=mark.time)
@@ -221,7 +239,7 @@ def fill_labels(canvas, levels, ends, scales):
 
 def legend(canvas):
     """What each shape means, in three columns."""
-    one, two, three, y = LEFT, LEFT + 270, LEFT + 610, HEIGHT - 72
+    one, two, three, y = LEFT, LEFT + 270, LEFT + 610, HEIGHT - 92
     canvas.add("rect", x=one, y=y - 9, width=16, height=10, class_="band")
     canvas.text(one + 24, y, "the range in which it may trade")
     canvas.open("response")
@@ -252,6 +270,15 @@ def legend(canvas):
     canvas.text(two + 24, y, "cancelled")
     canvas.line(three, y - 4, three + 16, y - 4, "stop")
     canvas.text(three + 24, y, "the stop or auto-match limit")
+    y += 24
+    canvas.open("response")
+    canvas.line(two - 10, y - 9, two + 2, y - 9, "line")
+    square(canvas, two + 2, y - 9)
+    canvas.path([(two + 2, y - 9), (two + 2, y + 5)], "amend")
+    canvas.add("circle", cx=two + 2, cy=y + 5, r=3.2)
+    canvas.line(two + 2, y + 5, two + 16, y + 5, "line")
+    canvas.close()
+    canvas.text(two + 24, y, "amended: the old one ends, the new one begins")
 
 
 def auction(picture):

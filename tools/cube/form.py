@@ -7,6 +7,7 @@
     limit sequence=3 time=40 side=buy size=5 price=103
     market sequence=4 time=50 side=sell size=4
     quotes sequence=5 time=60 nbb=100 nbo=110 bb=100 bo=110
+    amend sequence=6 time=70 of=1 size=2 price=104
     record hex=..                           a record that the forms above cannot say
 
 An order's mode is stop, auto-match or auto-match-limit, the first and the last with stop=PRICE. Marks are `key=yes`: halted, another,
@@ -24,7 +25,8 @@ KINDS = {1: ("gtx", ["size", "price"], True, {"customer": 0}),
          2: ("cancel", ["of"], False, {}),
          3: ("limit", ["size", "price"], True, {"customer": 0, "nonroutable": 1}),
          4: ("market", ["size"], True, {"customer": 0}),
-         5: ("quotes", ["nbb", "nbo", "bb", "bo"], False, {"customer-at-bb": 2, "customer-at-bo": 3})}
+         5: ("quotes", ["nbb", "nbo", "bb", "bo"], False, {"customer-at-bb": 2, "customer-at-bo": 3}),
+         6: ("amend", ["of", "size", "price"], False, {})}
 LONGEST = 65536
 
 

@@ -4,12 +4,17 @@ from . import form, listing
 
 
 class Span:
-    """A response as it stood: from when to when, at what price, with what size; `cancelled` where it went before the end."""
+    """A response as it stood: from when to when, at what price, with what size. Where it went before the end it was `cancelled`, or `amended` is the
+    one that came in its place; `amends` is the one in whose place it came."""
 
-    def __init__(self, sequence, size, record):
-        self.sequence, self.size, self.price, self.begin = sequence, size, record.get("price"), record["time"]
-        self.customer = record.get("customer", False)
-        self.end, self.cancelled = None, False
+    def __init__(self, sequence, size, customer, record):
+        self.sequence, self.size, self.customer, self.price, self.begin = sequence, size, customer, record.get("price"), record["time"]
+        self.end, self.cancelled, self.amended, self.amends = None, False, None, None
+
+    def goes(self, time, instead):
+        self.end, self.cancelled, self.amended = time, instead is None, instead
+        if instead:
+            instead.amends = self
 
 
 class Mark:
@@ -17,15 +22,15 @@ class Mark:
 
     def __init__(self, record, answer):
         self.sequence, self.kind, self.time, self.price = record["sequence"], record["kind"], record["time"], record.get("price")
-        self.side, self.size = record.get("side"), record.get("size")
+        self.side, self.size, self.of = record.get("side"), record.get("size"), record.get("of")
         self.number = int(answer[1]) if answer[0] == "refused" else None
         self.answer = answer[0]
 
 
 def state(line):
-    """A line of the trace: the range, and the size of each response that stands, by its sequence."""
+    """A line of the trace: the range, and by its sequence each response that stands: its size, and whether it is a Customer's."""
     words = line.split(" ")
-    return int(words[2]), int(words[4]), dict((int(s), int(n)) for s, n in (w.split(":") for w in words[6:]))
+    return int(words[2]), int(words[4]), {int(s): (int(n), mark == ["customer"]) for s, n, *mark in (w.split(":") for w in words[6:])}
 
 
 class Picture:
@@ -44,16 +49,16 @@ class Picture:
         self.follow([state(line) for line in trace], answers)
 
     def follow(self, states, answers):
-        """What came and went from one state of the trace to the next."""
+        """What came and went from one state of the trace to the next; what goes as another comes was amended by it."""
         low, high, standing = states[0]
         self.steps, self.spans, self.marks, live = [(0, low, high)], [], [], {}
         for record, answer, (low, high, now) in zip(self.records, answers, states[1:]):
             came, went = [s for s in now if s not in standing], [s for s in standing if s not in now]
             for s in came:
-                live[s] = Span(s, now[s], record)
+                live[s] = Span(s, *now[s], record)
                 self.spans.append(live[s])
             for s in went:
-                live[s].end, live[s].cancelled = record["time"], True
+                live[s].goes(record["time"], live[came[0]] if came else None)
             if (low, high) != self.steps[-1][1:]:
                 self.steps.append((record["time"], low, high))
             if not came and not went or answer[0] != "taken":

@@ -1,4 +1,4 @@
-"""The numbers for "no": of what each is said, document 01's condition, and what it means to a desk.
+"""The numbers for "no": of what each is said, its condition in documents 01 and 02, and what it means to a desk.
 
 One row for each number, in document 01's order of tests; a new number is a new row.
 """
@@ -17,14 +17,15 @@ REASONS = {
     9: ("order", "size < 50 and BO - BB = 1, (b)(6)(A)", "The order is under 50 contracts and the exchange's market is one cent wide: there is no price to improve to."),
     10: ("order", "limit < lower bound, (b)(2)", "The order's limit is outside the range of prices that the auction may trade at."),
     11: ("order", "stop or auto-match limit > initiating price, (c)(1)", "The Contra Order's stop, or its auto-match limit, is worse than the price at which the auction would begin."),
-    12: ("order", "size < 50, NBO - NBB = 1, and the guaranteed price isn't NBO - 1, (b)(6)(B)", "Under 50 contracts, where the national market is one cent wide, the guaranteed price must improve on it by that cent."),
+    12: ("order", "size < 50, NBO - NBB = 1, and the guaranteed price isn't NBO - 1, (b)(6)(B)",
+         "Under 50 contracts, where the national market is one cent wide, the guaranteed price must improve on it by that cent."),
     31: ("event", "the auction has ended", "The record came after the auction's end."),
     32: ("event", "event outside its stated form", "Some field of the record has a value that no event of its kind may have, or there is no such kind."),
     33: ("event", "sequence not above the highest taken (0 before any)", "The record was sent again, or out of its order: only rising sequences are taken."),
     34: ("event", "time below that of the last event taken", "The record's time runs backwards."),
     35: ("event", "GTX on the CUBE order's side", "A response has to be on the other side of the order."),
-    36: ("event", "GTX above the initiating price", "The response's price is worse than the price at which the auction began."),
-    37: ("event", "cancel names no live GTX", "There is no such response to cancel: it never stood, or was cancelled before."),
+    36: ("event", "GTX or amend above the initiating price", "The response's price, or the price that it is amended to, is worse than the price at which the auction began."),
+    37: ("event", "cancel or amend names no live GTX", "No such response stands: it never came, was cancelled, was amended (and has the amend's sequence since), or is a limit order."),
     38: ("event", "a response has to be placed and all 64 places are live", "Sixty-four responses stand already."),
     24: ("record", "lent bytes too short for the record (writers: after 1 or 32; readers: first)", "A program lent too few bytes for a record, or for a listing. No listing of a tape shows this."),
     39: ("fills", "fewer than 390 words from the start place, or a start past the end", "A program lent too few words for the fills. No listing of a tape shows this."),
@@ -33,8 +34,8 @@ REASONS = {
 
 
 def condition(number):
-    """Document 01's condition, or that the number is none of its."""
-    return REASONS[number][1] if number in REASONS else "no number of document 01"
+    """The condition of a number, or that there is no such number."""
+    return REASONS[number][1] if number in REASONS else "no number of documents 01 and 02"
 
 
 def line(number):

@@ -49,9 +49,9 @@ class Canvas:
         """Keeps a box free of labels."""
         self.boxes.append((x, y, x + width, y + height))
 
-    def crossed(self, x1, x2, y):
-        """A line that a label had better not stand on."""
-        self.lines.append((x1, y - 1, x2, y + 1))
+    def crossed(self, x1, y1, x2, y2):
+        """A line across or down that a label had better not stand on."""
+        self.lines.append((min(x1, x2) - 1, min(y1, y2) - 1, max(x1, x2) + 1, max(y1, y2) + 1))
 
     def is_free(self, box, boxes):
         return not any(box[0] < b[2] and b[0] < box[2] and box[1] < b[3] and b[1] < box[3] for b in boxes)

@@ -2,10 +2,11 @@
 // write that fails is said on standard error, and ends it.
 //
 //   desk trace    a line for the order, one for each event record and one for closing by hand: the range then, and the responses that stand,
-//                 each by its sequence and size. A refused tape or order: its number.
+//                 each by its sequence and size, as 5:30, and a Customer's as 5:30:customer. A refused tape or order: its number.
 use auction::Auction;
 use auction::Entry;
 use board::Board;
+use board::Response;
 use input::MOST;
 use libc::STDERR_FILENO;
 use libc::STDIN_FILENO;
@@ -56,12 +57,18 @@ fn print_range(a: Auction) -> bool {
     print_field(b" to ", r.high)
 }
 
-// A live response: its sequence and its size.
-fn print_response(sequence: u32, size: u32) -> bool {
-    if !print_field(b" ", sequence) {
+// A live response: its sequence, its size and whether it is a Customer's.
+fn print_response(r: Response) -> bool {
+    if !print_field(b" ", r.sequence) {
         return false;
     }
-    print_field(b":", size)
+    if !print_field(b":", r.size) {
+        return false;
+    }
+    if r.customer {
+        return print(b":customer");
+    }
+    true
 }
 
 // The responses that stand, from the first place on.
@@ -69,8 +76,7 @@ fn print_standing(b: Board) -> bool {
     let mut i = 0;
     while i < 64 {
         if board::is_live(b, i) {
-            let r = board::response_at(b, i);
-            if !print_response(r.sequence, r.size) {
+            if !print_response(board::response_at(b, i)) {
                 return false;
             }
         }
