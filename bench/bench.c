@@ -178,6 +178,11 @@ static int make(const char *name)
             sequence++;
         }
         tape(PEER_STOP);
+    } else if (IS("amended")) {                             /* the last of them, again and again: as it was but for its sequence */
+        responses(n, 0, 100);
+        for (i = 0; i < 1000; i++, sequence++)
+            add(build_amend(sequence + 1, 1, sequence, 100 + (uint32_t)(n - 1) % 7, 950));
+        tape(PEER_STOP);
     } else if (IS("limits")) {
         responses(n, 0, 100);
         for (i = 0; i < 1000; i++)
@@ -222,7 +227,8 @@ static int make(const char *name)
 }
 
 static const char *const cases[] = {
-    "refused", "order", "standing-0", "standing-8", "standing-63", "quotes-0", "quotes-8", "quotes-63", "pairs-0", "pairs-8", "pairs-63",
+    "refused", "order", "standing-0", "standing-1", "standing-8", "standing-63", "quotes-0", "quotes-8", "quotes-63", "pairs-0", "pairs-8", "pairs-63",
+    "amended-1", "amended-8", "amended-63",
     "limits-8", "resent-8", "shared-1", "shared-8", "shared-64", "shared_market-0", "shared_market-1", "shared_market-8", "shared_market-64",
     "crossed-8", "crossed-64", "crossed_market-0", "crossed_market-8", "crossed_market-64",
     "priced-1", "priced-8", "priced-64", "priced_market-0", "priced_market-1", "priced_market-8", "priced_market-64", "no_responses", "mixed", "batch",

@@ -1,3 +1,2 @@
 -- What an event does, as document 01 has it.
-pub mod Decide
 pub mod Step

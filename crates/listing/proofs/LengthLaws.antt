@@ -30,8 +30,8 @@ use Rattle.auction.specs.declared.Ending.the-variants.{Open, Time, Same, Opposi
 use Rattle.auction.specs.declared.Entry.{Entry}
 use Rattle.auction.specs.declared.Entry.the-variants.{Accepted, Refused as NoEntry}
 use Rattle.auction.specs.declared.Range.{Range}
-use Rattle.events.specs.declared.Change.{Change}
-use Rattle.events.specs.declared.Change.the-variants.{Nothing, Seat, Free, Quote, Sell}
+use Rattle.decision.specs.declared.Change.{Change}
+use Rattle.decision.specs.declared.Change.the-variants.{Nothing, Seat, Free, Quote, Sell}
 use Rattle.auction.specs.declared.Opening.{Opening}
 use Rattle.auction.specs.rules.Accept.{orderRefusal, openedBy, noAuction, acceptOf}
 use Rattle.events.specs.rules.Step.{sightOf, boardAfter, turnOf, closeTurn, stepOf}

@@ -21,8 +21,8 @@ use Rattle.auction.specs.declared.Auction.{Auction}
 use Rattle.auction.specs.declared.Head.{Head}
 use Rattle.events.specs.declared.Stepped.{Stepped}
 use Rattle.events.specs.declared.Turn.{Turn}
-use Rattle.events.specs.declared.Change.{Change}
-use Rattle.events.specs.declared.Change.the-variants.{Seat, Free}
+use Rattle.decision.specs.declared.Change.{Change}
+use Rattle.decision.specs.declared.Change.the-variants.{Seat, Free}
 use Rattle.events.specs.declared.Answer.the-variants.{Late, Refused}
 use Rattle.events.specs.rules.Step.{sightOf, boardAfter, stays, endedByTime, turnOf, closeTurn, gives, seatedOn, stepOf}
 use Rattle.auction.specs.rules.Range.{isOpen}

@@ -9,7 +9,7 @@ ghost use Rattle.listing.specs.inside.Code.{Lists, WroteBytes};
 use auction::Auction;
 use auction::Ending;
 use auction::Entry;
-use events::Change;
+use decision::Change;
 use events::turns;
 use lines::put_auction;
 use lines::put_event;

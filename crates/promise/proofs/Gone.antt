@@ -25,7 +25,7 @@ use Rattle.auction.specs.declared.Terms.{Terms}
 use Rattle.auction.specs.declared.Entry.the-variants.{Accepted}
 use Rattle.auction.specs.rules.Accept.{acceptOf}
 use Rattle.events.specs.declared.Answer.the-variants.{Taken}
-use Rattle.events.specs.declared.Sight.{Sight}
+use Rattle.decision.specs.declared.Sight.{Sight}
 use Rattle.events.specs.declared.Stepped.{Stepped}
 use Rattle.events.specs.rules.Step.{sightOf, boardAfter, carried, stepOf}
 use Rattle.run.specs.rules.Run.{run, isTaken}
@@ -44,7 +44,7 @@ use Rattle.base.proofs.ListLaws.{inserts-every}
 use Rattle.board.specs.rules.Board.{responseAt, isLive}
 use Rattle.board.proofs.BoardLaws.{amending, no-gtx}
 use Rattle.tape.specs.rules.Fields.{newPriceOf}
-use Rattle.events.specs.rules.Decide.{isAmend}
+use Rattle.decision.specs.rules.Decide.{isAmend}
 use Rattle.run.specs.promises.Demands.{Stands, Sound, Names, InTime, isAbove}
 use Rattle.run.proofs.StepLaws.{Leaves}
 use Rattle.run.proofs.BoardSteps.{amend-every}
@@ -57,7 +57,6 @@ use Rattle.promise.proofs.RealLaws.{better-shown}
 use Rattle.promise.proofs.Sent.{terms-sell, new-price, every-sent}
 use Rattle.promise.proofs.Resent.{refused, run-append}
 use Rattle.promise.proofs.Standing.{counted-once, one-record}
-
 
 -- no live response bears k, and none ever will
 abbrev Gone : ℕ → Auction → Type 0

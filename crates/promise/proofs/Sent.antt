@@ -22,7 +22,7 @@ use Rattle.auction.specs.declared.Auction.{Auction}
 use Rattle.auction.specs.declared.Terms.{Terms}
 use Rattle.auction.specs.declared.Entry.the-variants.{Accepted}
 use Rattle.auction.specs.rules.Accept.{termsOf, openedBy, acceptOf}
-use Rattle.events.specs.rules.Decide.{isCustomer}
+use Rattle.decision.specs.rules.Decide.{isCustomer}
 use Rattle.run.proofs.Accepted.{opened}
 use Rattle.promise.specs.rules.Sides.{isSell, sent, sentBy}
 use lib.Dec.{eqb}
@@ -30,7 +30,7 @@ use borrow.Author.Tests.{eq-eqb, ne-eqb}
 use Rattle.tape.specs.rules.Fields.{newSizeOf, newPriceOf}
 use Rattle.mirror.specs.rules.Mirror.{mirroredAmend}
 use Rattle.mirror.proofs.EventLaws.{mirror-six, amend-size}
-use Rattle.events.specs.rules.Decide.{responseOf, amendedBy}
+use Rattle.decision.specs.rules.Decide.{responseOf, amendedBy}
 use Rattle.promise.specs.rules.Sides.{sentInstead}
 
 buy-size : (o : Order) → buyOrder o .size ≡ o .size

@@ -30,8 +30,8 @@ use Rattle.auction.specs.declared.Auction.{Auction}
 use Rattle.auction.specs.declared.Terms.{Terms}
 use Rattle.auction.specs.declared.Entry.the-variants.{Accepted}
 use Rattle.auction.specs.rules.Accept.{openedBy, acceptOf}
-use Rattle.events.specs.declared.Sight.{Sight}
-use Rattle.events.specs.rules.Decide.{isAmend, amendedBy}
+use Rattle.decision.specs.declared.Sight.{Sight}
+use Rattle.decision.specs.rules.Decide.{isAmend, amendedBy}
 use Rattle.events.specs.rules.Step.{sightOf, boardAfter, carried, stepOf}
 use Rattle.run.specs.rules.Run.{run, isTaken, takenOf}
 use Rattle.run.specs.promises.Demands.{Stands, Sound, Rising}

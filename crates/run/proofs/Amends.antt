@@ -29,13 +29,13 @@ use Rattle.auction.specs.declared.Auction.{Auction}
 use Rattle.auction.specs.declared.Ending.the-variants.{Open}
 use Rattle.events.specs.declared.Answer.{Answer}
 use Rattle.events.specs.declared.Answer.the-variants.{Taken, Ended, Refused}
-use Rattle.events.specs.declared.Change.the-variants.{Nothing, Seat}
-use Rattle.events.specs.declared.Outcome.{Outcome}
-use Rattle.events.specs.declared.Outcome.the-variants.{Does}
-use Rattle.events.specs.declared.Sight.{Sight}
+use Rattle.decision.specs.declared.Change.the-variants.{Nothing, Seat}
+use Rattle.decision.specs.declared.Outcome.{Outcome}
+use Rattle.decision.specs.declared.Outcome.the-variants.{Does}
+use Rattle.decision.specs.declared.Sight.{Sight}
 use Rattle.events.specs.declared.Stepped.{Stepped}
 use Rattle.events.specs.declared.Turn.{Turn}
-use Rattle.events.specs.rules.Decide.{isAmend, amendedBy, amendOutcome, cancelOutcome, outcomeOf}
+use Rattle.decision.specs.rules.Decide.{isAmend, amendedBy, amendOutcome, cancelOutcome, outcomeOf}
 use Rattle.events.specs.rules.Step.{sightOf, eventRefusal, headAfter, carried, turnOf, gives, seatedOn, stepBy, stepOf}
 use Rattle.run.specs.rules.Run.{isTaken}
 use Rattle.run.specs.promises.Demands.{Stands, Sound, InTime, Names, namedPlace, isAbove, Amended, Amends}

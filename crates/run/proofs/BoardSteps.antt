@@ -18,7 +18,7 @@ use Rattle.words.proofs.BitLaws.{clear-is}
 use Rattle.tape.specs.declared.event.Event.{Event}
 use Rattle.demand.specs.promises.Demands.{Absent, Distinct}
 use Rattle.tape.specs.rules.Fields.{nameOf}
-use Rattle.events.specs.rules.Decide.{isCancel, isAmend}
+use Rattle.decision.specs.rules.Decide.{isCancel, isAmend}
 use Rattle.events.specs.rules.Step.{sightOf}
 use Rattle.run.specs.promises.Demands.{Fits}
 

@@ -26,7 +26,7 @@ use Rattle.mirror.specs.rules.Mirror.{mirroredOrder, mirroredEvent, buyOrder, b
 use Rattle.auction.specs.rules.Accept.{orderRefusal, termsOf, openedBy, noAuction, acceptOf}
 use Rattle.auction.specs.rules.Range.{isOpen}
 use Rattle.events.specs.rules.Step.{foundFor, sightOf, eventRefusal, stays, endedByTime, headAfter, boardAfter, carried, turnOf, closeTurn, seatedOn, stepBy, stepOf, closeOf}
-use Rattle.events.specs.rules.Decide.{isCancel, isAmend, gtxOutcome, cancelOutcome, amendOutcome, sellLimitOutcome, buyLimitOutcome, limitOutcome, marketOutcome, quotesOutcome, outcomeOf}
+use Rattle.decision.specs.rules.Decide.{isCancel, isAmend, gtxOutcome, cancelOutcome, amendOutcome, sellLimitOutcome, buyLimitOutcome, limitOutcome, marketOutcome, quotesOutcome, outcomeOf}
 use Rattle.auction.specs.rules.Range.{boundNow, rangeOf}
 use Rattle.fills.specs.rules.Fills.{dealOf, auctionFills}
 use Rattle.run.specs.rules.Run.{run, Said, said, heard, closed, played}
@@ -40,11 +40,11 @@ use Rattle.events.specs.declared.Answer.the-variants.{Late, Refused as No}
 use Rattle.auction.specs.declared.Entry.the-variants.{Accepted, Refused}
 use Rattle.auction.specs.declared.Opening.{Opening}
 use Rattle.events.specs.declared.Answer.{Answer}
-use Rattle.events.specs.declared.Sight.{Sight}
+use Rattle.decision.specs.declared.Sight.{Sight}
 use Rattle.events.specs.declared.Turn.{Turn}
-use Rattle.events.specs.declared.Change.{Change}
-use Rattle.events.specs.declared.Outcome.{Outcome}
-use Rattle.events.specs.declared.Outcome.the-variants.{Refuses, Does}
+use Rattle.decision.specs.declared.Change.{Change}
+use Rattle.decision.specs.declared.Outcome.{Outcome}
+use Rattle.decision.specs.declared.Outcome.the-variants.{Refuses, Does}
 use Rattle.mirror.proofs.EventLaws.{mirror-sequence, mirror-time, mirror-kind, mirror-name}
 use Rattle.run.proofs.StepLaws.{names-is}
 use Rattle.tape.specs.rules.Fields.{nameOf}

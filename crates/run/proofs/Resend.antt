@@ -27,14 +27,14 @@ use Rattle.auction.specs.declared.Quotes.{Quotes}
 use Rattle.auction.specs.declared.Ending.{Ending}
 use Rattle.events.specs.declared.Answer.the-variants.{Taken, Ended, Late, Refused}
 use Rattle.events.specs.declared.Stepped.{Stepped}
-use Rattle.events.specs.declared.Sight.{Sight}
+use Rattle.decision.specs.declared.Sight.{Sight}
 use Rattle.events.specs.declared.Turn.{Turn}
 use Rattle.auction.specs.declared.Opening.{Opening}
 use Rattle.auction.specs.declared.Entry.the-variants.{Refused as NotAccepted}
-use Rattle.events.specs.declared.Change.{Change}
-use Rattle.events.specs.declared.Change.the-variants.{Nothing, Seat, Free, Quote, Sell}
-use Rattle.events.specs.declared.Outcome.{Outcome}
-use Rattle.events.specs.declared.Outcome.the-variants.{Refuses, Does}
+use Rattle.decision.specs.declared.Change.{Change}
+use Rattle.decision.specs.declared.Change.the-variants.{Nothing, Seat, Free, Quote, Sell}
+use Rattle.decision.specs.declared.Outcome.{Outcome}
+use Rattle.decision.specs.declared.Outcome.the-variants.{Refuses, Does}
 use Rattle.run.proofs.StepLaws.{EventNumber, Outcomes, Cases, cases}
 
 -- where only refusing or not matters: any change, any ending

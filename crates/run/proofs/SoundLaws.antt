@@ -28,7 +28,7 @@ use Rattle.auction.specs.rules.Accept.{initiatingOf, termsOf, quotesOf, openedB
 use Rattle.auction.specs.rules.Range.{isOpen, boundBy}
 use Rattle.tape.specs.rules.Fields.{sizeOf, newSizeOf}
 use Rattle.events.specs.rules.Step.{sightOf, boardAfter, quotesAfter, marketAfter, headAfter, endedByTime, carried, closeTurn, seatedOn, stepBy, stepOf, closeOf}
-use Rattle.events.specs.rules.Decide.{responseOf, amendedBy}
+use Rattle.decision.specs.rules.Decide.{responseOf, amendedBy}
 use Rattle.auction.specs.rules.Range.{boundNow, rangeOf}
 use Rattle.fills.specs.rules.Fills.{dealOf}
 use Rattle.run.specs.rules.Run.{run, played}
@@ -36,10 +36,10 @@ use Rattle.run.specs.promises.Demands.{Fits, Stands, Sound, Within, Trad
 use Rattle.auction.specs.declared.Auction.{Auction}
 use Rattle.auction.specs.declared.Ending.{Ending}
 use Rattle.auction.specs.declared.Ending.the-variants.{Open, Opposite}
-use Rattle.events.specs.declared.Change.{Change}
-use Rattle.events.specs.declared.Change.the-variants.{Nothing, Seat, Free, Quote, Sell}
+use Rattle.decision.specs.declared.Change.{Change}
+use Rattle.decision.specs.declared.Change.the-variants.{Nothing, Seat, Free, Quote, Sell}
 use Rattle.events.specs.declared.Stepped.{Stepped}
-use Rattle.events.specs.declared.Sight.{Sight}
+use Rattle.decision.specs.declared.Sight.{Sight}
 use Rattle.events.specs.declared.Turn.{Turn}
 use Rattle.auction.specs.declared.Entry.the-variants.{Accepted}
 use Rattle.run.proofs.StepLaws.{Outcomes, Ordinary, cases}

@@ -18,15 +18,15 @@ use Rattle.auction.specs.declared.Quotes.{Quotes}
 use Rattle.auction.specs.declared.Ending.{Ending}
 use Rattle.auction.specs.declared.Ending.the-variants.{Open, Same, Opposite, Improve}
 use Rattle.events.specs.rules.Step.{eventRefusal, stays, endedByTime, carried, turnOf}
-use Rattle.events.specs.rules.Decide.{isCancel, isAmend, isCustomer, isNonRoutable, responseOf, gtxOutcome, cancelOutcome, amendedBy, amendOutcome, sellLimitOutcome, bidQuotes, moves, buyLimitOutcome, limitOutcome, marketOutcome, newQuotes, quotesOutcome, outcomeOf}
+use Rattle.decision.specs.rules.Decide.{isCancel, isAmend, isCustomer, isNonRoutable, responseOf, gtxOutcome, cancelOutcome, amendedBy, amendOutcome, sellLimitOutcome, bidQuotes, moves, buyLimitOutcome, limitOutcome, marketOutcome, newQuotes, quotesOutcome, outcomeOf}
 use Rattle.tape.specs.rules.Fields.{sizeOf, priceOf, newPriceOf}
 use Rattle.run.specs.promises.Demands.{Names}
 use Rattle.events.specs.declared.Answer.the-variants.{Late, Refused}
-use Rattle.events.specs.declared.Sight.{Sight}
+use Rattle.decision.specs.declared.Sight.{Sight}
 use Rattle.events.specs.declared.Turn.{Turn}
-use Rattle.events.specs.declared.Change.the-variants.{Nothing, Seat, Free, Quote, Sell}
-use Rattle.events.specs.declared.Outcome.{Outcome}
-use Rattle.events.specs.declared.Outcome.the-variants.{Refuses, Does}
+use Rattle.decision.specs.declared.Change.the-variants.{Nothing, Seat, Free, Quote, Sell}
+use Rattle.decision.specs.declared.Outcome.{Outcome}
+use Rattle.decision.specs.declared.Outcome.the-variants.{Refuses, Does}
 
 -- ---- the decision
 

@@ -3,7 +3,7 @@ ghost use mathlib.Core.Path.{_≡_};
 ghost use Rattle.events.specs.rules.Step.{boardAfter, seatedOn, stepOf, closeOf};
 use auction::Auction;
 use board::Board;
-use events::Change;
+use decision::Change;
 use events::Stepped;
 use events::Turn;
 use events::turns::close_turn;

@@ -113,7 +113,7 @@ choose P k n x y px py = go (eqb k n) refl
 
 -- the highest numbers that a row lets through
 pub record RowBounds (k : ℕ) (s : Shape) : Type 0 where
-  pub kind : (m : ℕ) → inside m (s .marks) ≡ true → k ≤ 6
+  pub kind : (m : ℕ) → inside m (s .marks) ≡ true → k ≤ 255
   pub marks : s .marks .high ≤ 15
   pub side : s .side .high ≤ 2
   pub f12 : s .f12 .high ≤ 4294967295
@@ -121,7 +121,7 @@ pub record RowBounds (k : ℕ) (s : Shape) : Type 0 where
   pub f20 : s .f20 .high ≤ 999999
   pub f24 : s .f24 .high ≤ 1000000
 
-known : {k : ℕ} (marks : Range) (low : Bool) (side f12 f16 f20 f24 : Range) → k ≤ 6 → marks .high ≤ 15 → side .high ≤ 2 → f12 .high ≤ 4294967295 → f16 .high ≤ 999999 → f20 .high ≤ 999999 → f24 .high ≤ 1000000 → RowBounds k (row marks low side f12 f16 f20 f24)
+known : {k : ℕ} (marks : Range) (low : Bool) (side f12 f16 f20 f24 : Range) → k ≤ 255 → marks .high ≤ 15 → side .high ≤ 2 → f12 .high ≤ 4294967295 → f16 .high ≤ 999999 → f20 .high ≤ 999999 → f24 .high ≤ 1000000 → RowBounds k (row marks low side f12 f16 f20 f24)
 known marks low side f12 f16 f20 f24 hk a b c d e f = record { kind = λ m h. hk; marks = a; side = b; f12 = c; f16 = d; f20 = e; f24 = f }
 
 pub row-bounds : (k : ℕ) → RowBounds k (shapeOf k)

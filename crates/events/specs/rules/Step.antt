@@ -8,7 +8,7 @@ use Rattle.tape.specs.declared.event.Event.{Event}
 use Rattle.tape.specs.rules.Form.{eventFormed}
 use Rattle.tape.specs.rules.Fields.{nameOf}
 use Rattle.mirror.specs.rules.Mirror.{buyEvent}
-use Rattle.events.specs.rules.Decide.{isCancel, isAmend, outcomeOf}
+use Rattle.decision.specs.rules.Decide.{isCancel, isAmend, outcomeOf}
 use Rattle.auction.specs.rules.Range.{isOpen}
 use Rattle.auction.specs.declared.Auction.{Auction}
 use Rattle.auction.specs.declared.Head.{Head}
@@ -19,12 +19,12 @@ use Rattle.auction.specs.declared.Ending.the-variants.{Time}
 use Rattle.events.specs.declared.Answer.{Answer}
 use Rattle.events.specs.declared.Answer.the-variants.{Taken, Ended, Late, Refused}
 use Rattle.events.specs.declared.Stepped.{Stepped}
-use Rattle.events.specs.declared.Sight.{Sight}
+use Rattle.decision.specs.declared.Sight.{Sight}
 use Rattle.events.specs.declared.Turn.{Turn}
-use Rattle.events.specs.declared.Change.{Change}
-use Rattle.events.specs.declared.Change.the-variants.{Nothing, Seat, Free, Quote, Sell}
-use Rattle.events.specs.declared.Outcome.{Outcome}
-use Rattle.events.specs.declared.Outcome.the-variants.{Refuses, Does}
+use Rattle.decision.specs.declared.Change.{Change}
+use Rattle.decision.specs.declared.Change.the-variants.{Nothing, Seat, Free, Quote, Sell}
+use Rattle.decision.specs.declared.Outcome.{Outcome}
+use Rattle.decision.specs.declared.Outcome.the-variants.{Refuses, Does}
 
 -- ---- the refusals that every kind has, in their order; 0: none
 

@@ -7,7 +7,7 @@ use lib.ListN.{length}
 use borrow.Author.Needs.{needs}
 use Rattle.run.specs.rules.Run.{run, heard, closed}
 use Rattle.events.specs.rules.Step.{boardAfter, turnOf}
-use Rattle.events.specs.declared.Sight.{Sight}
+use Rattle.decision.specs.declared.Sight.{Sight}
 use Rattle.tape.specs.declared.event.Event.{Event}
 use mathlib.Core.List.{List, []}
 use Rattle.listing.specs.rules.Listing.{eventLines}

@@ -28,7 +28,7 @@ use Rattle.auction.specs.rules.Accept.{acceptOf}
 use Rattle.auction.specs.rules.Range.{isOpen}
 use Rattle.auction.specs.declared.Auction.{Auction}
 use Rattle.auction.specs.declared.Ending.{Ending}
-use Rattle.events.specs.rules.Decide.{isAmend}
+use Rattle.decision.specs.rules.Decide.{isAmend}
 use Rattle.events.specs.rules.Step.{stepOf}
 use Rattle.events.specs.declared.Answer.{Answer}
 use Rattle.fills.specs.rules.Fills.{dealOf, auctionFills, fillsAnswer, fillsAfter}

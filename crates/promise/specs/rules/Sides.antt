@@ -20,7 +20,7 @@ use Rattle.auction.specs.rules.Range.{rangeOf}
 use Rattle.auction.specs.declared.Auction.{Auction}
 use Rattle.auction.specs.declared.Range.{Range}
 use Rattle.auction.specs.declared.Market.{Market}
-use Rattle.events.specs.rules.Decide.{isCustomer, isAmend}
+use Rattle.decision.specs.rules.Decide.{isCustomer, isAmend}
 use Rattle.fills.specs.rules.Fills.{dealOf, auctionFills}
 use Rattle.run.specs.rules.Run.{takenOf, played}
 

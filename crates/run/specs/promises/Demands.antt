@@ -23,7 +23,7 @@ use Rattle.auction.specs.rules.Accept.{acceptOf}
 use Rattle.auction.specs.rules.Range.{isOpen, boundBy}
 use Rattle.tape.specs.rules.Fields.{sizeOf, nameOf, newPriceOf}
 use Rattle.events.specs.rules.Step.{sightOf, endedByTime, headAfter, gives, stepBy, stepOf, closeOf}
-use Rattle.events.specs.rules.Decide.{isAmend, amendedBy}
+use Rattle.decision.specs.rules.Decide.{isAmend, amendedBy}
 use Rattle.fills.specs.rules.Fills.{dealOf, auctionFills}
 use Rattle.auction.specs.rules.Range.{rangeOf}
 use Rattle.run.specs.rules.Run.{run, heard, played, isTaken, takenOf}
@@ -34,8 +34,8 @@ use Rattle.auction.specs.declared.Range.{Range}
 use Rattle.auction.specs.declared.Ending.the-variants.{Open, Opposite}
 use Rattle.auction.specs.declared.Entry.the-variants.{Accepted, Refused as NotAccepted}
 use Rattle.events.specs.declared.Answer.the-variants.{Taken, Ended, Late, Refused}
-use Rattle.events.specs.declared.Change.the-variants.{Nothing}
-use Rattle.events.specs.declared.Sight.{Sight}
+use Rattle.decision.specs.declared.Change.the-variants.{Nothing}
+use Rattle.decision.specs.declared.Sight.{Sight}
 
 -- ---- what an event sees of the board
 

@@ -1,0 +1,2 @@
+-- Laws and theorems of `decision`.
+pub mod Settled

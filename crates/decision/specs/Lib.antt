@@ -1,0 +1,2 @@
+-- What the contracts of `decision` cite.
+pub mod rules
