@@ -11,8 +11,8 @@ use lib.ListN.{length}
 use lib.Pow.{pow-pos}
 use borrow.Author.Tests.{lt-ltb, le-ltb, eqb-true, eq-eqb, ne-eqb}
 use Rattle.words.specs.rules.Bits.{bitAt, withoutBit, trailingZeros}
-use Rattle.base.proofs.Bools.{bool-or}
-use Rattle.base.proofs.Numbers.{le-or-lt}
+use Rattle.base.proofs.Bools.{bool-or, and-left, and-right, and-both, and-no-left, and-no-right}
+use Rattle.base.proofs.Numbers.{le-or-lt, eq-or}
 use Rattle.words.proofs.BitLaws.{bit-or, bit-zero, bit-half, bit-low, no-bit, add-half, add-odd, cut-same, cut-back, without-set, without-not, without-in, without-other, set-is, some-set, LowestBit}
 use Rattle.base.specs.Lists.{Every, Inserts}
 use Rattle.base.specs.Lists.Inserts.{here, there}
@@ -22,8 +22,6 @@ use Rattle.board.specs.declared.Response.{Response}
 use Rattle.base.proofs.ListLaws.{every-inserts}
 use Rattle.board.proofs.LiveLaws.{dead-step, live-step, live-every, less-live}
 use Rattle.board.proofs.FindLaws.{hit, find-is, find-first, find-unique, find-none}
-use Rattle.base.proofs.Bools.{and-left, and-right, and-both, and-no-left, and-no-right}
-use Rattle.base.proofs.Numbers.{eq-or}
 use Rattle.board.proofs.SequenceLaws.{From, Leads, leads-sequence}
 use Rattle.board.proofs.SequenceLaws.Leads.{first, later}
 

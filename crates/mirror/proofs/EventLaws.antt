@@ -95,14 +95,10 @@ mirror-by P e p1 p3 p4 p5 p6 p =
     by P (eqb (e .kind) 6) _ _ (λ z. p6 (eqb-true _ _ z)) (λ g. p a b c d g)))))
 
 -- a cancel and an amend keep the name that they have
-module _ (e : Event) (k : (e .kind ≡ 2) ⊎ (e .kind ≡ 6)) where
-  pub mirror-name : nameOf (mirroredEvent e) ≡ nameOf e
-  unfolding mirroredPriced mirroredMarket mirroredAmend
-  mirror-name = mirror-by (λ x. nameOf x ≡ nameOf e) e (λ _. refl) (λ _. refl) (λ _. refl) (λ z. absurd (no-quotes k z)) (λ _. refl) (λ _ _ _ _ _. refl)
-    where
-      no-quotes : (e .kind ≡ 2) ⊎ (e .kind ≡ 6) → e .kind ≡ 5 → ⊥
-      no-quotes (inl k) z = omega arith
-      no-quotes (inr k) z = omega arith
-
-  pub buy-name : (s : Bool) → nameOf (buyEvent s e) ≡ nameOf e
-  buy-name s = buy-keeps nameOf s e mirror-name
+pub mirror-name : (e : Event) → (e .kind ≡ 2) ⊎ (e .kind ≡ 6) → nameOf (mirroredEvent e) ≡ nameOf e
+unfolding mirroredPriced mirroredMarket mirroredAmend
+mirror-name e k = mirror-by (λ x. nameOf x ≡ nameOf e) e (λ _. refl) (λ _. refl) (λ _. refl) (λ z. absurd (no-quotes k z)) (λ _. refl) (λ _ _ _ _ _. refl)
+  where
+    no-quotes : (e .kind ≡ 2) ⊎ (e .kind ≡ 6) → e .kind ≡ 5 → ⊥
+    no-quotes (inl k) z = omega arith
+    no-quotes (inr k) z = omega arith

@@ -13,7 +13,8 @@ use Rattle.promise.specs.rules.Sides.{takenRecords}
 use Rattle.promise.specs.promises.Parts.{InRealPrices}
 use Rattle.promise.proofs.RealLaws.{ended-well, size-is, written-is}
 use Rattle.promise.proofs.Real.{own-limit, some, parties, contra-limit, works, fits, priority}
-use Rattle.promise.proofs.Standing.{stand}
+use Rattle.promise.proofs.Standing.{stand, by-fold}
+use Rattle.promise.proofs.Gone.{gone-none}
 use Rattle.promise.proofs.MarketTrades.{market-trades}
 use Rattle.promise.proofs.Shared.{filled, short, share, covered, guaranteed, guaranteed-last}
 
@@ -28,6 +29,8 @@ trades o es h =
       clauses = ended-well o es h;
       link = written-is o es h;
       stand = stand o es h;
+      by-fold = by-fold o es h;
+      gone-none = gone-none o es h;
       parties = parties o es h;
       told-apart = one (acceptOf o .auction) es;
       not-contra = λ e i. omega (arith, every-in (λ x. acceptOf o .auction .head .sequence < x .sequence) (takenRecords o es) e (above es (acceptOf o .auction)) i);

@@ -66,10 +66,6 @@ pub refused : (a : Auction) (before : List Event) (e f : Event) → In e (takenO
     → stepOf (run a before) f ≡ gives (Refused (cond (isOpen (run a before .head .ending)) (cond (eventFormed f) 33 32) 31)) (run a before)
 refused a before e f i h = old-refused (sightOf (run a before .board) f) (run a before) f (le-trans h (every-in (λ e. e .sequence ≤ run a before .head .sequence) (takenOf a before) e (taken-below before a) i))
 
-pub run-append : (es fs : List Event) (a : Auction) → run a (es ++ fs) ≡ run (run a es) fs
-run-append [] fs a = refl
-run-append (e ∷ es) fs a = run-append es fs (stepOf a e .auction)
-
 -- a record that is refused where it is put in is not among those that are not
 refused-out : (before : List Event) (f : Event) (rest : List Event) (a : Auction) (n : ℕ) → stepOf (run a before) f ≡ gives (Refused n) (run a before) → notRefused a (before ++ (f ∷ rest)) ≡ notRefused a (before ++ rest)
 refused-out [] f rest a n z = ap (λ (p : Stepped). keep (not (isRefused (p .answer))) f (notRefused (p .auction) rest)) z

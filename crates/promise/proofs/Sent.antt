@@ -13,25 +13,20 @@ use Rattle.board.specs.declared.Response.{Response}
 use Rattle.tape.specs.declared.order.Order.{Order}
 use Rattle.tape.specs.declared.event.Event.{Event}
 use Rattle.tape.specs.rules.Form.{eventFormed}
-use Rattle.tape.specs.rules.Fields.{sizeOf, priceOf}
-use Rattle.mirror.specs.rules.Mirror.{mirroredSide, mirroredOrder, mirroredPriced, mirroredMarket, mirroredEvent, buyOrder, buyEvent}
-use Rattle.mirror.proofs.EventLaws.{buy-sequence, mirror-one, mirror-three, mirror-four}
+use Rattle.tape.specs.rules.Fields.{sizeOf, priceOf, newSizeOf, newPriceOf}
+use Rattle.mirror.specs.rules.Mirror.{mirroredSide, mirroredOrder, mirroredPriced, mirroredMarket, mirroredEvent, buyOrder, buyEvent, mirroredAmend}
+use Rattle.mirror.proofs.EventLaws.{buy-sequence, mirror-one, mirror-three, mirror-four, mirror-six, amend-size}
 use Rattle.mirror.proofs.MirrorForm.{side-twice, event-bounds}
 use Rattle.trade.specs.rules.Write.{reportedPrice}
 use Rattle.auction.specs.declared.Auction.{Auction}
 use Rattle.auction.specs.declared.Terms.{Terms}
 use Rattle.auction.specs.declared.Entry.the-variants.{Accepted}
 use Rattle.auction.specs.rules.Accept.{termsOf, openedBy, acceptOf}
-use Rattle.decision.specs.rules.Decide.{isCustomer}
+use Rattle.decision.specs.rules.Decide.{isCustomer, responseOf, amendedBy}
 use Rattle.run.proofs.Accepted.{opened}
-use Rattle.promise.specs.rules.Sides.{isSell, sent, sentBy}
+use Rattle.promise.specs.rules.Sides.{isSell, sent, sentBy, sentInstead}
 use lib.Dec.{eqb}
 use borrow.Author.Tests.{eq-eqb, ne-eqb}
-use Rattle.tape.specs.rules.Fields.{newSizeOf, newPriceOf}
-use Rattle.mirror.specs.rules.Mirror.{mirroredAmend}
-use Rattle.mirror.proofs.EventLaws.{mirror-six, amend-size}
-use Rattle.decision.specs.rules.Decide.{responseOf, amendedBy}
-use Rattle.promise.specs.rules.Sides.{sentInstead}
 
 buy-size : (o : Order) → buyOrder o .size ≡ o .size
 unfolding buyOrder mirroredOrder

@@ -7,15 +7,17 @@ use Prim.Native.Nat.{ℕ, _≤_, _<_, min}
 use native.Mathlib.Nat.{le-refl, le-of-lt}
 use native.Mathlib.Omega.{arith}
 use lib.Dec.{leb, ltb, eqb}
+use lib.ListN.{length}
 use borrow.Author.Tests.{eq-eqb, ne-eqb, eqb-true, ltb-true, ltb-false, le-leb, lt-leb}
 use Rattle.base.specs.Lists.{In, Every, keep, filter, Inserts}
 use Rattle.base.proofs.Bools.{by, no, and-left, and-right, and-both, and-no-left, and-no-right}
-use Rattle.base.proofs.ListLaws.{every-inserts, inserts-fail, inserts-only, inserts-map, in-shuffles, every-append, every-map, every-in, every-with, every-filter, filter-test, filter-all}
+use Rattle.base.proofs.ListLaws.{every-inserts, inserts-fail, inserts-only, inserts-map, in-shuffles, every-append, every-map, every-in, every-with, every-filter, filter-test, filter-all, filter-none}
 use Rattle.board.specs.declared.Board.{Board}
 use Rattle.board.specs.declared.Response.{Response}
-use Rattle.board.specs.rules.Board.{responseAt, liveOf, seatedAt, cleared, findGtx, isGtx, inserted, inSequence}
+use Rattle.board.specs.rules.Board.{noResponse, responseAt, isLive, liveOf, seatedAt, cleared, findGtx, isGtx, inserted, inSequence}
 use Rattle.board.specs.promises.Board.{Good, GtxAt, Amending}
-use Rattle.board.proofs.BoardLaws.{seating, amending, clearing, find-gtx, empty-live}
+use Rattle.board.proofs.BoardLaws.{seating, amending, clearing, find-gtx, gtx-found, empty-live}
+use Rattle.board.proofs.LiveLaws.{live-every}
 use Rattle.board.proofs.SequenceLaws.{sequence-shuffles, sequence-filter, sequence-last}
 use Rattle.tape.specs.declared.order.Order.{Order}
 use Rattle.tape.specs.declared.event.Event.{Event}
@@ -24,7 +26,9 @@ use Rattle.tape.specs.rules.Fields.{sizeOf, priceOf, nameOf}
 use Rattle.mirror.specs.rules.Mirror.{mirroredSide, mirroredPriced, buyOrder, buyEvent}
 use Rattle.mirror.proofs.EventLaws.{buy-kind, mirror-three}
 use Rattle.mirror.proofs.MirrorForm.{event-bounds}
-use Rattle.trade.specs.rules.Write.{reportedPrice}
+use Rattle.trade.specs.rules.Trade.{offers, fills}
+use Rattle.trade.specs.rules.Write.{reportedPrice, reported}
+use Rattle.fills.specs.rules.Fills.{dealOf}
 use Rattle.demand.specs.promises.Demands.{Absent, Distinct}
 use Rattle.auction.specs.declared.Auction.{Auction}
 use Rattle.auction.specs.declared.Terms.{Terms}
@@ -34,19 +38,19 @@ use Rattle.decision.specs.declared.Sight.{Sight}
 use Rattle.decision.specs.rules.Decide.{isAmend, amendedBy}
 use Rattle.events.specs.rules.Step.{sightOf, boardAfter, carried, stepOf}
 use Rattle.run.specs.rules.Run.{run, isTaken, takenOf}
-use Rattle.run.specs.promises.Demands.{Stands, Sound, Rising}
-use Rattle.run.proofs.StepLaws.{Leaves, Outcomes, Ordinary, cases}
+use Rattle.run.specs.promises.Demands.{InTime, Stands, Sound, Rising}
+use Rattle.run.proofs.StepLaws.{Leaves, Outcomes, cases}
 use Rattle.run.proofs.BoardSteps.{sees}
 use Rattle.run.proofs.Accepted.{opened}
 use Rattle.run.proofs.SoundLaws.{sound-opened, sound-step}
 use Rattle.run.proofs.MarketFrom.{side-in, sided, buy-form, other-side, terms-stay, run-terms, untaken}
 use Rattle.run.proofs.Amends.{found-is, others-apart}
 use Rattle.run.proofs.Resend.{rising, one}
-use Rattle.promise.specs.rules.Sides.{isSell, otherSide, better, initiatingPrice, sent, responses, sentBy, sentInstead, takesPlace, standsAfter, standingFrom, standingOf, givenSize, givenPrice, takenRecords, liveAtEnd}
-use Rattle.promise.specs.promises.Parts.{Sends, OneRecord, auctionAfter}
+use Rattle.promise.specs.rules.Sides.{isSell, otherSide, better, initiatingPrice, sent, responses, sentBy, sentInstead, takesPlace, standsAfter, standingFrom, standingOf, hasNamed, givenSize, givenPrice, takenRecords, atEnd, writtenFills, liveAtEnd}
+use Rattle.promise.specs.promises.Parts.{Sends, auctionAfter}
 use Rattle.promise.specs.promises.Parts.Sends.{places, amends}
 use Rattle.promise.proofs.Opening.{initiating-is}
-use Rattle.promise.proofs.RealLaws.{better-shown, board-is, there-is}
+use Rattle.promise.proofs.RealLaws.{better-shown, shown-twice, board-is, there-is, written-is, sound}
 use Rattle.promise.proofs.Sent.{terms-sell, terms-size, priced-side, sent-price, sent-gtx, sent-limit, sent-amend, every-sent}
 
 -- ---- a limit order takes a place where the buy's event does
@@ -158,6 +162,24 @@ module _ (sell : Bool) (b : Board) (k : ℕ) (g : Good b) (d : Distinct (liveOf 
   unfolding inSequence inserted
   only-one = sequence-filter named (onBoard sell b) ∙ ap inSequence (inserts-only named is-named rest takes)
 
+-- a GTX response is found where one of that name is among them
+pub named-is : (sell : Bool) (b : Board) (k : ℕ) → Good b → Distinct (liveOf b) → ltb (findGtx b k) 64 ≡ hasNamed k (inSequence (onBoard sell b))
+unfolding inSequence
+named-is sell b k g d = go (ltb (findGtx b k) 64) refl
+  where
+    go : (t : Bool) → ltb (findGtx b k) 64 ≡ t → t ≡ hasNamed k (inSequence (onBoard sell b))
+    go true z = ap (λ (rs : List Response). not (eqb (length rs) 0)) (sym (only-one sell b k g d (ltb-true _ _ z)))
+    go false z =
+        let none : Every (λ r. isGtx k r ≡ false) (liveOf b) = live-every (λ r. isGtx k r ≡ false) (b .live) (b .places) noResponse (λ j l t. not-gtx j l t (isGtx k (responseAt (b .places) j)) refl) in
+        sym (ap (λ (rs : List Response). not (eqb (length rs) 0)) (sequence-filter (isGtx k) (onBoard sell b) ∙ ap inSequence (filter-none (isGtx k) (onBoard sell b) (every-sent (λ r. isGtx k r ≡ false) sell (liveOf b) none))))
+      where
+        not-gtx : (j : ℕ) → j < length (b .places) → isLive b j ≡ true → (t : Bool) → isGtx k (responseAt (b .places) j) ≡ t → t ≡ false
+        not-gtx j l live true q =
+            let r : Response = responseAt (b .places) j in
+            let at : GtxAt b k j = record { live = live; gtx = and-left (r .gtx) _ q; sequence = eqb-true _ _ (and-right (r .gtx) _ q) } in
+            absurd (omega (arith, ltb-false (findGtx b k) 64 z, gtx-found b k g j at, l, g .places-are))
+        not-gtx j l live false q = refl
+
 -- ---- a step
 
 -- the terms of an auction are those of the order
@@ -233,7 +255,7 @@ module _ (o : Order) (a : Auction) (e : Event) (s : Sound a) (w : Ours o (a .hea
       let one : filter (isGtx (nameOf e)) rs ≡ sent (isSell o) was ∷ [] = sym (ap (filter (isGtx (nameOf e))) now) ∙ only-one (isSell o) (a .board) (nameOf e) (s .board) (s .distinct) l in
       sequence-last adds low ∙ ap (λ (xs : List Response). xs ++ (x ∷ [])) away ∙ sym (ap (λ (xs : List Response). others o e rs ++ map (sentInstead o e) xs) one) ∙ sym (stands-amend o e rs k)
 
-  does : Ordinary (a .head) e → Outcomes terms (a .head .quotes) view m (λ u. isTaken (carried (a .head) e u .answer) ≡ true → Stood (boardAfter (a .board) (carried (a .head) e u .change)))
+  does : InTime (a .head) e → Outcomes terms (a .head .quotes) view m (λ u. isTaken (carried (a .head) e u .answer) ≡ true → Stood (boardAfter (a .board) (carried (a .head) e u .change)))
   does ok =
       record {
         refuses = λ _ _ z. no (sym z);
@@ -298,12 +320,44 @@ stood o es h =
     let nobody : liveOf (a .board) ≡ [] = ap (λ (x : Auction). liveOf (x .board)) (opened o h .auction) ∙ none-live (isSell o) (buyOrder o) in
     stands-run o es a [] (sound-opened o h) (record { sell = terms-sell o h; size = terms-size o h; initiating = initiating-is o h }) (ap (λ (rs : List Response). inSequence (map (sent (isSell o)) rs)) nobody)
 
-pub counted-once : (o : Order) (es : List Event) → acceptOf o .answer ≡ Accepted → inSequence (responses (auctionAfter o es)) ≡ standingOf o (takenRecords o es)
-counted-once o es h =
+pub by-records : (o : Order) (es : List Event) → acceptOf o .answer ≡ Accepted → inSequence (responses (auctionAfter o es)) ≡ standingOf o (takenRecords o es)
+by-records o es h =
     ap (λ (s : Bool). inSequence (onBoard s (auctionAfter o es .board))) (ap (λ (t : Terms). t .sell) (run-terms es (acceptOf o .auction)) ∙ terms-sell o h) ∙ stood o es h
 
 pub stand : (o : Order) (es : List Event) → acceptOf o .answer ≡ Accepted → inSequence (liveAtEnd o es) ≡ standingOf o (takenRecords o es)
 stand o es h = ap inSequence (there-is o es h ∙ ap (onBoard (isSell o)) (board-is o es h)) ∙ stood o es h
+
+-- the fills are those of what stands: for the buy, the prices are mirrored back
+inserted-sent : (sell : Bool) (r : Response) (rs : List Response) → inserted (sent sell r) (map (sent sell) rs) ≡ map (sent sell) (inserted r rs)
+unfolding inserted
+inserted-sent sell r [] = refl
+inserted-sent sell r (x ∷ rs) = go (leb (r .sequence) (x .sequence)) (inserted-sent sell r rs)
+  where
+    go : (b : Bool) → inserted (sent sell r) (map (sent sell) rs) ≡ map (sent sell) (inserted r rs) → cond b (sent sell r ∷ sent sell x ∷ map (sent sell) rs) (sent sell x ∷ inserted (sent sell r) (map (sent sell) rs)) ≡ map (sent sell) (cond b (r ∷ x ∷ rs) (x ∷ inserted r rs))
+    go true ih = refl
+    go false ih = ap (λ (xs : List Response). sent sell x ∷ xs) ih
+
+sequence-sent : (sell : Bool) (rs : List Response) → inSequence (map (sent sell) rs) ≡ map (sent sell) (inSequence rs)
+unfolding inSequence
+sequence-sent sell [] = refl
+sequence-sent sell (r ∷ rs) = ap (inserted (sent sell r)) (sequence-sent sell rs) ∙ inserted-sent sell r (inSequence rs)
+
+sent-twice : (sell : Bool) (rs : List Response) → Every (λ r. r .price ≤ 1000000) rs → map (sent sell) (map (sent sell) rs) ≡ rs
+sent-twice sell [] h = refl
+sent-twice sell (r ∷ rs) h =
+    ap (λ (p : ℕ). record { sequence = r .sequence; size = r .size; price = p; customer = r .customer; gtx = r .gtx } ∷ map (sent sell) (map (sent sell) rs)) (shown-twice sell (r .price) (h .0))
+    ∙ ap (λ (xs : List Response). r ∷ xs) (sent-twice sell rs (h .1))
+
+pub by-fold : (o : Order) (es : List Event) → acceptOf o .answer ≡ Accepted → writtenFills o es ≡ reported (isSell o) (fills (dealOf (atEnd o es .head)) (map (sent (isSell o)) (standingOf o (takenRecords o es))))
+by-fold o es h =
+    let a : Auction = atEnd o es in
+    let s : Sound a = sound o es h in
+    let prices : Every (λ r. r .price ≤ 1000000) (liveOf (a .board)) =
+    every-map (Stands (a .head .sequence) (a .head .terms .initiating)) (λ r. r .price ≤ 1000000) (liveOf (a .board)) (λ r k. omega (arith, k .3, s .price)) (s .live) in
+    let back : offers (a .board) ≡ map (sent (isSell o)) (standingOf o (takenRecords o es)) =
+    ap inSequence (sym (sent-twice (isSell o) (liveOf (a .board)) prices)) ∙ sequence-sent (isSell o) (map (sent (isSell o)) (liveOf (a .board)))
+    ∙ ap (map (sent (isSell o))) (ap inSequence (sym (there-is o es h)) ∙ stand o es h) in
+    written-is o es h ∙ ap (λ (rs : List Response). reported (isSell o) (fills (dealOf (a .head)) rs)) back
 
 -- ---- where each response comes from
 
@@ -362,9 +416,9 @@ module _ (o : Order) (es : List Event) where
   later n k rs l h = every-map (UpTo n) (UpTo k) rs (λ r c. (c .0, omega (arith, c .1))) h
 
   -- a record adds its response
-  one-more : (e : Event) (n : ℕ) (rs : List Response) → Known e → n ≤ e .sequence → (e .kind ≡ 1) ⊎ (e .kind ≡ 3) → e .side ≡ otherSide o → Every (UpTo n) rs → Every (UpTo (e .sequence)) (rs ++ (sentBy o e ∷ []))
-  one-more e n rs i l k d h =
-      every-append (UpTo (e .sequence)) rs (sentBy o e ∷ []) (later n (e .sequence) rs l h) ((record { latest = e; sends = places e (i .0) k d; named = refl }, le-refl _), tt)
+  one-more : (e : Event) (n : ℕ) (rs : List Response) → Known e → n ≤ e .sequence → ((e .kind ≡ 1) × (e .side ≡ otherSide o)) ⊎ ((e .kind ≡ 3) × (takesPlace o e ≡ true)) → Every (UpTo n) rs → Every (UpTo (e .sequence)) (rs ++ (sentBy o e ∷ []))
+  one-more e n rs i l k h =
+      every-append (UpTo (e .sequence)) rs (sentBy o e ∷ []) (later n (e .sequence) rs l h) ((record { latest = e; sends = places e (i .0) k; named = refl }, le-refl _), tt)
 
   -- an amend's response comes from that of an earlier record
   instead : (e : Event) (n : ℕ) → Known e → n < e .sequence → e .kind ≡ 6 → (rs : List Response) → Every (UpTo n) rs → Every (λ r. isGtx (nameOf e) r ≡ true) rs → Every (UpTo (e .sequence)) (map (sentInstead o e) rs)
@@ -379,10 +433,10 @@ module _ (o : Order) (es : List Event) where
 
   after-one : (e : Event) (n : ℕ) (rs : List Response) → Known e → n < e .sequence → Every (UpTo n) rs → Every (UpTo (e .sequence)) (standsAfter o rs e)
   after-one e n rs i l h =
-      by P (eqb (e .kind) 1) _ _ (λ z. let k : e .kind ≡ 1 = eqb-true _ _ z in one-more e n rs i (le-of-lt l) (inl k) (i .1 k) h) (λ _.
+      by P (eqb (e .kind) 1) _ _ (λ z. let k : e .kind ≡ 1 = eqb-true _ _ z in one-more e n rs i (le-of-lt l) (inl (k, i .1 k)) h) (λ _.
       by P (eqb (e .kind) 2) _ _ (λ _. rest) (λ _.
       by P (eqb (e .kind) 3 && takesPlace o e) _ _ (λ z.
-      one-more e n rs i (le-of-lt l) (inr (eqb-true _ _ (and-left _ _ z))) (eqb-true _ _ (and-left _ _ (and-right (eqb (e .kind) 3) (takesPlace o e) z))) h) (λ _.
+      one-more e n rs i (le-of-lt l) (inr (eqb-true _ _ (and-left _ _ z), and-right (eqb (e .kind) 3) (takesPlace o e) z)) h) (λ _.
       by P (isAmend e) _ _ (λ z.
       every-append (UpTo (e .sequence)) (others o e rs) (map (sentInstead o e) (filter (isGtx (nameOf e)) rs)) rest (instead e n i l (eqb-true _ _ z) (filter (isGtx (nameOf e)) rs) (every-filter (UpTo n) (isGtx (nameOf e)) rs h) (every-with (λ r. isGtx (nameOf e) r ≡ true) (filter (isGtx (nameOf e)) rs) (filter-test (isGtx (nameOf e)) rs)))) (λ _. stay))))
     where
@@ -399,25 +453,32 @@ module _ (o : Order) (es : List Event) where
   after-all [] n rs k u h = every-map (UpTo n) Comes rs (λ r c. c .0) h
   after-all (e ∷ ts) n rs k u h = after-all ts (e .sequence) (standsAfter o rs e) (k .1) (u .1) (after-one e n rs (k .0) (u .0) h)
 
-  pub one-record : acceptOf o .answer ≡ Accepted → Every (OneRecord o es) (responses (auctionAfter o es))
-  one-record h =
+  -- a response, its record, and no other record that bears its sequence
+  pub record Made (r : Response) : Type 0 where
+    pub record-of : Event
+    pub sends : Sends o es record-of r
+    pub only : (g : Event) → In g (takenRecords o es) → g .sequence ≡ r .sequence → g ≡ record-of
+
+  pub made-by : acceptOf o .answer ≡ Accepted → Every Made (responses (auctionAfter o es))
+  made-by h =
       let a : Auction = acceptOf o .auction in
       let known : Every Known (takenRecords o es) = every-with Known (takenRecords o es) (λ e i. (i, every-in (λ e. e .kind ≡ 1 → e .side ≡ otherSide o) (takenRecords o es) e (taken-side o es a (terms-sell o h)) i)) in
-      let all : Every Comes (inSequence (responses (auctionAfter o es))) = subst (Every Comes) (sym (counted-once o es h)) (after-all (takenRecords o es) (a .head .sequence) [] known (rising es a) tt) in
-      every-map Comes (OneRecord o es) (responses (auctionAfter o es)) (λ r c. record { record-of = c .latest; sends = c .sends; only = λ g i q. one a es g (c .latest) i (sender (c .sends)) (q ∙ c .named) })
-      (every-with Comes (responses (auctionAfter o es)) (λ r i. every-in Comes (inSequence (responses (auctionAfter o es))) r all (in-shuffles r (sequence-shuffles (responses (auctionAfter o es))) i)))
+      let all : Every Comes (inSequence (responses (auctionAfter o es))) = subst (Every Comes) (sym (by-records o es h)) (after-all (takenRecords o es) (a .head .sequence) [] known (rising es a) tt) in
+      every-with Made (responses (auctionAfter o es)) (λ r i.
+      let c : Comes r = every-in Comes (inSequence (responses (auctionAfter o es))) r all (in-shuffles r (sequence-shuffles (responses (auctionAfter o es))) i) in
+      record { record-of = c .latest; sends = c .sends; only = λ g j q. one a es g (c .latest) j (sender (c .sends)) (q ∙ c .named) })
     where
       sender : {e : Event} {r : Response} → Sends o es e r → In e (takenRecords o es)
-      sender (places e i _ _) = i
+      sender (places e i _) = i
       sender (amends e _ _ i _ _ _ _ _) = i
 
 -- what a response's record gives it
 pub given : (o : Order) (es : List Event) {e : Event} {r : Response} → Sends o es e r → (r .sequence ≡ e .sequence) × (r .size ≤ givenSize e) × (r .price ≡ givenPrice e)
-given o es (places e _ k _) = let n : isAmend e ≡ false = ne-eqb (e .kind) 6 (not-six k) in (refl, simp n (capped (eqb (e .kind) 1)), simp n)
+given o es (places e _ k) = let n : isAmend e ≡ false = ne-eqb (e .kind) 6 (not-six k) in (refl, simp n (capped (eqb (e .kind) 1)), simp n)
   where
-    not-six : (e .kind ≡ 1) ⊎ (e .kind ≡ 3) → e .kind ≡ 6 → ⊥
-    not-six (inl k) z = omega arith
-    not-six (inr k) z = omega arith
+    not-six : ((e .kind ≡ 1) × (e .side ≡ otherSide o)) ⊎ ((e .kind ≡ 3) × (takesPlace o e ≡ true)) → e .kind ≡ 6 → ⊥
+    not-six (inl k) z = omega (arith, k .0)
+    not-six (inr k) z = omega (arith, k .0)
 
     capped : (b : Bool) → cond b (min (sizeOf e) (o .size)) (sizeOf e) ≤ sizeOf e
     capped true = omega arith

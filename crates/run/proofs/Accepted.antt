@@ -1,5 +1,5 @@
 -- What is known of an order that was accepted. Assumes nothing.
-use mathlib.Core.Path.{_≡_, refl, sym, ap, _∙_}
+use mathlib.Core.Path.{_≡_, refl}
 use mathlib.Core.Bool.{Bool, true, false, cond, not, _&&_, _||_}
 use Prim.Native.Nat.{ℕ, _+_, _-_, _≤_, _<_, min, max}
 use native.Mathlib.Omega.{arith}
@@ -8,14 +8,13 @@ use borrow.Author.Tests.{ltb-false, leb-false, eqb-true, eqb-false, not-false}
 use Rattle.words.specs.rules.Bits.{bitAt}
 use Rattle.tape.specs.declared.order.Order.{Order}
 use Rattle.tape.specs.rules.Form.{orderFormed}
-use Rattle.base.proofs.Bools.{or-left, or-right}
+use Rattle.base.proofs.Bools.{or-left, or-right, by, no}
 use Rattle.tape.proofs.FormLaws.{order-bounds}
 use Rattle.base.specs.Price.{mirrored}
 use Rattle.mirror.specs.rules.Mirror.{mirroredOrder, buyOrder}
 use Rattle.auction.specs.rules.Accept.{initiatingOf, tickOf, boundOf, firstBound, rangeRefusal, buyRefusal, orderRefusal, openedBy, acceptOf, bidMark}
 use Rattle.auction.specs.declared.Opening.{Opening}
 use Rattle.auction.specs.declared.Entry.the-variants.{Accepted}
-use Rattle.base.proofs.Bools.{by, no}
 
 -- what no refusal of a buy says of it
 pub record Passed (b : Order) : Type 0 where

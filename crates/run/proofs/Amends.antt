@@ -1,11 +1,11 @@
 -- What an amend does, what it is answered, and that the old name is found no more. Assumes nothing.
 use mathlib.Core.Path.{_≡_, refl, sym, ap, subst, _∙_}
-use mathlib.Core.Bool.{Bool, true, false, cond, not, _&&_, _||_}
+use mathlib.Core.Bool.{Bool, true, false, cond, _||_}
 use mathlib.Core.List.{List}
-use mathlib.Core.Logic.{inl, inr, _≢_}
-use Prim.Native.Nat.{ℕ, _≤_, _<_}
+use mathlib.Core.Logic.{_⊎_, inl, inr, ⊎-elim, _≢_}
+use Prim.Native.Nat.{ℕ, _<_, min}
 use native.Mathlib.Omega.{arith}
-use lib.Dec.{leb, ltb, eqb}
+use lib.Dec.{ltb, eqb}
 use borrow.Author.Tests.{eq-eqb, ne-eqb, eqb-true, eqb-false, le-ltb, lt-leb}
 use Rattle.words.specs.rules.Bits.{bitAt}
 use Rattle.words.proofs.BitLaws.{without-other}
@@ -19,27 +19,25 @@ use Rattle.board.specs.declared.Board.{Board}
 use Rattle.board.specs.declared.Response.{Response}
 use Rattle.board.proofs.BoardLaws.{amending, seated-good, clearing, cleared-good, find-gtx, gtx-found, no-gtx}
 use Rattle.tape.specs.declared.event.Event.{Event}
-use Rattle.tape.specs.rules.Form.{eventFormed}
 use Rattle.tape.specs.rules.Fields.{nameOf}
 use Rattle.mirror.specs.rules.Mirror.{buyEvent}
-use Rattle.mirror.proofs.EventLaws.{buy-sequence, buy-kind}
+use Rattle.mirror.proofs.EventLaws.{buy-sequence, buy-kind, amend-size}
 use Rattle.demand.specs.promises.Demands.{Absent, Distinct}
-use Rattle.auction.specs.rules.Range.{isOpen}
 use Rattle.auction.specs.declared.Auction.{Auction}
 use Rattle.auction.specs.declared.Ending.the-variants.{Open}
 use Rattle.events.specs.declared.Answer.{Answer}
 use Rattle.events.specs.declared.Answer.the-variants.{Taken, Ended, Refused}
-use Rattle.decision.specs.declared.Change.the-variants.{Nothing, Seat}
+use Rattle.decision.specs.declared.Change.the-variants.{Seat}
 use Rattle.decision.specs.declared.Outcome.{Outcome}
 use Rattle.decision.specs.declared.Outcome.the-variants.{Does}
 use Rattle.decision.specs.declared.Sight.{Sight}
 use Rattle.events.specs.declared.Stepped.{Stepped}
-use Rattle.events.specs.declared.Turn.{Turn}
 use Rattle.decision.specs.rules.Decide.{isAmend, amendedBy, amendOutcome, cancelOutcome, outcomeOf}
-use Rattle.events.specs.rules.Step.{sightOf, eventRefusal, headAfter, carried, turnOf, gives, seatedOn, stepBy, stepOf}
+use Rattle.events.specs.rules.Step.{sightOf, eventRefusal, headAfter, carried, turnOf, seatedOn, stepBy}
 use Rattle.run.specs.rules.Run.{isTaken}
-use Rattle.run.specs.promises.Demands.{Stands, Sound, InTime, Names, namedPlace, isAbove, Amended, Amends}
+use Rattle.run.specs.promises.Demands.{Stands, Sound, InTime, Names, namedPlace, isAbove, SeesNamed, NewFor, Amended, Amends}
 use Rattle.run.proofs.StepLaws.{cases}
+use Rattle.run.proofs.Resend.{any-change}
 
 -- ---- what is seen
 
@@ -49,7 +47,18 @@ unfolding sightOf
 found-is b e (inl k) = ap (λ (t : Bool). cond (t || isAmend e) (findGtx b (nameOf e)) 64) (eq-eqb (e .kind) 2 k)
 found-is b e (inr k) = simp (ne-eqb (e .kind) 2 (λ z. omega arith), eq-eqb (e .kind) 6 k)
 
+pub sees-named : (a : Auction) (e : Event) → Names e → SeesNamed (sightOf (a .board) e) a e
+unfolding sightOf
+sees-named a e k = record { found = found-is (a .board) e k; old = ap (responseAt (a .board .places)) (found-is (a .board) e k) }
+
 -- ---- the turn of an event in time
+
+-- not 35, not 38, and not ended
+abbrev None : Answer → Type 0
+None r = (r ≡ Refused 35 → ⊥) × (r ≡ Refused 38 → ⊥) × (r ≡ Ended → ⊥)
+
+none : (n : ℕ) → (n ≡ 35 → ⊥) → (n ≡ 38 → ⊥) → None (Refused n)
+none n p q = (λ z. p cc, λ z. q cc, λ z. no cc)
 
 module _ (s : Sight) (a : Auction) (e : Event) where
   abbrev m : Event
@@ -82,53 +91,26 @@ module _ (s : Sight) (a : Auction) (e : Event) where
       go false true p q = simp (p, q)
       go false false p q = simp (p, q)
 
-  -- 31 to 34 alone come before the kind is looked at
-  first-most : eventRefusal (a .head) e ≤ 34
-  unfolding eventRefusal
-  first-most =
-      let P : ℕ → Type 0 = λ n. n ≤ 34 in
-      by P (not (isOpen (a .head .ending))) _ _ (λ _. omega arith) (λ _.
-      by P (not (eventFormed e)) _ _ (λ _. omega arith) (λ _.
-      by P (leb (e .sequence) (a .head .sequence)) _ _ (λ _. omega arith) (λ _.
-      by P (ltb (e .time) (a .head .clock)) _ _ (λ _. omega arith) (λ _. omega arith))))
-
-  never : e .kind ≡ 6 → (stepBy s a e .answer ≡ Refused 35 → ⊥) × (stepBy s a e .answer ≡ Refused 38 → ⊥) × (stepBy s a e .answer ≡ Ended → ⊥)
-  unfolding turnOf amendOutcome
-  never k =
-      by (λ (t : Turn). None (t .answer)) (eqb (eventRefusal (a .head) e) 0) _ _
-      (λ _. by (λ (t : Turn). None (t .answer)) (leb (a .head .terms .interval) (e .time)) _ _ (λ _. (λ z. no cc, λ z. no cc, λ z. no cc)) (λ _.
-      subst (λ (u : Outcome). None (carried (a .head) e u .answer)) (sym (amend-is k))
-      (by (λ (u : Outcome). None (carried (a .head) e u .answer)) (isAbove a e) _ _ (λ _. numbered 36 (λ z. omega arith) (λ z. omega arith)) (λ _.
-      by (λ (u : Outcome). None (carried (a .head) e u .answer)) (ltb (s .found) 64) _ _ (λ _. (λ z. no cc, λ z. no cc, λ z. no cc)) (λ _. numbered 37 (λ z. omega arith) (λ z. omega arith))))))
-      (λ _. numbered (eventRefusal (a .head) e) (λ z. omega (arith, first-most)) (λ z. omega (arith, first-most)))
-    where
-      None : Answer → Type 0
-      None r = (r ≡ Refused 35 → ⊥) × (r ≡ Refused 38 → ⊥) × (r ≡ Ended → ⊥)
-
-      numbered : (n : ℕ) → (n ≡ 35 → ⊥) → (n ≡ 38 → ⊥) → None (Refused n)
-      numbered n p q = (λ z. p cc, λ z. q cc, λ z. no cc)
-
-  -- ---- a name that is not found
-
-  nobody-cancelled : e .kind ≡ 2 → s .found ≡ 64 → InTime (a .head) e → stepBy s a e ≡ gives (Refused 37) a
+  cancel-step : e .kind ≡ 2 → InTime (a .head) e → stepBy s a e .answer ≡ cond (ltb (s .found) 64) Taken (Refused 37)
   unfolding cancelOutcome
-  nobody-cancelled k f t = in-time t ∙ ap (λ (u : Outcome). seatedOn (a .board) (carried (a .head) e u)) (cancel-is k) ∙ simp f
-
-  nobody-amended : e .kind ≡ 6 → s .found ≡ 64 → InTime (a .head) e → stepBy s a e ≡ gives (Refused (cond (isAbove a e) 36 37)) a
-  unfolding amendOutcome
-  nobody-amended k f t = in-time t ∙ ap (λ (u : Outcome). seatedOn (a .board) (carried (a .head) e u)) (amend-is k) ∙ go (isAbove a e) refl
+  cancel-step k t = ap (λ (p : Stepped). p .answer) (in-time t) ∙ ap (λ (u : Outcome). carried (a .head) e u .answer) (cancel-is k) ∙ go (ltb (s .found) 64) refl
     where
-      go : (x : Bool) → isAbove a e ≡ x → seatedOn (a .board) (carried (a .head) e (amendOutcome (a .head .terms) s m)) ≡ gives (Refused (cond x 36 37)) a
-      go true p = simp p
-      go false p = simp (p, f)
+      go : (y : Bool) → ltb (s .found) 64 ≡ y → carried (a .head) e (cancelOutcome s) .answer ≡ cond y Taken (Refused 37)
+      go true q = simp q
+      go false q = simp q
 
-pub unnamed : (a : Auction) (e : Event) → Names e → namedPlace a e ≡ 64 → InTime (a .head) e → stepOf a e ≡ gives (Refused (cond (isAmend e && isAbove a e) 36 37)) a
-unnamed a e (inl k) f t =
-    nobody-cancelled (sightOf (a .board) e) a e k (found-is (a .board) e (inl k) ∙ f) t
-    ∙ ap (λ (b : Bool). gives (Refused (cond (b && isAbove a e) 36 37)) a) (sym (ne-eqb (e .kind) 6 (λ z. omega arith)))
-unnamed a e (inr k) f t =
-    nobody-amended (sightOf (a .board) e) a e k (found-is (a .board) e (inr k) ∙ f) t
-    ∙ ap (λ (b : Bool). gives (Refused (cond (b && isAbove a e) 36 37)) a) (sym (eq-eqb (e .kind) 6 k))
+  -- 31 to 34, late, 36, 37 or taken
+  never : e .kind ≡ 6 → None (stepBy s a e .answer)
+  never k =
+      ⊎-elim (λ x. x) in-time-none
+      (cases (a .head) e s (λ t. None (t .answer) ⊎ InTime (a .head) e)
+      (record { refused = λ n h. inl (none n (λ z. omega (arith, h .1)) (λ z. omega (arith, h .1))); late = λ _. inl (λ z. no cc, λ z. no cc, λ z. no cc); does = λ t. any-change _ _ _ _ _ (λ _ _. inr t) (λ _ _. inr t) }))
+    where
+      in-time-none : InTime (a .head) e → None (stepBy s a e .answer)
+      in-time-none t =
+          subst None (sym (amend-step k t))
+          (by None (isAbove a e) _ _ (λ _. none 36 (λ z. omega arith) (λ z. omega arith)) (λ _.
+          by None (ltb (s .found) 64) _ _ (λ _. (λ z. no cc, λ z. no cc, λ z. no cc)) (λ _. none 37 (λ z. omega arith) (λ z. omega arith))))
 
 -- ---- an amend that is taken
 
@@ -201,9 +183,9 @@ module _ (a : Auction) (e : Event) (s : Sound a) (newer : a .head .sequence < e 
           let n : f ≡ i → ⊥ = eqb-false f i z in
           absurd (omega (arith, older f (was-live f (first .live)), ap (λ (x : Response). x .sequence) (sym (made .others f n)) ∙ first .sequence))
 
-takes : (a : Auction) (e : Event) → Sound a → e .kind ≡ 6 → isTaken (stepOf a e .answer) ≡ true → Amended a e (stepOf a e .auction)
-unfolding headAfter sightOf
-takes a e s k6 =
+does : (s : Sight) (a : Auction) (e : Event) → Sound a → e .kind ≡ 6 → SeesNamed s a e → isTaken (stepBy s a e .answer) ≡ true → Amended a e (stepBy s a e .auction)
+unfolding headAfter
+does v a e s k6 sees =
     cases (a .head) e v (λ t. isTaken (t .answer) ≡ true → Amended a e (seatedOn (a .board) t .auction))
     (record {
       refused = λ _ _ z. no (sym z);
@@ -220,9 +202,6 @@ takes a e s k6 =
       };
     })
   where
-    v : Sight
-    v = sightOf (a .board) e
-
     sell : Bool
     sell = a .head .terms .sell
 
@@ -232,34 +211,40 @@ takes a e s k6 =
     no-other : {X : Type 0} → eqb (buyEvent sell e .kind) 6 ≡ false → X
     no-other z = no (sym (eq-eqb _ _ is6) ∙ z)
 
+    -- the new response
+    r : Response
+    r = amendedBy (a .head .terms) (responseAt (a .board .places) (namedPlace a e)) (buyEvent sell e)
+
+    made-for : NewFor (a .head .terms) (responseAt (a .board .places) (namedPlace a e)) e r
+    made-for = record { sequence = buy-sequence e sell; size = ap (λ (n : ℕ). min n (a .head .terms .size)) (amend-size e sell k6); price = refl; customer = refl; gtx = refl }
+
     amended : a .head .sequence < e .sequence → v .found < 64 → Amended a e (seatedOn (a .board) (carried (a .head) e (Does (Seat (v .found) (amendedBy (a .head .terms) (v .old) (buyEvent sell e))) Open)) .auction)
     amended newer f =
-        subst (λ (i : ℕ). Amended a e (record { head = headAfter (a .head) e Nothing Open; board = seatedAt (a .board) i (amendedBy (a .head .terms) (responseAt (a .board .places) i) (buyEvent sell e)) })) (sym (found-is (a .board) e (inr k6)))
+        subst (λ (i : ℕ). Amended a e (seatedOn (a .board) (carried (a .head) e (Does (Seat i (amendedBy (a .head .terms) (v .old) (buyEvent sell e))) Open)) .auction)) (sym (sees .found))
+        (subst (λ (x : Response). Amended a e (seatedOn (a .board) (carried (a .head) e (Does (Seat (namedPlace a e) (amendedBy (a .head .terms) x (buyEvent sell e))) Open)) .auction)) (sym (sees .old))
         (record {
-          named = at a e s newer found r name refl;
-          stands = made a e s newer found r name refl .stands;
-          others = made a e s newer found r name refl .others;
-          word = made a e s newer found r name refl .word;
-          count = made a e s newer found r name refl .count;
-          gone = gone a e s newer found r name refl;
-          found = new-found a e s newer found r name refl;
-          rest = refl;
-        })
+          named = at a e s newer found r (made-for .sequence) refl;
+          stands = subst (NewFor (a .head .terms) (responseAt (a .board .places) (namedPlace a e)) e) (sym (made a e s newer found r (made-for .sequence) refl .stands)) made-for;
+          others = made a e s newer found r (made-for .sequence) refl .others;
+          word = made a e s newer found r (made-for .sequence) refl .word;
+          count = made a e s newer found r (made-for .sequence) refl .count;
+          gone = gone a e s newer found r (made-for .sequence) refl;
+          found = new-found a e s newer found r (made-for .sequence) refl;
+          terms = refl;
+          quotes = refl;
+          market = refl;
+          ending = refl;
+        }))
       where
         found : namedPlace a e < 64
-        found = omega (arith, f, found-is (a .board) e (inr k6))
-
-        r : Response
-        r = amendedBy (a .head .terms) (responseAt (a .board .places) (namedPlace a e)) (buyEvent sell e)
-
-        name : r .sequence ≡ e .sequence
-        name = buy-sequence e sell
+        found = omega (arith, f, sees .found)
 
 pub amends : Amends
 amends =
     record {
-      takes = takes;
-      answers = λ a e k t. amend-step (sightOf (a .board) e) a e k t ∙ ap (λ (i : ℕ). cond (isAbove a e) (Refused 36) (cond (ltb i 64) Taken (Refused 37))) (found-is (a .board) e (inr k));
+      sees-named = sees-named;
+      does = does;
+      answers = λ s a e k n t. amend-step s a e k t ∙ ap (λ (i : ℕ). cond (isAbove a e) (Refused 36) (cond (ltb i 64) Taken (Refused 37))) (n .found);
       never = never;
-      unnamed = unnamed;
+      cancel-answers = λ s a e k n t. cancel-step s a e k t ∙ ap (λ (i : ℕ). cond (ltb i 64) Taken (Refused 37)) (n .found);
     }

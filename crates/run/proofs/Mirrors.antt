@@ -24,10 +24,9 @@ use Rattle.demand.proofs.Theorems.{demand3}
 use Rattle.base.specs.Price.{mirrored}
 use Rattle.mirror.specs.rules.Mirror.{mirroredOrder, mirroredEvent, buyOrder, buyEvent}
 use Rattle.auction.specs.rules.Accept.{orderRefusal, termsOf, openedBy, noAuction, acceptOf}
-use Rattle.auction.specs.rules.Range.{isOpen}
+use Rattle.auction.specs.rules.Range.{isOpen, boundNow, rangeOf}
 use Rattle.events.specs.rules.Step.{foundFor, sightOf, eventRefusal, stays, endedByTime, headAfter, boardAfter, carried, turnOf, closeTurn, seatedOn, stepBy, stepOf, closeOf}
 use Rattle.decision.specs.rules.Decide.{isCancel, isAmend, gtxOutcome, cancelOutcome, amendOutcome, sellLimitOutcome, buyLimitOutcome, limitOutcome, marketOutcome, quotesOutcome, outcomeOf}
-use Rattle.auction.specs.rules.Range.{boundNow, rangeOf}
 use Rattle.fills.specs.rules.Fills.{dealOf, auctionFills}
 use Rattle.run.specs.rules.Run.{run, Said, said, heard, closed, played}
 use Rattle.run.specs.promises.Demands.{flippedTerms, flippedHead, flipped, mirroredRecord, mirroredRecords, mirroredFills, mirroredRange, Sound, Mirrors}

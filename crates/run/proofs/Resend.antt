@@ -7,7 +7,7 @@ use Prim.Native.Nat.{ℕ, _+_, _≤_, _<_}
 use native.Mathlib.Nat.{le-refl, le-trans, le-of-lt}
 use native.Mathlib.Omega.{arith}
 use lib.Dec.{leb, ltb, eqb}
-use borrow.Author.Tests.{le-leb, eqb-false}
+use borrow.Author.Tests.{le-leb, lt-leb, le-ltb, lt-ltb, eqb-false}
 use Rattle.words.specs.rules.Bits.{bitAt}
 use Rattle.base.specs.Lists.{In, Every, keep}
 use Rattle.tape.specs.declared.event.Event.{Event}
@@ -20,7 +20,7 @@ use Rattle.auction.specs.rules.Accept.{initiatingOf, firstBound, guaranteedOf, 
 use Rattle.auction.specs.rules.Range.{isOpen}
 use Rattle.events.specs.rules.Step.{sightOf, eventRefusal, headAfter, endedByTime, turnOf, closeTurn, gives, seatedOn, stepBy, stepOf, closeOf}
 use Rattle.run.specs.rules.Run.{run, isTaken, takenOf}
-use Rattle.run.specs.promises.Demands.{Rising, RefusedAgain, Keeps}
+use Rattle.run.specs.promises.Demands.{InTime, timed, Rising, RefusedAgain, Keeps}
 use Rattle.auction.specs.declared.Auction.{Auction}
 use Rattle.auction.specs.declared.Terms.{Terms}
 use Rattle.auction.specs.declared.Quotes.{Quotes}
@@ -35,10 +35,10 @@ use Rattle.decision.specs.declared.Change.{Change}
 use Rattle.decision.specs.declared.Change.the-variants.{Nothing, Seat, Free, Quote, Sell}
 use Rattle.decision.specs.declared.Outcome.{Outcome}
 use Rattle.decision.specs.declared.Outcome.the-variants.{Refuses, Does}
-use Rattle.run.proofs.StepLaws.{EventNumber, Outcomes, Cases, cases}
+use Rattle.run.proofs.StepLaws.{KindNumber, Outcomes, Cases, cases}
 
 -- where only refusing or not matters: any change, any ending
-pub any-change : (t : Terms) (q : Quotes) (s : Sight) (m : Event) (P : Outcome → Type 0) → ((n : ℕ) → EventNumber n → P (Refuses n)) → ((c : Change) (g : Ending) → P (Does c g)) → Outcomes t q s m P
+pub any-change : (t : Terms) (q : Quotes) (s : Sight) (m : Event) (P : Outcome → Type 0) → ((n : ℕ) → KindNumber n → P (Refuses n)) → ((c : Change) (g : Ending) → P (Does c g)) → Outcomes t q s m P
 any-change t q s m P r d =
     record {
       refuses = r;
@@ -78,14 +78,28 @@ module _ (s : Sight) (a : Auction) (e : Event) where
         does = λ o. any-change _ _ _ _ _ (λ k _ z. refl) (λ c g z. not-refused (isOpen g) n z);
       })
 
-  late-ends : stepBy s a e .answer ≡ Late → stepBy s a e .auction ≡ record { head = endedByTime (a .head); board = a .board }
+  late-ends : stepBy s a e .answer ≡ Late → stepBy s a e .auction ≡ timed a
   late-ends =
-      by-cases (λ p. p .answer ≡ Late → p .auction ≡ record { head = endedByTime (a .head); board = a .board })
+      by-cases (λ p. p .answer ≡ Late → p .auction ≡ timed a)
       (record {
         refused = λ k _ z. no cc;
         late = λ o z. refl;
         does = λ o. any-change _ _ _ _ _ (λ k _ z. no cc) (λ c g z. not-late (isOpen g) z);
       })
+
+  module _ (opened : isOpen (a .head .ending) ≡ true) where
+    formless : eventFormed e ≡ false → stepBy s a e ≡ gives (Refused 32) a
+    unfolding turnOf eventRefusal
+    formless f = simp (opened, f)
+
+    module _ (formed : eventFormed e ≡ true) (newer : a .head .sequence < e .sequence) where
+      before : e .time < a .head .clock → stepBy s a e ≡ gives (Refused 34) a
+      unfolding turnOf eventRefusal
+      before t = simp (opened, formed, lt-leb _ _ newer, lt-ltb _ _ t)
+
+      when-late : a .head .clock ≤ e .time → a .head .terms .interval ≤ e .time → stepBy s a e ≡ gives Late (timed a)
+      unfolding turnOf eventRefusal
+      when-late t l = simp (opened, formed, lt-leb _ _ newer, le-ltb _ _ t, le-leb _ _ l)
 
   pub rises : a .head .sequence ≤ stepBy s a e .auction .head .sequence
   unfolding headAfter endedByTime
@@ -112,6 +126,20 @@ module _ (s : Sight) (a : Auction) (e : Event) where
         does = λ o. any-change _ _ _ _ _ (λ k _ z. no (sym z)) (λ c g z. (o .formed, o .newer, refl));
       })
 
+  taken-in-time : isTaken (stepBy s a e .answer) ≡ true → InTime (a .head) e
+  taken-in-time =
+      by-cases (λ p. isTaken (p .answer) ≡ true → InTime (a .head) e)
+      (record { refused = λ k _ z. no (sym z); late = λ o z. no (sym z); does = λ o. any-change _ _ _ _ _ (λ k _ z. no (sym z)) (λ c g z. o) })
+
+  by-kind : (n : ℕ) → stepBy s a e .answer ≡ Refused n → 35 ≤ n → InTime (a .head) e
+  by-kind n =
+      by-cases (λ p. p .answer ≡ Refused n → 35 ≤ n → InTime (a .head) e)
+      (record {
+        refused = λ k h z l. let q : k ≡ n = cc in absurd (omega (arith, h .1, q, l));
+        late = λ o z. no cc;
+        does = λ o. any-change _ _ _ _ _ (λ k _ z l. o) (λ c g z. not-refused (isOpen g) n z);
+      })
+
   -- an event whose sequence is not above the highest taken is refused, whatever else it says: 31 once ended; else 32 where it is out of form, and 33
   pub old-refused : e .sequence ≤ a .head .sequence → stepBy s a e ≡ gives (Refused (cond (isOpen (a .head .ending)) (cond (eventFormed e) 33 32) 31)) a
   unfolding turnOf eventRefusal
@@ -127,13 +155,10 @@ module _ (s : Sight) (a : Auction) (e : Event) where
   event-numbers n =
       by-cases (λ p. p .answer ≡ Refused n → (31 ≤ n) × (n ≤ 38))
       (record {
-        refused = λ k h z. same k h z;
+        refused = λ k h z. let q : k ≡ n = cc in (omega (arith, h .0), omega (arith, h .1));
         late = λ o z. no cc;
-        does = λ o. any-change _ _ _ _ _ (λ k h z. same k h z) (λ c g z. not-refused (isOpen g) n z);
+        does = λ o. any-change _ _ _ _ _ (λ k h z. let q : k ≡ n = cc in (omega (arith, h .0), omega (arith, h .1))) (λ c g z. not-refused (isOpen g) n z);
       })
-    where
-      same : (k : ℕ) → EventNumber k → Refused k ≡ Refused n → (31 ≤ n) × (n ≤ 38)
-      same k h z = let q : k ≡ n = cc in (omega (arith, h .0), omega (arith, h .1))
 
 -- what the auction itself sees
 abbrev seen : Auction → Event → Sight
@@ -196,7 +221,7 @@ order-numbers o n =
     (λ h z. let q : orderRefusal o ≡ n = cc in let s : orderRefusal o ≡ 0 → ⊥ = eqb-false _ _ h in (omega (arith, s), omega (arith, order-most o)))
 
 pub keeps : Keeps
-keeps = record { refused = refused-stays; not-closed = closed-stays; order-numbers = order-numbers; event-numbers = event-numbers; taken = taken-is; old = old-refused; rises = rises; late = late-ends; ended = ended-refuses; ended-close = ended-stays }
+keeps = record { refused = refused-stays; not-closed = closed-stays; order-numbers = order-numbers; event-numbers = event-numbers; taken = λ s a e z. (taken-in-time s a e z, taken-is s a e z .2); by-kind = by-kind; formless = formless; old = old-refused; before = before; rises = rises; when-late = when-late; late = late-ends; ended = ended-refuses; ended-close = ended-stays }
 
 -- ---- the sequences of the events taken rise, so no two are the same
 

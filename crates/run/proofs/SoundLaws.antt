@@ -25,14 +25,13 @@ use Rattle.demand.proofs.Theorems.{demand3}
 use Rattle.base.specs.Price.{mirrored}
 use Rattle.mirror.specs.rules.Mirror.{mirroredOrder, buyOrder, buyEvent}
 use Rattle.auction.specs.rules.Accept.{initiatingOf, termsOf, quotesOf, openedBy, acceptOf}
-use Rattle.auction.specs.rules.Range.{isOpen, boundBy}
+use Rattle.auction.specs.rules.Range.{isOpen, boundBy, boundNow, rangeOf}
 use Rattle.tape.specs.rules.Fields.{sizeOf, newSizeOf}
 use Rattle.events.specs.rules.Step.{sightOf, boardAfter, quotesAfter, marketAfter, headAfter, endedByTime, carried, closeTurn, seatedOn, stepBy, stepOf, closeOf}
 use Rattle.decision.specs.rules.Decide.{responseOf, amendedBy}
-use Rattle.auction.specs.rules.Range.{boundNow, rangeOf}
 use Rattle.fills.specs.rules.Fills.{dealOf}
 use Rattle.run.specs.rules.Run.{run, played}
-use Rattle.run.specs.promises.Demands.{Fits, Stands, Sound, Within, Trades, Demanded}
+use Rattle.run.specs.promises.Demands.{InTime, timed, Fits, Stands, Sound, Within, Trades, Demanded}
 use Rattle.auction.specs.declared.Auction.{Auction}
 use Rattle.auction.specs.declared.Ending.{Ending}
 use Rattle.auction.specs.declared.Ending.the-variants.{Open, Opposite}
@@ -42,7 +41,7 @@ use Rattle.events.specs.declared.Stepped.{Stepped}
 use Rattle.decision.specs.declared.Sight.{Sight}
 use Rattle.events.specs.declared.Turn.{Turn}
 use Rattle.auction.specs.declared.Entry.the-variants.{Accepted}
-use Rattle.run.proofs.StepLaws.{Outcomes, Ordinary, cases}
+use Rattle.run.proofs.StepLaws.{Outcomes, cases}
 use Rattle.mirror.proofs.EventLaws.{buy-sequence, buy-kind, mirror-one, mirror-three, priced-size, amend-size}
 use Rattle.run.proofs.BoardSteps.{sees, seat-every, amend-every, clear-every, seat-distinct, amend-distinct, clear-distinct}
 use Rattle.run.proofs.Accepted.{Passed, bound-fits, opened, price-fits}
@@ -126,7 +125,7 @@ after-sound a e c g s bound good live distinct none apart =
       market-apart = apart;
     }
 
-module _ (v : Sight) (a : Auction) (e : Event) (fits : Fits (a .board) v) (s : Sound a) (o : Ordinary (a .head) e) where
+module _ (v : Sight) (a : Auction) (e : Event) (fits : Fits (a .board) v) (s : Sound a) (o : InTime (a .head) e) where
   no-size : a .head .market .size ≡ 0
   no-size = s .no-market (o .opened)
 
@@ -185,10 +184,6 @@ module _ (v : Sight) (a : Auction) (e : Event) (fits : Fits (a .board) v) (s : S
             (λ z. no (sym z))
             (λ _. (omega (arith, buy-sequence e sell, o .newer), fresh (buyEvent sell e .sequence) (buy-sequence e sell)));
       }
-
--- the auction that ends by time
-abbrev timed : Auction → Auction
-timed a = record { head = endedByTime (a .head); board = a .board }
 
 time-sound : (a : Auction) → Sound a → Sound (timed a)
 unfolding endedByTime

@@ -1,7 +1,7 @@
 -- The turn by cases: what holds of each outcome holds of the turn, whatever sight it has of the board. Assumes nothing.
 use mathlib.Core.Path.{_≡_, refl, sym, ap, _∙_}
 use mathlib.Core.Bool.{Bool, true, false, cond, not, _&&_, _||_}
-use mathlib.Core.Logic.{_⊎_, inl, inr}
+use mathlib.Core.Logic.{inl, inr}
 use Prim.Native.Nat.{ℕ, _+_, _≤_, _<_, min, max}
 use native.Mathlib.Omega.{arith}
 use lib.Dec.{leb, ltb, eqb}
@@ -20,7 +20,7 @@ use Rattle.auction.specs.declared.Ending.the-variants.{Open, Same, Opposite, Im
 use Rattle.events.specs.rules.Step.{eventRefusal, stays, endedByTime, carried, turnOf}
 use Rattle.decision.specs.rules.Decide.{isCancel, isAmend, isCustomer, isNonRoutable, responseOf, gtxOutcome, cancelOutcome, amendedBy, amendOutcome, sellLimitOutcome, bidQuotes, moves, buyLimitOutcome, limitOutcome, marketOutcome, newQuotes, quotesOutcome, outcomeOf}
 use Rattle.tape.specs.rules.Fields.{sizeOf, priceOf, newPriceOf}
-use Rattle.run.specs.promises.Demands.{Names}
+use Rattle.run.specs.promises.Demands.{InTime, Names}
 use Rattle.events.specs.declared.Answer.the-variants.{Late, Refused}
 use Rattle.decision.specs.declared.Sight.{Sight}
 use Rattle.events.specs.declared.Turn.{Turn}
@@ -48,9 +48,12 @@ bid-still t q p c h = go (ltb (q .bb) p) (eqb p (q .bb)) c (q .bidmark) refl ref
     go false false c true hl he z = same (omega (arith, ltb-false (q .bb) p hl)) true
     go false false c false hl he z = same (omega (arith, ltb-false (q .bb) p hl)) false
 
--- a number that refuses an event
-abbrev pub EventNumber : ℕ → Type 0
-EventNumber n = (31 ≤ n) × (n ≤ 38)
+-- a number that refuses an event by its kind, and one that refuses any
+abbrev pub KindNumber : ℕ → Type 0
+KindNumber n = (35 ≤ n) × (n ≤ 38)
+
+abbrev pub FirstNumber : ℕ → Type 0
+FirstNumber n = (31 ≤ n) × (n ≤ 34)
 
 -- an event that takes no place, frees none and amends none, and is no sell at the market
 pub record Leaves (t : Terms) (m : Event) : Type 0 where
@@ -62,7 +65,7 @@ pub record Leaves (t : Terms) (m : Event) : Type 0 where
 
 -- what is known of each outcome of an event m
 pub record Outcomes (t : Terms) (q : Quotes) (s : Sight) (m : Event) (P : Outcome → Type 0) : Type 0 where
-  pub refuses : (n : ℕ) → EventNumber n → P (Refuses n)
+  pub refuses : (n : ℕ) → KindNumber n → P (Refuses n)
   pub nothing : (g : Ending) → Leaves t m → P (Does Nothing g)
   pub gtx : m .kind ≡ 1 → eqb (m .side) 1 ≡ false → s .at < 64 → priceOf m ≤ t .initiating → P (Does (Seat (s .at) (responseOf true (min (sizeOf m) (t .size)) m)) Open)
   pub limit : (g : Ending) → m .kind ≡ 3 → eqb (m .side) 1 ≡ false → s .at < 64 → priceOf m ≤ t .initiating → P (Does (Seat (s .at) (responseOf false (sizeOf m) m)) g)
@@ -174,10 +177,13 @@ module _ (h : Head) (e : Event) where
       by IfNone (ltb (e .time) (h .clock)) _ _ (λ _ z. no (sym z)) (λ t z.
       record { opened = not-false _ o; formed = not-false _ f; newer = leb-false _ _ s; later = ltb-false _ _ t }))))
 
-  numbered : eqb number 0 ≡ false → EventNumber number
+  in-time : Ordinary h e → e .time < h .terms .interval → InTime h e
+  in-time o l = record { opened = o .opened; formed = o .formed; newer = o .newer; later = o .later; early = l }
+
+  numbered : eqb number 0 ≡ false → FirstNumber number
   unfolding eventRefusal
   numbered =
-      let P : ℕ → Type 0 = λ n. eqb n 0 ≡ false → EventNumber n in
+      let P : ℕ → Type 0 = λ n. eqb n 0 ≡ false → FirstNumber n in
       by P (not (isOpen (h .ending))) _ _ (λ _ _. (omega arith, omega arith)) (λ _.
       by P (not (eventFormed e)) _ _ (λ _ _. (omega arith, omega arith)) (λ _.
       by P (leb (e .sequence) (h .sequence)) _ _ (λ _ _. (omega arith, omega arith)) (λ _.
@@ -186,14 +192,14 @@ module _ (h : Head) (e : Event) where
   module _ (s : Sight) where
     -- P holds of the turn where it holds of each of its outcomes
     pub record Cases (P : Turn → Type 0) : Type 0 where
-      pub refused : (k : ℕ) → EventNumber k → P (stays (Refused k) h)
+      pub refused : (k : ℕ) → FirstNumber k → P (stays (Refused k) h)
       pub late : Ordinary h e → P (stays Late (endedByTime h))
-      pub does : Ordinary h e → Outcomes (h .terms) (h .quotes) s (buyEvent (h .terms .sell) e) (λ o. P (carried h e o))
+      pub does : InTime h e → Outcomes (h .terms) (h .quotes) s (buyEvent (h .terms .sell) e) (λ o. P (carried h e o))
 
     pub cases : (P : Turn → Type 0) → Cases P → P (turnOf h s e)
     unfolding turnOf
     cases P k =
         by P (eqb number 0) _ _
-        (λ z. by P (leb (h .terms .interval) (e .time)) _ _ (λ _. k .late (ordinary z)) (λ _.
-        outcomes (h .terms) (h .quotes) s (buyEvent (h .terms .sell) e) (λ o. P (carried h e o)) (k .does (ordinary z))))
+        (λ z. by P (leb (h .terms .interval) (e .time)) _ _ (λ _. k .late (ordinary z)) (λ l.
+        outcomes (h .terms) (h .quotes) s (buyEvent (h .terms .sell) e) (λ o. P (carried h e o)) (k .does (in-time (ordinary z) (leb-false _ _ l)))))
         (λ z. k .refused number (numbered z))

@@ -44,7 +44,7 @@ pub record Clearing (b : Board) (i : ℕ) : Type 0 where
   pub dead : isLive (cleared b i) i ≡ false
   pub free : firstFree (cleared b i) ≤ i
 
--- a response is seated at a live place: it stands for the one that stood there
+-- a response is seated at a live place: it stands there instead of the one before
 pub record Amending (b : Board) (i : ℕ) (r : Response) : Type 0 where
   -- of the live responses the old one is gone, r is new, and all others stay
   pub takes : Inserts (responseAt (b .places) i) (liveOf (cleared b i)) (liveOf b)

@@ -1,7 +1,7 @@
 -- The parts of the promise.
 use mathlib.Core.Path.{_≡_}
 use mathlib.Core.Bool.{true, false, cond, _&&_}
-use mathlib.Core.List.{List, [], _∷_, _++_}
+use mathlib.Core.List.{List, [], _∷_, _++_, map}
 use mathlib.Core.Logic.{_⊎_, _≢_}
 use Prim.Native.Nat.{ℕ, _+_, _*_, _≤_, _<_, min, max}
 use Prim.Native.String.{String}
@@ -38,7 +38,7 @@ use Rattle.listing.specs.rules.Text.{text, newline}
 use Rattle.listing.specs.rules.Listing.{field, answerText, endText, refusedLine, auctionLine, eventLines, endLines, listingOf, roomOf, listedOf, lengthIn, bytesOf}
 use Rattle.promise.specs.rules.Answers.{Accepts, no, yes, openedIs, orderIs, eventIs, trailerIs, writtenIs, entryIs, answerIs, endingIs, filledIs, runIs, listedIs}
 use Rattle.promise.specs.rules.Tapes.{Carries}
-use Rattle.promise.specs.rules.Sides.{isSell, otherSide, better, gotBetter, responses, takenRecords, atEnd, rangeAtEnd, writtenFills, liveAtEnd, marketOrder, workingPrice, othersAtPrice, guaranteeAtEnd, planAtPrice, leftToOthersAtPrice, sentBy, sentInstead, initiatingPrice, standingOf, givenSize, givenPrice}
+use Rattle.promise.specs.rules.Sides.{isSell, otherSide, better, gotBetter, sent, responses, takenRecords, atEnd, rangeAtEnd, writtenFills, liveAtEnd, marketOrder, workingPrice, othersAtPrice, guaranteeAtEnd, planAtPrice, leftToOthersAtPrice, sentBy, sentInstead, initiatingPrice, takesPlace, standingOf, hasNamed, givenSize, givenPrice}
 
 -- ---- 1. every tape is answered
 
@@ -93,11 +93,11 @@ EventNumber x = (n : ℕ) → answerIs (x .answer) ≡ no n → In n (31 ∷ 32 
 -- ---- 3. demand 3, in real prices
 
 module _ (o : Order) (es : List Event) where
-  -- the response r is that of the record e, its latest, which was taken
+  -- the record that was taken and whose sequence r bears, e, made r; whether r still stands is not said here
   pub data Sends : Event → Response → Type 0 where
-    -- a GTX response (its size capped at the CUBE size) or a limit order, on the other side
-    places : (e : Event) → In e (takenRecords o es) → (e .kind ≡ 1) ⊎ (e .kind ≡ 3) → e .side ≡ otherSide o → Sends e (sentBy o e)
-    -- an amend of the GTX response of an earlier record g
+    -- a GTX response on the other side (its size capped at the CUBE size), or a limit order that takes a place
+    places : (e : Event) → In e (takenRecords o es) → ((e .kind ≡ 1) × (e .side ≡ otherSide o)) ⊎ ((e .kind ≡ 3) × (takesPlace o e ≡ true)) → Sends e (sentBy o e)
+    -- an amend, of the GTX response of an earlier record g
     amends : (e g : Event) (old : Response) → In e (takenRecords o es) → e .kind ≡ 6 → Sends g old → old .gtx ≡ true → nameOf e ≡ g .sequence → g .sequence < e .sequence → Sends e (sentInstead o e old)
 
   -- the record e is the market order that ended the auction: the last that was taken, on the other side
@@ -110,7 +110,7 @@ module _ (o : Order) (es : List Event) where
     pub ending : endingIs (atEnd o es .head .ending) ≡ "opposite"
     pub latest : atEnd o es .head .sequence ≡ e .sequence
 
-  -- who trades: the Contra Order, the response of a record (its latest), or the market order that ended the auction; no more than the record's size, and a response not beyond its price
+  -- who trades: the Contra Order, the response that a record made, or the market order that ended the auction; no more than the record's size, and a response not beyond its price
   pub data Trader (f : Fill) : Type 0 where
     theContra : f .party ≡ 0 → Trader f
     aResponse : (e : Event) (r : Response) → In r (liveAtEnd o es) → Sends e r → f .party ≡ e .sequence → got (e .sequence) (writtenFills o es) ≤ givenSize e → better (isSell o) (f .price) (givenPrice e) ≡ false → Trader f
@@ -128,8 +128,11 @@ module _ (o : Order) (es : List Event) where
     -- they are those of demand 3's clauses, which hold of the buy that the order is or mirrors, with a sell's prices mirrored back
     pub clauses : Trades (atEnd o es)
     pub link : writtenFills o es ≡ reported (isSell o) (fills (dealOf (atEnd o es .head)) (offers (atEnd o es .board)))
-    -- the responses, by sequence, are those that the records taken leave standing: an amended one is counted once, with its latest size and price
+    -- the responses, by sequence, are those that the records taken leave standing, an amended one once, with its latest size and price; and the fills are those of these responses
     pub stand : inSequence (liveAtEnd o es) ≡ standingOf o (takenRecords o es)
+    pub by-fold : writtenFills o es ≡ reported (isSell o) (fills (dealOf (atEnd o es .head)) (map (sent (isSell o)) (standingOf o (takenRecords o es))))
+    -- one that was cancelled or amended trades nothing under its old name
+    pub gone-none : (e : Event) → In e (takenRecords o es) → Names e → got (nameOf e) (writtenFills o es) ≡ 0
     -- each party is the Contra Order, or exactly one record
     pub parties : Every Trader (writtenFills o es)
     pub told-apart : (e g : Event) → In e (takenRecords o es) → In g (takenRecords o es) → e .sequence ≡ g .sequence → e ≡ g
@@ -162,31 +165,36 @@ module _ (o : Order) (es : List Event) where
 
 -- ---- 4. a response that stands on the board is never counted twice
 
--- the response r is that of one record of es that was taken, its latest, and of no other
+-- the response r was made by one record of es that was taken, and by no other; no cancel and no amend that was taken names it
 pub record OneRecord (o : Order) (es : List Event) (r : Response) : Type 0 where
   pub record-of : Event
   pub sends : Sends o es record-of r
   pub only : (g : Event) → In g (takenRecords o es) → g .sequence ≡ r .sequence → g ≡ record-of
+  pub latest : (g : Event) → In g (takenRecords o es) → Names g → nameOf g ≡ r .sequence → ⊥
 
 module _ (o : Order) where
   -- the order's auction after some records
   abbrev pub auctionAfter : List Event → Auction
   auctionAfter es = run (acceptOf o .auction) es
 
-  pub record OlderRefused : Type 0 where
+  pub record CountedOnce : Type 0 where
     -- once a record was taken, or ended the auction, every record with its sequence or a lower one is refused, whatever else it says, and changes nothing: 31 once ended; else 32 where it is out of form, and 33
     pub refused : (before : List Event) (e g : Event) → In e (takenRecords o before) → g .sequence ≤ e .sequence
         → (answerIs (stepOf (auctionAfter before) g .answer) ≡ no (cond (isOpen (auctionAfter before .head .ending)) (cond (eventFormed g) 33 32) 31)) × (stepOf (auctionAfter before) g .auction ≡ auctionAfter before)
     -- the live responses, by sequence, are a fold of the records taken: 1 and 3 add, 2 takes away, 6 takes away and adds
-    pub counted-once : (es : List Event) → Accepts o → inSequence (responses (auctionAfter es)) ≡ standingOf o (takenRecords o es)
+    pub by-records : (es : List Event) → Accepts o → inSequence (responses (auctionAfter es)) ≡ standingOf o (takenRecords o es)
     -- each comes from one record, or from an amend of what came from one
     pub one-record : (es : List Event) → Accepts o → Every (OneRecord o es) (responses (auctionAfter es))
     -- no two of them bear one sequence
     pub apart : (es : List Event) → Accepts o → Distinct (responses (auctionAfter es))
-    -- one that was cancelled or amended never comes back
-    pub never-back : (before : List Event) (e : Event) (es : List Event) → Accepts o → Names e → answerIs (stepOf (auctionAfter before) e .answer) ≡ yes "taken"
-        → Absent (nameOf e) (responses (auctionAfter (before ++ (e ∷ es))))
-    -- and a cancel or an amend of it is refused: 37, and 36 before it where the new price of an amend is worse than the initiating price
-    pub named-no-more : (before : List Event) (e : Event) (es : List Event) (g : Event) → Accepts o → Names e → answerIs (stepOf (auctionAfter before) e .answer) ≡ yes "taken"
-        → Names g → nameOf g ≡ nameOf e → InTime (auctionAfter (before ++ (e ∷ es)) .head) g
-        → answerIs (stepOf (auctionAfter (before ++ (e ∷ es))) g .answer) ≡ no (cond (isAmend g && better (isSell o) (initiatingPrice o) (newPriceOf g)) 36 37)
+    -- none is taken away twice, so that a record leads to one live response at most; one that was cancelled or amended never comes back
+    pub named-once : (es : List Event) (e g : Event) → Accepts o → In e (takenRecords o es) → In g (takenRecords o es) → Names e → Names g → nameOf e ≡ nameOf g → e ≡ g
+    pub never-back : (es : List Event) (e : Event) → Accepts o → In e (takenRecords o es) → Names e → Absent (nameOf e) (responses (auctionAfter es))
+    -- an amend in time: 36 where its price is worse than the initiating price, then 37 where no GTX response of that name stands, else taken; a cancel: 37, else taken
+    pub amend-answers : (es : List Event) (e : Event) → Accepts o → e .kind ≡ 6 → InTime (auctionAfter es .head) e
+        → answerIs (stepOf (auctionAfter es) e .answer) ≡ cond (better (isSell o) (initiatingPrice o) (newPriceOf e)) (no 36) (cond (hasNamed (nameOf e) (standingOf o (takenRecords o es))) (yes "taken") (no 37))
+    pub cancel-answers : (es : List Event) (e : Event) → Accepts o → e .kind ≡ 2 → InTime (auctionAfter es .head) e
+        → answerIs (stepOf (auctionAfter es) e .answer) ≡ cond (hasNamed (nameOf e) (standingOf o (takenRecords o es))) (yes "taken") (no 37)
+    -- so one that was cancelled or amended is named no more: 37, and 36 before it
+    pub named-no-more : (es : List Event) (e g : Event) → Accepts o → In e (takenRecords o es) → Names e → Names g → nameOf g ≡ nameOf e → InTime (auctionAfter es .head) g
+        → answerIs (stepOf (auctionAfter es) g .answer) ≡ no (cond (isAmend g && better (isSell o) (initiatingPrice o) (newPriceOf g)) 36 37)

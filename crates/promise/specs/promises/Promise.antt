@@ -18,7 +18,7 @@ use Rattle.listing.specs.rules.Listing.{listingOf}
 use Rattle.promise.specs.rules.Tapes.{Carries, SomeTape, endOf, notRefused, notRefusedSaid, WithResent, mirroredLines}
 use Rattle.promise.specs.rules.Answers.{Accepts}
 use Rattle.promise.specs.rules.Sides.{isSell, buyRange, sellRange}
-use Rattle.promise.specs.promises.Parts.{Answered, Roomed, Filling, Numbered, EventNumber, InRealPrices, OlderRefused}
+use Rattle.promise.specs.promises.Parts.{Answered, Roomed, Filling, Numbered, EventNumber, InRealPrices, CountedOnce}
 use Rattle.promise.specs.promises.Below.{Below}
 
 pub record Promise : Type 0 where
@@ -38,8 +38,9 @@ pub record Promise : Type 0 where
   -- 3. Demand 3 in real prices, of every order that is accepted and every list of records after it; where none of them ends the auction it is closed by hand. The range at the opening is that of the order's own fields
   pub first-range : (o : Order) → Accepts o → rangeOf (acceptOf o .auction .head) ≡ cond (isSell o) (sellRange o) (buyRange o)
   pub trades : (o : Order) (es : List Event) → Accepts o → InRealPrices o es
-  -- 4. A response that stands on the board is never counted twice: a tape with any number of resent records put in, or of any records after the ending, has the same END, FILL and TOTAL lines (a tape has at most 2,045 records)
-  pub resent : (o : Order) → OlderRefused o
+  -- 4. A response that stands on the board is never counted twice, and an amended one once, with its latest size and price: what stands is a fold of the records taken
+  pub counted : (o : Order) → CountedOnce o
+  -- a tape with any number of resent records put in, or of any records after the ending, has the same END, FILL and TOTAL lines (a tape has at most 2,045 records)
   pub same-records : (a : Auction) (es fs : List Event) → WithResent a es fs → notRefused a fs ≡ notRefused a es
   pub resends : (s t : List ℕ) (o : Order) (es fs : List Event) → Carries s o es → Carries t o fs → WithResent (acceptOf o .auction) es fs → endOf t ≡ endOf s
   -- 5. Sells mirror buys: the tape whose order and records in form are mirrored (a record out of form stays as it is) has the mirrored listing

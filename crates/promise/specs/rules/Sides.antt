@@ -1,5 +1,5 @@
 -- An ended auction in real prices, buys and sells alike: the fills as they are written, the responses with their prices as they were sent.
-use mathlib.Core.Bool.{Bool, true, cond, not, _&&_, _||_}
+use mathlib.Core.Bool.{Bool, true, cond, not, _&&_}
 use mathlib.Core.List.{List, [], _∷_, _++_, map}
 use Prim.Native.Nat.{ℕ, _+_, _-_, min, max}
 use lib.Dec.{ltb, eqb}
@@ -102,6 +102,10 @@ module _ (o : Order) where
   -- what a list of records taken leaves standing, by sequence
   abbrev pub standingOf : List Event → List Response
   standingOf es = standingFrom [] es
+
+-- a GTX response of that sequence is among them
+abbrev pub hasNamed : ℕ → List Response → Bool
+hasNamed k rs = not (eqb (length (filter (isGtx k) rs)) 0)
 
 -- the size and the price that a record gives its response: those of an amend are new
 abbrev pub givenSize : Event → ℕ

@@ -1,9 +1,9 @@
 -- What is promised of an auction, in the user's words.
 use mathlib.Core.Path.{_≡_}
-use mathlib.Core.Bool.{Bool, true, false, cond, _&&_}
+use mathlib.Core.Bool.{Bool, true, false, cond}
 use mathlib.Core.List.{List, [], _∷_}
 use mathlib.Core.Logic.{_⊎_}
-use Prim.Native.Nat.{ℕ, _≤_, _<_}
+use Prim.Native.Nat.{ℕ, _≤_, _<_, min}
 use lib.Dec.{ltb}
 use Rattle.base.specs.Lists.{In, Every}
 use Rattle.board.specs.rules.Board.{responseAt, isLive, liveCount, liveOf, findGtx}
@@ -20,12 +20,10 @@ use Rattle.demand.specs.promises.Demands.{Absent, Distinct, Demand3}
 use Rattle.base.specs.Price.{mirrored}
 use Rattle.mirror.specs.rules.Mirror.{mirroredOrder, mirroredEvent, buyEvent}
 use Rattle.auction.specs.rules.Accept.{acceptOf}
-use Rattle.auction.specs.rules.Range.{isOpen, boundBy}
-use Rattle.tape.specs.rules.Fields.{sizeOf, nameOf, newPriceOf}
-use Rattle.events.specs.rules.Step.{sightOf, endedByTime, headAfter, gives, stepBy, stepOf, closeOf}
-use Rattle.decision.specs.rules.Decide.{isAmend, amendedBy}
+use Rattle.auction.specs.rules.Range.{isOpen, boundBy, rangeOf}
+use Rattle.tape.specs.rules.Fields.{sizeOf, nameOf, newSizeOf, newPriceOf}
+use Rattle.events.specs.rules.Step.{sightOf, endedByTime, gives, stepBy, stepOf, closeOf}
 use Rattle.fills.specs.rules.Fills.{dealOf, auctionFills}
-use Rattle.auction.specs.rules.Range.{rangeOf}
 use Rattle.run.specs.rules.Run.{run, heard, played, isTaken, takenOf}
 use Rattle.auction.specs.declared.Auction.{Auction}
 use Rattle.auction.specs.declared.Head.{Head}
@@ -34,18 +32,29 @@ use Rattle.auction.specs.declared.Range.{Range}
 use Rattle.auction.specs.declared.Ending.the-variants.{Open, Opposite}
 use Rattle.auction.specs.declared.Entry.the-variants.{Accepted, Refused as NotAccepted}
 use Rattle.events.specs.declared.Answer.the-variants.{Taken, Ended, Late, Refused}
-use Rattle.decision.specs.declared.Change.the-variants.{Nothing}
 use Rattle.decision.specs.declared.Sight.{Sight}
 
 -- ---- what an event sees of the board
 
--- a sight fits a board where the place that it offers is free, and the one that it found is live
+-- a sight fits a board where the place that it offers is free, the one that it found is live, and it has what stands there
 pub record Fits (b : Board) (s : Sight) : Type 0 where
   pub free : s .at < 64 → isLive b (s .at) ≡ false
   pub found : s .found < 64 → isLive b (s .found) ≡ true
   pub old : s .old ≡ responseAt (b .places) (s .found)
 
 -- ---- refusals, whatever is seen
+
+-- an event that none of 31 to 34 refuses, and that is not late
+pub record InTime (h : Head) (e : Event) : Type 0 where
+  pub opened : isOpen (h .ending) ≡ true
+  pub formed : eventFormed e ≡ true
+  pub newer : h .sequence < e .sequence
+  pub later : h .clock ≤ e .time
+  pub early : e .time < h .terms .interval
+
+-- the auction that ends by time: nothing but its ending moves
+abbrev pub timed : Auction → Auction
+timed a = record { head = endedByTime (a .head); board = a .board }
 
 pub record Keeps : Type 0 where
   -- a refusal changes nothing
@@ -54,13 +63,18 @@ pub record Keeps : Type 0 where
   -- orders are refused by 1 to 12 alone, events by 31 to 38 alone
   pub order-numbers : (o : Order) (n : ℕ) → acceptOf o .answer ≡ NotAccepted n → (1 ≤ n) × (n ≤ 12)
   pub event-numbers : (s : Sight) (a : Auction) (e : Event) (n : ℕ) → stepBy s a e .answer ≡ Refused n → (31 ≤ n) × (n ≤ 38)
-  -- one that is taken is in form, and moves the highest sequence up to its own; one with a sequence that is not above it is refused, whatever else it says: 31 once ended; else 32 where it is out of form, and 33
-  pub taken : (s : Sight) (a : Auction) (e : Event) → isTaken (stepBy s a e .answer) ≡ true → (eventFormed e ≡ true) × (a .head .sequence < e .sequence) × (stepBy s a e .auction .head .sequence ≡ e .sequence)
+  -- one that is taken is in time, and moves the highest sequence up to its own; so one is that 35 to 38 refuse
+  pub taken : (s : Sight) (a : Auction) (e : Event) → isTaken (stepBy s a e .answer) ≡ true → InTime (a .head) e × (stepBy s a e .auction .head .sequence ≡ e .sequence)
+  pub by-kind : (s : Sight) (a : Auction) (e : Event) (n : ℕ) → stepBy s a e .answer ≡ Refused n → 35 ≤ n → InTime (a .head) e
+  -- 31 once ended (below); 32 out of form; 33 where the sequence is not above the highest, whatever else it says; 34 before the last event's time
+  pub formless : (s : Sight) (a : Auction) (e : Event) → isOpen (a .head .ending) ≡ true → eventFormed e ≡ false → stepBy s a e ≡ gives (Refused 32) a
   pub old : (s : Sight) (a : Auction) (e : Event) → e .sequence ≤ a .head .sequence → stepBy s a e ≡ gives (Refused (cond (isOpen (a .head .ending)) (cond (eventFormed e) 33 32) 31)) a
+  pub before : (s : Sight) (a : Auction) (e : Event) → isOpen (a .head .ending) ≡ true → eventFormed e ≡ true → a .head .sequence < e .sequence → e .time < a .head .clock → stepBy s a e ≡ gives (Refused 34) a
   -- the highest sequence never falls
   pub rises : (s : Sight) (a : Auction) (e : Event) → a .head .sequence ≤ stepBy s a e .auction .head .sequence
-  -- a late event ends the auction by time, and is not applied
-  pub late : (s : Sight) (a : Auction) (e : Event) → stepBy s a e .answer ≡ Late → stepBy s a e .auction ≡ record { head = endedByTime (a .head); board = a .board }
+  -- one at L or after it is late, whatever it is: it ends the auction by time, and is not applied
+  pub when-late : (s : Sight) (a : Auction) (e : Event) → isOpen (a .head .ending) ≡ true → eventFormed e ≡ true → a .head .sequence < e .sequence → a .head .clock ≤ e .time → a .head .terms .interval ≤ e .time → stepBy s a e ≡ gives Late (timed a)
+  pub late : (s : Sight) (a : Auction) (e : Event) → stepBy s a e .answer ≡ Late → stepBy s a e .auction ≡ timed a
   -- an ended auction never changes again, and answers 31 to all
   pub ended : (s : Sight) (a : Auction) (e : Event) → isOpen (a .head .ending) ≡ false → stepBy s a e ≡ gives (Refused 31) a
   pub ended-close : (a : Auction) → isOpen (a .head .ending) ≡ false → closeOf a ≡ gives (Refused 31) a
@@ -146,14 +160,6 @@ pub record Demanded : Type 0 where
 
 -- ---- a response that is amended
 
--- an event that none of 31 to 34 refuses, and that is not late
-pub record InTime (h : Head) (e : Event) : Type 0 where
-  pub opened : isOpen (h .ending) ≡ true
-  pub formed : eventFormed e ≡ true
-  pub newer : h .sequence < e .sequence
-  pub later : h .clock ≤ e .time
-  pub early : e .time < h .terms .interval
-
 -- a cancel or an amend
 abbrev pub Names : Event → Type 0
 Names e = (e .kind ≡ 2) ⊎ (e .kind ≡ 6)
@@ -162,34 +168,51 @@ Names e = (e .kind ≡ 2) ⊎ (e .kind ≡ 6)
 abbrev pub namedPlace : Auction → Event → ℕ
 namedPlace a e = findGtx (a .board) (nameOf e)
 
--- the new price of an amend is above the initiating price
+-- the new price of an amend is above the initiating price, for the buy that the order is or mirrors
 abbrev pub isAbove : Auction → Event → Bool
 isAbove a e = ltb (a .head .terms .initiating) (newPriceOf (buyEvent (a .head .terms .sell) e))
+
+-- a sight that finds the GTX response that an event names, and has it; what it offers as a free place is of no matter
+pub record SeesNamed (s : Sight) (a : Auction) (e : Event) : Type 0 where
+  pub found : s .found ≡ namedPlace a e
+  pub old : s .old ≡ responseAt (a .board .places) (namedPlace a e)
+
+-- the response r is what the amend e made of old, for the terms t: the event's sequence, the new size, capped at the CUBE size, the new price, the old Customer mark
+pub record NewFor (t : Terms) (old : Response) (e : Event) (r : Response) : Type 0 where
+  pub sequence : r .sequence ≡ e .sequence
+  pub size : r .size ≡ min (newSizeOf e) (t .size)
+  pub price : r .price ≡ newPriceOf (buyEvent (t .sell) e)
+  pub customer : r .customer ≡ old .customer
+  pub gtx : r .gtx ≡ true
 
 -- the amend e made the auction b of a
 pub record Amended (a : Auction) (e : Event) (b : Auction) : Type 0 where
   -- the GTX response that it names was live
   pub named : GtxAt (a .board) (nameOf e) (namedPlace a e)
-  -- the new one stands at its place: the event's sequence, the new size, capped at the CUBE size, the new price, the old Customer mark
-  pub stands : responseAt (b .board .places) (namedPlace a e) ≡ amendedBy (a .head .terms) (responseAt (a .board .places) (namedPlace a e)) (buyEvent (a .head .terms .sell) e)
-  -- every other place, the word and the count stay
+  -- the new one stands at its place; every other place, the word and the count stay
+  pub stands : NewFor (a .head .terms) (responseAt (a .board .places) (namedPlace a e)) e (responseAt (b .board .places) (namedPlace a e))
   pub others : (j : ℕ) → (j ≡ namedPlace a e → ⊥) → responseAt (b .board .places) j ≡ responseAt (a .board .places) j
   pub word : b .board .live ≡ a .board .live
   pub count : liveCount (b .board) ≡ liveCount (a .board)
   -- the old name is found no more, and the new one at that place
   pub gone : findGtx (b .board) (nameOf e) ≡ 64
   pub found : findGtx (b .board) (e .sequence) ≡ namedPlace a e
-  -- of the rest the highest sequence and the clock alone move
-  pub rest : b .head ≡ headAfter (a .head) e Nothing Open
+  -- the range, the market order and the ending stay
+  pub terms : b .head .terms ≡ a .head .terms
+  pub quotes : b .head .quotes ≡ a .head .quotes
+  pub market : b .head .market ≡ a .head .market
+  pub ending : b .head .ending ≡ Open
 
 pub record Amends : Type 0 where
+  -- the auction's own sight is such a one
+  pub sees-named : (a : Auction) (e : Event) → Names e → SeesNamed (sightOf (a .board) e) a e
   -- what an amend that is taken does
-  pub takes : (a : Auction) (e : Event) → Sound a → e .kind ≡ 6 → isTaken (stepOf a e .answer) ≡ true → Amended a e (stepOf a e .auction)
-  -- 36, then 37; 35 and 38 never, and it never ends the auction
-  pub answers : (a : Auction) (e : Event) → e .kind ≡ 6 → InTime (a .head) e → stepOf a e .answer ≡ cond (isAbove a e) (Refused 36) (cond (ltb (namedPlace a e) 64) Taken (Refused 37))
+  pub does : (s : Sight) (a : Auction) (e : Event) → Sound a → e .kind ≡ 6 → SeesNamed s a e → isTaken (stepBy s a e .answer) ≡ true → Amended a e (stepBy s a e .auction)
+  -- 36, then 37; never 35 and never 38, and it is never answered `ended`
+  pub answers : (s : Sight) (a : Auction) (e : Event) → e .kind ≡ 6 → SeesNamed s a e → InTime (a .head) e → stepBy s a e .answer ≡ cond (isAbove a e) (Refused 36) (cond (ltb (namedPlace a e) 64) Taken (Refused 37))
   pub never : (s : Sight) (a : Auction) (e : Event) → e .kind ≡ 6 → (stepBy s a e .answer ≡ Refused 35 → ⊥) × (stepBy s a e .answer ≡ Refused 38 → ⊥) × (stepBy s a e .answer ≡ Ended → ⊥)
-  -- a cancel or an amend of a name that is not found is refused, and changes nothing
-  pub unnamed : (a : Auction) (e : Event) → Names e → namedPlace a e ≡ 64 → InTime (a .head) e → stepOf a e ≡ gives (Refused (cond (isAmend e && isAbove a e) 36 37)) a
+  -- a cancel: 37, else taken
+  pub cancel-answers : (s : Sight) (a : Auction) (e : Event) → e .kind ≡ 2 → SeesNamed s a e → InTime (a .head) e → stepBy s a e .answer ≡ cond (ltb (namedPlace a e) 64) Taken (Refused 37)
 
 -- ---- the mirror
 
