@@ -2,7 +2,7 @@
 ghost use mathlib.Core.Path.{_≡_};
 ghost use mathlib.Core.Bool.{cond};
 ghost use lib.Dec.{ltb};
-ghost use Rattle.board.specs.rules.Board.{noResponse, responseAt, emptyBoard, isLive, liveCount, firstFree, seatedAt, cleared, isGtx, findGtx};
+ghost use Rattle.board.specs.rules.Board.{noResponse, responseAt, emptyBoard, isLive, liveCount, firstFree, seatedAt, cleared, isGtx, foundGtx};
 use words::bits;
 
 // A response that stands on the board: a GTX response, or a limit order.
@@ -18,6 +18,12 @@ pub struct Response {
 pub struct Board {
     pub places: [Response; 64],
     pub live: u64,
+}
+
+// A GTX response that was looked for: its place, and 64 where there is none; what stands there.
+pub struct Found {
+    pub place: usize,
+    pub response: Response,
 }
 
 // What stands where no response was ever placed.
@@ -91,19 +97,26 @@ fn is_gtx(r: Response, sequence: u32) -> bool
     r.gtx & (r.sequence == sequence)
 }
 
-// The place of the live GTX response with this sequence, and 64 where there is none.
-pub fn find_gtx(b: Board, sequence: u32) -> usize
-    ensures { λ r. ⌜ r ≡ findGtx b sequence ⌝ }
+// The live GTX response with this sequence.
+pub fn find_gtx(b: Board, sequence: u32) -> Found
+    ensures { λ r. ⌜ r ≡ foundGtx b sequence ⌝ }
 {
     let mut rest = b.live;
     while rest != 0 {
         let i = bits::first_set(rest) as usize;
-        if is_gtx(b.places[i], sequence) {
-            return i;
+        let r = b.places[i];
+        if is_gtx(r, sequence) {
+            return Found {
+                place: i,
+                response: r,
+            };
         }
         rest = bits::without_lowest(rest);
     }
-    64
+    Found {
+        place: 64,
+        response: no_response(),
+    }
 }
 
 // The place of the lower sequence of two, and the first where they are equal.

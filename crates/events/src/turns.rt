@@ -24,8 +24,9 @@ pub fn sight(b: Board, e: Event) -> Sight
 {
     let at = board::first_free(b) as usize;
     if (e.kind == 2) | (e.kind == 6) {
-        let found = board::find_gtx(b, e.f12);
-        let old = board::response_at(b, found);
+        let named = board::find_gtx(b, e.f12);
+        let found = named.place;
+        let old = named.response;
         return Sight { at, found, old };
     }
     let old = board::response_at(b, 64);

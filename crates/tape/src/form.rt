@@ -1,7 +1,7 @@
 // The stated form of an order and of an event.
 ghost use mathlib.Core.Path.{_≡_};
 ghost use mathlib.Core.Bool.{true};
-ghost use Rattle.tape.specs.rules.Form.{allFrom, orderFormed, inside, shapeOf, shapeTests, eventFormed};
+ghost use Rattle.tape.specs.rules.Form.{allFrom, orderFormed, inside, shapeTests, eventFormed};
 use crate::event::Event;
 use crate::order::Order;
 use words::bits::mark;
@@ -72,86 +72,76 @@ const OFFERS: Range = Range {
     high: 1000000,
 };
 
-// The table of kinds; nothing fits a kind that it does not have.
-fn shape_of(kind: u8) -> Shape
-    ensures { λ r. ⌜ r ≡ shapeOf kind ⌝ }
-{
-    if kind == 1 {
-        return Shape {
-            marks: Range { low: 0, high: 1 },
-            low: true,
-            side: SIDES,
-            f12: SIZES,
-            f16: PRICES,
-            f20: UNUSED,
-            f24: UNUSED,
-        };
-    }
-    if kind == 2 {
-        return Shape {
-            marks: UNUSED,
-            low: true,
-            side: UNUSED,
-            f12: ANY,
-            f16: UNUSED,
-            f20: UNUSED,
-            f24: UNUSED,
-        };
-    }
-    if kind == 3 {
-        return Shape {
-            marks: Range { low: 0, high: 3 },
-            low: true,
-            side: SIDES,
-            f12: SIZES,
-            f16: PRICES,
-            f20: UNUSED,
-            f24: UNUSED,
-        };
-    }
-    if kind == 4 {
-        return Shape {
-            marks: Range { low: 0, high: 1 },
-            low: true,
-            side: SIDES,
-            f12: SIZES,
-            f16: UNUSED,
-            f20: UNUSED,
-            f24: UNUSED,
-        };
-    }
-    if kind == 5 {
-        return Shape {
-            marks: Range { low: 0, high: 15 },
-            low: false,
-            side: UNUSED,
-            f12: PRICES,
-            f16: PRICES,
-            f20: BIDS,
-            f24: OFFERS,
-        };
-    }
-    if kind == 6 {
-        return Shape {
-            marks: UNUSED,
-            low: true,
-            side: UNUSED,
-            f12: ANY,
-            f16: SIZES,
-            f20: PRICES,
-            f24: UNUSED,
-        };
-    }
-    Shape {
-        marks: Range { low: 1, high: 0 },
-        low: true,
-        side: UNUSED,
-        f12: UNUSED,
-        f16: UNUSED,
-        f20: UNUSED,
-        f24: UNUSED,
-    }
-}
+// The rows of the table of kinds, and the row that nothing fits.
+const GTX: Shape = Shape {
+    marks: Range { low: 0, high: 1 },
+    low: true,
+    side: SIDES,
+    f12: SIZES,
+    f16: PRICES,
+    f20: UNUSED,
+    f24: UNUSED,
+};
+
+const CANCEL: Shape = Shape {
+    marks: UNUSED,
+    low: true,
+    side: UNUSED,
+    f12: ANY,
+    f16: UNUSED,
+    f20: UNUSED,
+    f24: UNUSED,
+};
+
+const LIMIT: Shape = Shape {
+    marks: Range { low: 0, high: 3 },
+    low: true,
+    side: SIDES,
+    f12: SIZES,
+    f16: PRICES,
+    f20: UNUSED,
+    f24: UNUSED,
+};
+
+const MARKET: Shape = Shape {
+    marks: Range { low: 0, high: 1 },
+    low: true,
+    side: SIDES,
+    f12: SIZES,
+    f16: UNUSED,
+    f20: UNUSED,
+    f24: UNUSED,
+};
+
+const QUOTES: Shape = Shape {
+    marks: Range { low: 0, high: 15 },
+    low: false,
+    side: UNUSED,
+    f12: PRICES,
+    f16: PRICES,
+    f20: BIDS,
+    f24: OFFERS,
+};
+
+const AMEND: Shape = Shape {
+    marks: UNUSED,
+    low: true,
+    side: UNUSED,
+    f12: ANY,
+    f16: SIZES,
+    f20: PRICES,
+    f24: UNUSED,
+};
+
+const NOTHING: Shape = Shape {
+    marks: Range { low: 1, high: 0 },
+    low: true,
+    side: UNUSED,
+    f12: UNUSED,
+    f16: UNUSED,
+    f20: UNUSED,
+    f24: UNUSED,
+};
 
 fn within(x: u32, r: Range) -> bool
     ensures { λ t. ⌜ t ≡ inside x r ⌝ }
@@ -180,9 +170,27 @@ fn fits(e: Event, s: Shape) -> bool
         & within(e.f24, s.f24)
 }
 
-// An event is in the form of its kind.
+// An event is in the form of its kind: the kind is told first, so that each row is tested on constants.
 pub fn event_form(e: Event) -> bool
     ensures { λ r. ⌜ r ≡ eventFormed e ⌝ }
 {
-    fits(e, shape_of(e.kind))
+    if e.kind == 1 {
+        return fits(e, GTX);
+    }
+    if e.kind == 2 {
+        return fits(e, CANCEL);
+    }
+    if e.kind == 3 {
+        return fits(e, LIMIT);
+    }
+    if e.kind == 4 {
+        return fits(e, MARKET);
+    }
+    if e.kind == 5 {
+        return fits(e, QUOTES);
+    }
+    if e.kind == 6 {
+        return fits(e, AMEND);
+    }
+    fits(e, NOTHING)
 }

@@ -3,10 +3,11 @@ use Prim.Native.Nat.{ℕ, _^_, _<_}
 use mathlib.Core.Path.{_≡_, sym, ap, _∙_}
 use native.Mathlib.Omega.{arith}
 use borrow.Author.Needs.{needs}
-use lib.ListN.{length}
+use lib.ListN.{length, List·getD-eq-default}
 use Rattle.words.specs.rules.Bits.{withoutBit}
 use Rattle.words.proofs.BitLaws.{without-le, without-lt, without-lowest, LowestBit, lowest-set}
-use Rattle.board.specs.rules.Board.{noResponse, findIn, isGtx, findGtx}
+use Rattle.board.specs.rules.Board.{noResponse, responseAt, findIn, isGtx, findGtx}
+use Rattle.board.specs.declared.Response.{Response}
 use Rattle.base.proofs.ListLaws.{length-mapped}
 use Rattle.board.proofs.FindLaws.{find-low, find-rest, find-none}
 use Rattle.board.proofs.find_gtx.Statement.{statement}
@@ -35,11 +36,11 @@ first-set-requires c κs = search needs
 cast-i : tie.Need-cast-i Inv-loop μ-loop
 cast-i c = search needs
 
-mul-is-gtx : tie.Need-mul-is-gtx Inv-loop μ-loop
-mul-is-gtx c = omega (arith, low c .place)
+mul-r : tie.Need-mul-r Inv-loop μ-loop
+mul-r c = omega (arith, low c .place)
 
-element-copy-out-is-gtx : tie.Need-element-copy-out-is-gtx Inv-loop μ-loop
-element-copy-out-is-gtx c = low c .place
+element-copy-out-r : tie.Need-element-copy-out-r Inv-loop μ-loop
+element-copy-out-r c = low c .place
 
 is-gtx-requires : tie.Need-is-gtx-requires Inv-loop μ-loop
 is-gtx-requires c κs = search needs
@@ -50,8 +51,9 @@ returns c =
     let s = f .before .before .before in
     let i = f .first-set .result in
     let h : i < length (s .args .t1 .places) = omega (arith, len s, low f .place) in
-    sym (find-low (isGtx (s .args .sequence)) (f .before .before .loop .rest) (s .args .t1 .places) noResponse i h (low f) (sym (c .before .is-gtx .ensures) ∙ c .if1 .taken))
-    ∙ f .before .before .loop .inv .1
+    ap (λ (j : ℕ). record { place = j; response = responseAt (s .args .t1 .places) j })
+    (sym (find-low (isGtx (s .args .sequence)) (f .before .before .loop .rest) (s .args .t1 .places) noResponse i h (low f) (sym (c .before .is-gtx .ensures) ∙ c .if1 .taken))
+    ∙ f .before .before .loop .inv .1)
 
 without-lowest-requires : tie.Need-without-lowest-requires Inv-loop μ-loop
 without-lowest-requires c κs = search needs
@@ -78,12 +80,18 @@ loop-again c =
           ∙ l .loop .inv .1,
     )
 
+no-response-requires : tie.Need-no-response-requires Inv-loop μ-loop
+no-response-requires c κs = search needs
+
 returns-2 : tie.Need-returns-2 Inv-loop μ-loop
 returns-2 c =
-    let s = c .before .before in
+    let e = c .before in
+    let s = e .before .before in
     let t = isGtx (s .args .sequence) in
     let ps = s .args .t1 .places in
-    sym (ap (λ (v : ℕ). findIn t v ps) (c .loop-test .left) ∙ find-none t ps ∙ len s) ∙ c .before .loop .inv .1
+    let none : 64 ≡ findGtx (s .args .t1) (s .args .sequence) = sym (ap (λ (v : ℕ). findIn t v ps) (e .loop-test .left) ∙ find-none t ps ∙ len s) ∙ e .before .loop .inv .1 in
+    let nobody : c .no-response .result ≡ responseAt ps 64 = c .no-response .ensures ∙ sym (List·getD-eq-default ps noResponse (omega (arith, len s))) in
+    ap (λ (r : Response). record { place = 64; response = r }) nobody ∙ ap (λ (j : ℕ). record { place = j; response = responseAt ps j }) none
 
 pub find-gtx-spec : {M : Type 1} → statement M
 find-gtx-spec =
@@ -94,11 +102,12 @@ find-gtx-spec =
     loop-holds
     first-set-requires
     cast-i
-    mul-is-gtx
-    element-copy-out-is-gtx
+    mul-r
+    element-copy-out-r
     is-gtx-requires
     returns
     without-lowest-requires
     loop-less
     loop-again
+    no-response-requires
     returns-2)

@@ -8,6 +8,7 @@ use Rattle.words.specs.rules.Bits.{bitAt, withBit, withoutBit, onesIn, clearIn}
 use Rattle.base.specs.Lists.{keep}
 use Rattle.board.specs.declared.Response.{Response}
 use Rattle.board.specs.declared.Board.{Board}
+use Rattle.board.specs.declared.Found.{Found}
 
 -- what stands where no response was ever placed
 abbrev pub noResponse : Response
@@ -68,6 +69,10 @@ isGtx s r = r .gtx && eqb (r .sequence) s
 -- the place of the live GTX response with this sequence, and 64 where there is none
 abbrev pub findGtx : Board → ℕ → ℕ
 findGtx b s = findIn (isGtx s) (b .live) (b .places)
+
+-- and what stands there
+abbrev pub foundGtx : Board → ℕ → Found
+foundGtx b s = record { place = findGtx b s; response = responseAt (b .places) (findGtx b s) }
 
 -- ---- rising order of sequence
 

@@ -12,19 +12,16 @@ cast-at c = search needs
 find-gtx-requires : tie.Need-find-gtx-requires
 find-gtx-requires c κs = search needs
 
+returns : tie.Need-returns
+unfolding sightOf
+returns c = simp (c .before .before .if1 .taken, c .before .before .before .before .before .first-free .ensures, c .before .find-gtx .ensures)
+
 response-at-requires : tie.Need-response-at-requires
 response-at-requires c κs = search needs
 
-returns : tie.Need-returns
-unfolding sightOf
-returns c = simp (c .before .before .if1 .taken, c .before .before .before .before .before .first-free .ensures, c .before .find-gtx .ensures, c .response-at .ensures)
-
-response-at-requires-2 : tie.Need-response-at-requires-2
-response-at-requires-2 c κs = search needs
-
 returns-2 : tie.Need-returns-2
 unfolding sightOf
-returns-2 c = simp (c .before .if1 .left, c .before .before .before .before .first-free .ensures, c .response-at2 .ensures)
+returns-2 c = simp (c .before .if1 .left, c .before .before .before .before .first-free .ensures, c .response-at .ensures)
 
 pub sight-spec : {M : Type 1} → statement M
 sight-spec =
@@ -33,7 +30,6 @@ sight-spec =
     first-free-requires
     cast-at
     find-gtx-requires
-    response-at-requires
     returns
-    response-at-requires-2
+    response-at-requires
     returns-2)
