@@ -1035,6 +1035,8 @@ static void body_full(struct draft *d, int wide)
         if (!wide && chance(&d->g, 3))
             send_odd(d);
     }
+    if (a->n_live == PEER_PLACES)           /* an amend on a full board, once in any case */
+        send_some(d, rank_amend);
     for (k = (int)below(&d->g, wide ? 3 : 9); k > 0; k--) {
         switch (below(&d->g, 11)) {
         case 0:                             /* marketable, but it has to be placed */

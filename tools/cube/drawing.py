@@ -14,7 +14,8 @@ text { font-family: Helvetica, Arial, sans-serif; font-size: 11px; fill: #222 }
 .band { fill: #d9e4ef } .edge { stroke: #3d5a80; stroke-width: 1.5; fill: none } .after { fill: #f1f1f1 }
 .grid { stroke: #ddd; stroke-width: 0.6 } .frame { stroke: #444; stroke-width: 1; fill: none }
 .response line { stroke: #222; stroke-width: 2 } .response circle { fill: #222; stroke: #222 } .customer circle { fill: #fff; stroke-width: 1.5 }
-.cancel { stroke: #222; stroke-width: 1.6; fill: none } .amend { stroke: #222; stroke-width: 1; fill: none } .refusal path { stroke: #b00020; stroke-width: 1.6; fill: #fff } .refusal text { fill: #b00020 }
+.cancel { stroke: #222; stroke-width: 1.6; fill: none } .amend { stroke: #222; stroke-width: 1; fill: none }
+.refusal path { stroke: #b00020; stroke-width: 1.6; fill: #fff } .refusal text { fill: #b00020 }
 .event path { stroke: #3d5a80; stroke-width: 1.4; fill: #fff } .event text { fill: #3d5a80 }
 .stop { stroke: #222; stroke-width: 1; stroke-dasharray: 6 3 } .ending { stroke: #b00020; stroke-width: 1.8 } .ended { fill: #b00020; font-weight: bold; font-size: 12px }
 .contra { fill: #444; stroke: #222; stroke-width: 0.6 } .other { fill: #c9c9c9; stroke: #222; stroke-width: 0.6 } .lead { stroke: #999; stroke-width: 0.6; stroke-dasharray: 2 2 }

@@ -1,2 +1,2 @@
--- What is decided of an event, as document 01 has it.
+-- What is decided of an event, as documents 01 and 02 have it.
 pub mod Decide

@@ -1,2 +1,2 @@
--- What an event does, as document 01 has it.
+-- What an event does, as documents 01 and 02 have it.
 pub mod Step

@@ -29,13 +29,16 @@ fn one_fewer(before: Board, after: Board) -> bool {
     wide(live_count(after)) + 1 == wide(live_count(before))
 }
 
-// Of an event that was taken, by its kind: a limit order may take a place or none.
+// Of an event that was taken, by its kind: an amend takes no place and frees none, a limit order may take a place or none.
 fn is_taken(before: Board, after: Board, kind: u8) -> bool {
     if kind == 1 {
         return one_more(before, after);
     }
     if kind == 2 {
         return one_fewer(before, after);
+    }
+    if kind == 6 {
+        return before.live == after.live;
     }
     true
 }

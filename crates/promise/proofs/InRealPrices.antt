@@ -14,7 +14,7 @@ use Rattle.promise.specs.promises.Parts.{InRealPrices}
 use Rattle.promise.proofs.RealLaws.{ended-well, size-is, written-is}
 use Rattle.promise.proofs.Real.{own-limit, some, parties, contra-limit, works, fits, priority}
 use Rattle.promise.proofs.Standing.{stand, by-fold}
-use Rattle.promise.proofs.Gone.{gone-none}
+use Rattle.promise.proofs.Counted.{gone-none}
 use Rattle.promise.proofs.MarketTrades.{market-trades}
 use Rattle.promise.proofs.Shared.{filled, short, share, covered, guaranteed, guaranteed-last}
 

@@ -12,7 +12,7 @@ pub mod BuyShares
 pub mod Shared
 pub mod SharedFigures
 pub mod Standing
-pub mod Gone
+pub mod Counted
 pub mod MarketTrades
 pub mod InRealPrices
 pub mod Mirrored

@@ -4,7 +4,7 @@ use Rattle.run.proofs.Resend.{keeps}
 use Rattle.promise.specs.promises.Promise.{Promise}
 use Rattle.promise.proofs.Answered.{answered, roomed, filling, numbered, event-numbers, without-refused}
 use Rattle.promise.proofs.Resent.{same-records, resends, answered-alike}
-use Rattle.promise.proofs.Gone.{counted}
+use Rattle.promise.proofs.Counted.{counted}
 use Rattle.promise.proofs.Tapes.{can-lack, can-mirror}
 use Rattle.promise.proofs.Carried.{accepted}
 use Rattle.promise.proofs.Opening.{opens}

@@ -260,11 +260,11 @@ module _ (o : Order) (a : Auction) (e : Event) (s : Sound a) (w : Ours o (a .hea
       record {
         refuses = λ _ _ z. no (sym z);
         nothing = λ _ l _. stays l;
-        gtx = λ k _ f _ _. let k1 : e .kind ≡ 1 = sym (buy-kind e (terms .sell)) ∙ k in placed _ f (ok .newer) (sent-gtx o terms e (w .sell) (w .size) (ok .formed) k1) (stands-gtx o e rs k1);
+        gtx = λ k _ f _ _. let k1 : e .kind ≡ 1 = sym (buy-kind e (terms .sell)) ∙ k in placed _ f (ok .ordinary .newer) (sent-gtx o terms e (w .sell) (w .size) (ok .ordinary .formed) k1) (stands-gtx o e rs k1);
         limit = λ _ k d f p _.
             let k3 : e .kind ≡ 3 = sym (buy-kind e (terms .sell)) ∙ k in
-            let here : takesPlace o e ≡ true = takes-is k3 (ok .formed) ∙ and-both (ap not d) (le-leb _ _ p) in
-            placed _ f (ok .newer) (sent-limit o terms e (w .sell) (w .size) (ok .formed) k3)
+            let here : takesPlace o e ≡ true = takes-is k3 (ok .ordinary .formed) ∙ and-both (ap not d) (le-leb _ _ p) in
+            placed _ f (ok .ordinary .newer) (sent-limit o terms e (w .sell) (w .size) (ok .ordinary .formed) k3)
             (stands-else o e rs (ne-eqb (e .kind) 1 (λ z. omega arith)) (ne-eqb (e .kind) 2 (λ z. omega arith)) (ne-eqb (e .kind) 6 (λ z. omega arith)) true (and-both (eq-eqb _ _ k3) here));
         clear = λ k f _.
             let k2 : e .kind ≡ 2 = sym (buy-kind e (terms .sell)) ∙ k in
@@ -275,7 +275,7 @@ module _ (o : Order) (a : Auction) (e : Event) (s : Sound a) (w : Ours o (a .hea
             let k6 : e .kind ≡ 6 = sym (buy-kind e (terms .sell)) ∙ k in
             let found : view .found ≡ place = found-is (a .board) e (inr k6) in
             let at-place : Stood (seatedAt (a .board) (view .found) (amendedBy terms (responseAt (a .board .places) (view .found)) m)) =
-            subst (λ (i : ℕ). Stood (seatedAt (a .board) i (amendedBy terms (responseAt (a .board .places) i) m))) (sym found) (amended (omega (arith, f, found)) (ok .newer) k6 (ok .formed)) in
+            subst (λ (i : ℕ). Stood (seatedAt (a .board) i (amendedBy terms (responseAt (a .board .places) i) m))) (sym found) (amended (omega (arith, f, found)) (ok .ordinary .newer) k6 (ok .ordinary .formed)) in
             subst (λ (x : Response). Stood (seatedAt (a .board) (view .found) (amendedBy terms x m))) (sym (sees (a .board) e (s .board) .old)) at-place;
         quote = λ _ _ l _. stays l;
         sell = λ k _ _.
@@ -287,7 +287,7 @@ module _ (o : Order) (a : Auction) (e : Event) (s : Sound a) (w : Ours o (a .hea
       kept z = now ∙ sym z
 
       stays : Leaves terms m → Stood (a .board)
-      stays l = kept (leaves-all (ok .formed) l)
+      stays l = kept (leaves-all (ok .ordinary .formed) l)
 
   -- a record that is taken
   stands-step : isTaken (stepOf a e .answer) ≡ true → Stood (stepOf a e .auction .board)
@@ -371,7 +371,7 @@ gtx-side a e =
       does = λ o. record {
         refuses = λ _ _ z. no (sym z);
         nothing = λ _ l _ k. no (sym (is-one k) ∙ l .no-gtx);
-        gtx = λ k d _ _ _ _. other-side sell e (inl k) (o .formed) d;
+        gtx = λ k d _ _ _ _. other-side sell e (inl k) (o .ordinary .formed) d;
         limit = λ _ k _ _ _ _ z. absurd (omega (arith, k, buy-kind e sell));
         clear = λ k _ _ z. absurd (omega (arith, k, buy-kind e sell));
         amend = λ k _ _ _ z. absurd (omega (arith, k, buy-kind e sell));

@@ -66,7 +66,7 @@ module _ (s : Sight) (a : Auction) (e : Event) where
 
   in-time : InTime (a .head) e → stepBy s a e ≡ seatedOn (a .board) (carried (a .head) e (outcomeOf (a .head .terms) (a .head .quotes) s m))
   unfolding turnOf eventRefusal
-  in-time t = simp (t .opened, t .formed, lt-leb _ _ (t .newer), le-ltb _ _ (t .later), lt-leb _ _ (t .early))
+  in-time t = let o = t .ordinary in simp (o .opened, o .formed, lt-leb _ _ (o .newer), le-ltb _ _ (o .later), lt-leb _ _ (t .early))
 
   amend-is : e .kind ≡ 6 → outcomeOf (a .head .terms) (a .head .quotes) s m ≡ amendOutcome (a .head .terms) s m
   unfolding outcomeOf
@@ -196,7 +196,7 @@ does v a e s k6 sees =
         gtx = λ k _ _ _ _. absurd (omega (arith, is6, k));
         limit = λ _ k _ _ _ _. absurd (omega (arith, is6, k));
         clear = λ k _ _. absurd (omega (arith, is6, k));
-        amend = λ _ f _ _. amended (o .newer) f;
+        amend = λ _ f _ _. amended (o .ordinary .newer) f;
         quote = λ _ _ l _. no-other (l .no-amend);
         sell = λ k _ _. absurd (omega (arith, is6, k));
       };

@@ -125,7 +125,7 @@ market-step a e =
         quote = λ _ _ l. stays refl (λ _ z. leaves l z);
         sell = λ k d.
             let k4 : e .kind ≡ 4 = sym (buy-kind e sell) ∙ k in
-            sold refl (record { kind = k4; side = other-side sell e (inr (inr k)) (o .formed) d; sequence = buy-sequence e sell; size = market-size sell e k4; ending = refl; latest = refl });
+            sold refl (record { kind = k4; side = other-side sell e (inr (inr k)) (o .ordinary .formed) d; sequence = buy-sequence e sell; size = market-size sell e k4; ending = refl; latest = refl });
       };
     })
   where

@@ -20,7 +20,7 @@ use Rattle.auction.specs.rules.Accept.{initiatingOf, firstBound, guaranteedOf, 
 use Rattle.auction.specs.rules.Range.{isOpen}
 use Rattle.events.specs.rules.Step.{sightOf, eventRefusal, headAfter, endedByTime, turnOf, closeTurn, gives, seatedOn, stepBy, stepOf, closeOf}
 use Rattle.run.specs.rules.Run.{run, isTaken, takenOf}
-use Rattle.run.specs.promises.Demands.{InTime, timed, Rising, RefusedAgain, Keeps}
+use Rattle.run.specs.promises.Demands.{Ordinary, InTime, timed, Rising, RefusedAgain, Keeps}
 use Rattle.auction.specs.declared.Auction.{Auction}
 use Rattle.auction.specs.declared.Terms.{Terms}
 use Rattle.auction.specs.declared.Quotes.{Quotes}
@@ -92,14 +92,13 @@ module _ (s : Sight) (a : Auction) (e : Event) where
     unfolding turnOf eventRefusal
     formless f = simp (opened, f)
 
-    module _ (formed : eventFormed e ≡ true) (newer : a .head .sequence < e .sequence) where
-      before : e .time < a .head .clock → stepBy s a e ≡ gives (Refused 34) a
-      unfolding turnOf eventRefusal
-      before t = simp (opened, formed, lt-leb _ _ newer, lt-ltb _ _ t)
+    before : eventFormed e ≡ true → a .head .sequence < e .sequence → e .time < a .head .clock → stepBy s a e ≡ gives (Refused 34) a
+    unfolding turnOf eventRefusal
+    before formed newer t = simp (opened, formed, lt-leb _ _ newer, lt-ltb _ _ t)
 
-      when-late : a .head .clock ≤ e .time → a .head .terms .interval ≤ e .time → stepBy s a e ≡ gives Late (timed a)
-      unfolding turnOf eventRefusal
-      when-late t l = simp (opened, formed, lt-leb _ _ newer, le-ltb _ _ t, le-leb _ _ l)
+  when-late : Ordinary (a .head) e → a .head .terms .interval ≤ e .time → stepBy s a e ≡ gives Late (timed a)
+  unfolding turnOf eventRefusal
+  when-late o l = simp (o .opened, o .formed, lt-leb _ _ (o .newer), le-ltb _ _ (o .later), le-leb _ _ l)
 
   pub rises : a .head .sequence ≤ stepBy s a e .auction .head .sequence
   unfolding headAfter endedByTime
@@ -108,7 +107,7 @@ module _ (s : Sight) (a : Auction) (e : Event) where
       (record {
         refused = λ k _. le-refl _;
         late = λ o. le-refl _;
-        does = λ o. any-change _ _ _ _ _ (λ k _. le-refl _) (λ c g. le-of-lt (o .newer));
+        does = λ o. any-change _ _ _ _ _ (λ k _. le-refl _) (λ c g. le-of-lt (o .ordinary .newer));
       })
 
   ended-refuses : isOpen (a .head .ending) ≡ false → stepBy s a e ≡ gives (Refused 31) a
@@ -123,7 +122,7 @@ module _ (s : Sight) (a : Auction) (e : Event) where
       (record {
         refused = λ k _ z. no (sym z);
         late = λ o z. no (sym z);
-        does = λ o. any-change _ _ _ _ _ (λ k _ z. no (sym z)) (λ c g z. (o .formed, o .newer, refl));
+        does = λ o. any-change _ _ _ _ _ (λ k _ z. no (sym z)) (λ c g z. (o .ordinary .formed, o .ordinary .newer, refl));
       })
 
   taken-in-time : isTaken (stepBy s a e .answer) ≡ true → InTime (a .head) e

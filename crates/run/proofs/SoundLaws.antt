@@ -127,17 +127,17 @@ after-sound a e c g s bound good live distinct none apart =
 
 module _ (v : Sight) (a : Auction) (e : Event) (fits : Fits (a .board) v) (s : Sound a) (o : InTime (a .head) e) where
   no-size : a .head .market .size ≡ 0
-  no-size = s .no-market (o .opened)
+  no-size = s .no-market (o .ordinary .opened)
 
   no-more : {X : Type 0} → 0 < a .head .market .size → X
   no-more z = absurd (omega (arith, no-size))
 
   -- those that were live stand under the new highest sequence, and none of them bears it
   stand : Every (Stands (e .sequence) (a .head .terms .initiating)) (liveOf (a .board))
-  stand = every-map (Stands (a .head .sequence) (a .head .terms .initiating)) (Stands (e .sequence) (a .head .terms .initiating)) (liveOf (a .board)) (λ r h. (h .0, omega (arith, h .1, o .newer), h .2, h .3)) (s .live)
+  stand = every-map (Stands (a .head .sequence) (a .head .terms .initiating)) (Stands (e .sequence) (a .head .terms .initiating)) (liveOf (a .board)) (λ r h. (h .0, omega (arith, h .1, o .ordinary .newer), h .2, h .3)) (s .live)
 
   fresh : (k : ℕ) → k ≡ e .sequence → Absent k (liveOf (a .board))
-  fresh k z = every-map (Stands (a .head .sequence) (a .head .terms .initiating)) (λ r. r .sequence ≢ k) (liveOf (a .board)) (λ r h q. omega (arith, h .1, o .newer)) (s .live)
+  fresh k z = every-map (Stands (a .head .sequence) (a .head .terms .initiating)) (λ r. r .sequence ≢ k) (liveOf (a .board)) (λ r h q. omega (arith, h .1, o .ordinary .newer)) (s .live)
 
   -- a response of the event stands at a place i: a free one, or one of which the old response is gone
   seated-sound : (i : ℕ) (r : Response) (g : Ending) → r .sequence ≡ e .sequence → 1 ≤ r .size → r .price ≤ a .head .terms .initiating
@@ -146,7 +146,7 @@ module _ (v : Sight) (a : Auction) (e : Event) (fits : Fits (a .board) v) (s : S
       → Sound (after a e (Seat i r) g)
   seated-sound i r g q n p every distinct =
       after-sound a e (Seat i r) g s (s .bound-below) (seated-good (a .board) i r (s .board))
-      (every (Stands (e .sequence) (a .head .terms .initiating)) (omega (arith, q, o .newer), omega (arith, q), n, p) stand)
+      (every (Stands (e .sequence) (a .head .terms .initiating)) (omega (arith, q, o .ordinary .newer), omega (arith, q), n, p) stand)
       (distinct (fresh (r .sequence) q) (s .distinct))
       (λ _. no-size) no-more
 
@@ -163,11 +163,11 @@ module _ (v : Sight) (a : Auction) (e : Event) (fits : Fits (a .board) v) (s : S
         gtx = λ k _ f p.
             let k1 : e .kind ≡ 1 = sym (buy-kind e sell) ∙ k in
             placed-sound (responseOf true (min (sizeOf (buyEvent sell e)) (a .head .terms .size)) (buyEvent sell e)) Open f (buy-sequence e sell)
-            (omega (arith, priced-size e sell (mirror-one e k1), size-least e (inl k1) (o .formed), s .size)) p;
+            (omega (arith, priced-size e sell (mirror-one e k1), size-least e (inl k1) (o .ordinary .formed), s .size)) p;
         limit = λ g k _ f p.
             let k3 : e .kind ≡ 3 = sym (buy-kind e sell) ∙ k in
             placed-sound (responseOf false (sizeOf (buyEvent sell e)) (buyEvent sell e)) g f (buy-sequence e sell)
-            (omega (arith, priced-size e sell (mirror-three e k3), size-least e (inr (inl k3)) (o .formed))) p;
+            (omega (arith, priced-size e sell (mirror-three e k3), size-least e (inr (inl k3)) (o .ordinary .formed))) p;
         clear = λ k f.
             after-sound a e (Free (v .found)) Open s (s .bound-below) (cleared-good (a .board) (v .found) (s .board))
             (clear-every (a .board) (s .board) (Stands (e .sequence) (a .head .terms .initiating)) (v .found) stand)
@@ -176,13 +176,13 @@ module _ (v : Sight) (a : Auction) (e : Event) (fits : Fits (a .board) v) (s : S
         amend = λ k f p.
             let k6 : e .kind ≡ 6 = sym (buy-kind e sell) ∙ k in
             let r : Response = amendedBy (a .head .terms) (v .old) (buyEvent sell e) in
-            seated-sound (v .found) r Open (buy-sequence e sell) (omega (arith, amend-size e sell k6, new-size-least e k6 (o .formed), s .size)) p
+            seated-sound (v .found) r Open (buy-sequence e sell) (omega (arith, amend-size e sell k6, new-size-least e k6 (o .ordinary .formed), s .size)) p
             (λ P. amend-every (a .board) (s .board) P (v .found) r (fits .found f)) (amend-distinct (a .board) (s .board) (v .found) r (fits .found f));
         quote = λ n f _. after-sound a e (Quote n) Open s (f (s .bound-below)) (s .board) stand (s .distinct) (λ _. no-size) no-more;
         sell = λ _ _.
             after-sound a e (Sell (record { sequence = buyEvent sell e .sequence; size = sizeOf (buyEvent sell e) })) Opposite s (s .bound-below) (s .board) stand (s .distinct)
             (λ z. no (sym z))
-            (λ _. (omega (arith, buy-sequence e sell, o .newer), fresh (buyEvent sell e .sequence) (buy-sequence e sell)));
+            (λ _. (omega (arith, buy-sequence e sell, o .ordinary .newer), fresh (buyEvent sell e .sequence) (buy-sequence e sell)));
       }
 
 time-sound : (a : Auction) → Sound a → Sound (timed a)

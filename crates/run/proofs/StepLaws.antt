@@ -20,7 +20,7 @@ use Rattle.auction.specs.declared.Ending.the-variants.{Open, Same, Opposite, Im
 use Rattle.events.specs.rules.Step.{eventRefusal, stays, endedByTime, carried, turnOf}
 use Rattle.decision.specs.rules.Decide.{isCancel, isAmend, isCustomer, isNonRoutable, responseOf, gtxOutcome, cancelOutcome, amendedBy, amendOutcome, sellLimitOutcome, bidQuotes, moves, buyLimitOutcome, limitOutcome, marketOutcome, newQuotes, quotesOutcome, outcomeOf}
 use Rattle.tape.specs.rules.Fields.{sizeOf, priceOf, newPriceOf}
-use Rattle.run.specs.promises.Demands.{InTime, Names}
+use Rattle.run.specs.promises.Demands.{Ordinary, InTime, Names}
 use Rattle.events.specs.declared.Answer.the-variants.{Late, Refused}
 use Rattle.decision.specs.declared.Sight.{Sight}
 use Rattle.events.specs.declared.Turn.{Turn}
@@ -154,13 +154,6 @@ names-is m z = go (isCancel m) (isAmend m) refl refl z
 
 -- ---- the turn
 
--- what is known of an event that no ordinary refusal meets
-pub record Ordinary (h : Head) (e : Event) : Type 0 where
-  pub opened : isOpen (h .ending) ≡ true
-  pub formed : eventFormed e ≡ true
-  pub newer : h .sequence < e .sequence
-  pub later : h .clock ≤ e .time
-
 module _ (h : Head) (e : Event) where
   abbrev number : ℕ
   number = eventRefusal h e
@@ -176,9 +169,6 @@ module _ (h : Head) (e : Event) where
       by IfNone (leb (e .sequence) (h .sequence)) _ _ (λ _ z. no (sym z)) (λ s.
       by IfNone (ltb (e .time) (h .clock)) _ _ (λ _ z. no (sym z)) (λ t z.
       record { opened = not-false _ o; formed = not-false _ f; newer = leb-false _ _ s; later = ltb-false _ _ t }))))
-
-  in-time : Ordinary h e → e .time < h .terms .interval → InTime h e
-  in-time o l = record { opened = o .opened; formed = o .formed; newer = o .newer; later = o .later; early = l }
 
   numbered : eqb number 0 ≡ false → FirstNumber number
   unfolding eventRefusal
@@ -201,5 +191,5 @@ module _ (h : Head) (e : Event) where
     cases P k =
         by P (eqb number 0) _ _
         (λ z. by P (leb (h .terms .interval) (e .time)) _ _ (λ _. k .late (ordinary z)) (λ l.
-        outcomes (h .terms) (h .quotes) s (buyEvent (h .terms .sell) e) (λ o. P (carried h e o)) (k .does (in-time (ordinary z) (leb-false _ _ l)))))
+        outcomes (h .terms) (h .quotes) s (buyEvent (h .terms .sell) e) (λ o. P (carried h e o)) (k .does (record { ordinary = ordinary z; early = leb-false _ _ l }))))
         (λ z. k .refused number (numbered z))

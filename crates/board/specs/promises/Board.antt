@@ -56,7 +56,7 @@ pub record Amending (b : Board) (i : ℕ) (r : Response) : Type 0 where
   pub word : seatedAt b i r .live ≡ b .live
   pub count : liveCount (seatedAt b i r) ≡ liveCount b
 
--- what seating and clearing do, and when they do nothing
+-- what seating at a free place, at a live one, and clearing do, and when they do nothing
 pub record Changes : Type 0 where
   pub seats : (b : Board) (i : ℕ) (r : Response) → Good b → i < 64 → isLive b i ≡ false → Seating b i r
   pub amends : (b : Board) (i : ℕ) (r : Response) → Good b → isLive b i ≡ true → Amending b i r

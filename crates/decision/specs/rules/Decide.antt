@@ -1,4 +1,4 @@
--- What is decided of an event (document 01, "What an event does"), for a buy, on small values.
+-- What is decided of an event (document 01, "What an event does", and W-201 for amends), for a buy, on small values.
 use mathlib.Core.Bool.{Bool, true, false, cond, not, _&&_, _||_}
 use Prim.Native.Nat.{ℕ, min, max}
 use lib.Dec.{leb, ltb, eqb}

@@ -23,7 +23,7 @@ pub record Below : Type 0 where
   pub round-trips : RoundTrips
   -- mirrored orders and events
   pub records-mirror : RecordsMirror
-  -- the board: what is seated, freed, seen, found, and its order by sequence
+  -- the board: what is seated, amended, freed, seen, found, and its order by sequence
   pub changes : Changes
   pub seen : Seen
   pub finding : Finding

@@ -128,7 +128,8 @@ module _ (o : Order) (es : List Event) where
     -- they are those of demand 3's clauses, which hold of the buy that the order is or mirrors, with a sell's prices mirrored back
     pub clauses : Trades (atEnd o es)
     pub link : writtenFills o es ≡ reported (isSell o) (fills (dealOf (atEnd o es .head)) (offers (atEnd o es .board)))
-    -- the responses, by sequence, are those that the records taken leave standing, an amended one once, with its latest size and price; and the fills are those of these responses
+    -- the responses, by sequence, are those that the records taken leave standing, an amended one once, with its latest size and price; and the fills are those of these responses (of a sell
+    -- their prices are mirrored into the buy's, and the fills' prices back)
     pub stand : inSequence (liveAtEnd o es) ≡ standingOf o (takenRecords o es)
     pub by-fold : writtenFills o es ≡ reported (isSell o) (fills (dealOf (atEnd o es .head)) (map (sent (isSell o)) (standingOf o (takenRecords o es))))
     -- one that was cancelled or amended trades nothing under its old name

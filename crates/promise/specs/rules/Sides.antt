@@ -83,8 +83,8 @@ module _ (o : Order) where
   abbrev pub takesPlace : Event → Bool
   takesPlace e = eqb (e .side) (otherSide o) && not (better (isSell o) initiatingPrice (priceOf e))
 
-  -- what stands, by sequence, after a record: a GTX response stands, a cancel takes away the GTX response that it names, a limit order stands where it takes a place, an amend takes away the GTX response that it names and
-  -- another stands instead; no other record changes what stands
+  -- what stands, by sequence, after a record: a GTX response stands, a cancel takes away the GTX response that it names, a limit order stands where it takes a place,
+  -- an amend takes away the GTX response that it names and another stands instead; no other record changes what stands
   abbrev pub standsAfter : List Response → Event → List Response
   standsAfter rs e =
       let named = filter (isGtx (nameOf e)) rs in

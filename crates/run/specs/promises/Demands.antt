@@ -44,12 +44,16 @@ pub record Fits (b : Board) (s : Sight) : Type 0 where
 
 -- ---- refusals, whatever is seen
 
--- an event that none of 31 to 34 refuses, and that is not late
-pub record InTime (h : Head) (e : Event) : Type 0 where
+-- an event that none of 31 to 34 refuses
+pub record Ordinary (h : Head) (e : Event) : Type 0 where
   pub opened : isOpen (h .ending) ≡ true
   pub formed : eventFormed e ≡ true
   pub newer : h .sequence < e .sequence
   pub later : h .clock ≤ e .time
+
+-- and that is not late
+pub record InTime (h : Head) (e : Event) : Type 0 where
+  pub ordinary : Ordinary h e
   pub early : e .time < h .terms .interval
 
 -- the auction that ends by time: nothing but its ending moves
@@ -73,7 +77,7 @@ pub record Keeps : Type 0 where
   -- the highest sequence never falls
   pub rises : (s : Sight) (a : Auction) (e : Event) → a .head .sequence ≤ stepBy s a e .auction .head .sequence
   -- one at L or after it is late, whatever it is: it ends the auction by time, and is not applied
-  pub when-late : (s : Sight) (a : Auction) (e : Event) → isOpen (a .head .ending) ≡ true → eventFormed e ≡ true → a .head .sequence < e .sequence → a .head .clock ≤ e .time → a .head .terms .interval ≤ e .time → stepBy s a e ≡ gives Late (timed a)
+  pub when-late : (s : Sight) (a : Auction) (e : Event) → Ordinary (a .head) e → a .head .terms .interval ≤ e .time → stepBy s a e ≡ gives Late (timed a)
   pub late : (s : Sight) (a : Auction) (e : Event) → stepBy s a e .answer ≡ Late → stepBy s a e .auction ≡ timed a
   -- an ended auction never changes again, and answers 31 to all
   pub ended : (s : Sight) (a : Auction) (e : Event) → isOpen (a .head .ending) ≡ false → stepBy s a e ≡ gives (Refused 31) a

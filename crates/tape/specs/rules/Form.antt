@@ -1,4 +1,4 @@
--- The stated form of an order and of an event (document 01, "The tape").
+-- The stated form of an order and of an event (document 01, "The tape", and W-201 for amends).
 use mathlib.Core.Bool.{Bool, true, false, cond, not, _&&_, _||_}
 use mathlib.Core.List.{List, [], _∷_}
 use Prim.Native.Nat.{ℕ}

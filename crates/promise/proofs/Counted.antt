@@ -1,4 +1,4 @@
--- A response that was cancelled or amended never comes back, and its name is found no more. Assumes nothing.
+-- A response is counted once: one that was cancelled or amended never comes back, its name is found no more, and no fill bears it. Assumes nothing.
 use mathlib.Core.Path.{_≡_, refl, sym, ap, subst, _∙_}
 use mathlib.Core.Bool.{Bool, true, false, cond, _&&_}
 use mathlib.Core.List.{List, [], _∷_, map}
@@ -74,11 +74,11 @@ taken-away a e s names =
         nothing = λ _ l _. absurd (not-left names l);
         gtx = λ k _ _ _ _. absurd (not-kind names 1 k (λ z. omega arith) (λ z. omega arith));
         limit = λ _ k _ _ _ _. absurd (not-kind names 3 k (λ z. omega arith) (λ z. omega arith));
-        clear = λ _ f _. (known f .0, omega (arith, known f .1, o .newer), away f);
+        clear = λ _ f _. (known f .0, omega (arith, known f .1, o .ordinary .newer), away f);
         amend = λ _ f _ _. (
           known f .0,
-          omega (arith, known f .1, o .newer),
-          inserts-every (λ r. r .sequence ≢ nameOf e) (amending (a .board) (v .found) _ (s .board) (live f) .adds) (λ z. omega (arith, known f .1, o .newer, buy-sequence e sell)) (away f),
+          omega (arith, known f .1, o .ordinary .newer),
+          inserts-every (λ r. r .sequence ≢ nameOf e) (amending (a .board) (v .found) _ (s .board) (live f) .adds) (λ z. omega (arith, known f .1, o .ordinary .newer, buy-sequence e sell)) (away f),
         );
         quote = λ _ _ l _. absurd (not-left names l);
         sell = λ k _ _. absurd (not-kind names 4 k (λ z. omega arith) (λ z. omega arith));
@@ -128,7 +128,7 @@ stays-gone k a e s (p, l, g) = (p, omega (arith, rises v a e), cases (a .head) e
 
     does : InTime (a .head) e → Outcomes (a .head .terms) (a .head .quotes) v (buyEvent sell e) (λ u. Absent k (liveOf (boardAfter (a .board) (carried (a .head) e u .change))))
     does o =
-        let fresh : buyEvent sell e .sequence ≢ k = λ z. omega (arith, o .newer, buy-sequence e sell) in
+        let fresh : buyEvent sell e .sequence ≢ k = λ z. omega (arith, o .ordinary .newer, buy-sequence e sell) in
         record {
           refuses = λ _ _. g;
           nothing = λ _ _. g;
@@ -257,7 +257,7 @@ module _ (o : Order) (es : List Event) (h : acceptOf o .answer ≡ Accepted) whe
       → answerIs (stepOf then e .answer) ≡ cond (better (isSell o) (initiatingPrice o) (newPriceOf e)) (noNumber 36) (cond (hasNamed (nameOf e) (standingOf o (takenRecords o es))) (yes "taken") (noNumber 37))
   amend-answers e k t =
       ap answerIs (amends .answers (sightOf (then .board) e) then e k (amends .sees-named then e (inr k)) t) ∙ said-by (isAbove then e) (ltb (namedPlace then e) 64)
-      ∙ ap (λ (x : Bool). cond x (noNumber 36) (cond (ltb (namedPlace then e) 64) (yes "taken") (noNumber 37))) (above-is e (t .formed) k)
+      ∙ ap (λ (x : Bool). cond x (noNumber 36) (cond (ltb (namedPlace then e) 64) (yes "taken") (noNumber 37))) (above-is e (t .ordinary .formed) k)
       ∙ ap (λ (y : Bool). cond (better (isSell o) (initiatingPrice o) (newPriceOf e)) (noNumber 36) (cond y (yes "taken") (noNumber 37))) (stands-is (nameOf e))
 
   cancel-answers : (e : Event) → e .kind ≡ 2 → InTime (then .head) e → answerIs (stepOf then e .answer) ≡ cond (hasNamed (nameOf e) (standingOf o (takenRecords o es))) (yes "taken") (noNumber 37)
