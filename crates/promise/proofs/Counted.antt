@@ -30,7 +30,7 @@ use Rattle.events.specs.declared.Stepped.{Stepped}
 use Rattle.events.specs.rules.Step.{sightOf, boardAfter, carried, stepOf, headAfter, endedByTime, seatedOn, closeTurn}
 use Rattle.run.specs.rules.Run.{run, isTaken, closed, takenOf}
 use Rattle.run.proofs.StepLaws.{Outcomes, cases, Leaves}
-use Rattle.run.proofs.Resend.{rises, keeps}
+use Rattle.run.proofs.Resend.{rises, keeps, one}
 use Rattle.run.proofs.BoardSteps.{sees, seat-every, clear-every, amend-every}
 use Rattle.run.proofs.SoundLaws.{sound-opened, sound-step, sound-run}
 use Rattle.promise.specs.rules.Sides.{isSell, sent, responses, better, initiatingPrice, takenRecords, atEnd, writtenFills, standingOf, hasNamed}
@@ -55,7 +55,7 @@ use Rattle.auction.specs.rules.Range.{isOpen}
 use Rattle.events.specs.declared.Turn.{Turn}
 use Rattle.fills.specs.rules.Fills.{dealOf}
 use Prim.Native.String.{String}
-use Rattle.promise.proofs.Standing.{named-is, by-records, Made, made-by}
+use Rattle.promise.proofs.Standing.{named-is, by-records, Comes, come-from, sender}
 
 -- k is a sequence that was taken before the last; no live response bears it, and none ever will
 abbrev Gone : ℕ → Auction → Type 0
@@ -225,11 +225,16 @@ module _ (o : Order) (es : List Event) (h : acceptOf o .answer ≡ Accepted) whe
   never-back : (e : Event) → In e (takenRecords o es) → Names e → Absent (nameOf e) (responses then)
   never-back e i n = every-sent (λ r. r .sequence ≢ nameOf e) (then .head .terms .sell) (liveOf (then .board)) (gone e i n .2)
 
-  one-record : Every (OneRecord o es) (responses then)
+  pub one-record : Every (OneRecord o es) (responses then)
   one-record =
       every-with (OneRecord o es) (responses then) (λ r i.
-      let m : Made o es r = every-in (Made o es) (responses then) r (made-by o es h) i in
-      record { record-of = m .record-of; sends = m .sends; only = m .only; latest = λ g j n q. every-in (λ r. r .sequence ≢ nameOf g) (responses then) r (never-back g j n) i (sym q) })
+      let c : Comes o es r = every-in (Comes o es) (responses then) r (come-from o es h) i in
+      record {
+        record-of = c .record-of;
+        sends = c .sends;
+        only = λ g j q. one (acceptOf o .auction) es g (c .record-of) j (sender o es (c .sends)) (q ∙ c .named);
+        latest = λ g j n q. every-in (λ r. r .sequence ≢ nameOf g) (responses then) r (never-back g j n) i (sym q);
+      })
 
   -- the auction's own words for what stands, and for a price that is worse than the initiating price
   stands-is : (k : ℕ) → ltb (findGtx (then .board) k) 64 ≡ hasNamed k (standingOf o (takenRecords o es))

@@ -29,11 +29,12 @@ use Rattle.auction.specs.declared.Entry.the-variants.{Accepted}
 use Rattle.fills.specs.rules.Fills.{dealOf}
 use Rattle.run.proofs.Accepted.{opened, below-limit}
 use Rattle.promise.specs.rules.Sides.{isSell, better, sent, atEnd, writtenFills, liveAtEnd, marketOrder, workingPrice}
-use Rattle.promise.specs.promises.Parts.{Trader, auctionAfter}
+use Rattle.promise.specs.promises.Parts.{Trader, OneRecord, auctionAfter}
 use Rattle.promise.specs.promises.Parts.Trader.{theContra, aResponse, theMarket}
 use Rattle.promise.proofs.RealLaws.{better-shown, shown, Shows, in-shown, sent-in, close-terms, close-board, deal, live, dealt, demand, terms-are, mode-is, written-is, there-is, sent-fits, initiating-fits, price-fits, working-fits, works-is, got-is, was-live, every-written}
 use Rattle.promise.proofs.Resent.{ended-by, MarketRecord}
-use Rattle.promise.proofs.Standing.{Made, made-by, given}
+use Rattle.promise.proofs.Standing.{given}
+use Rattle.promise.proofs.Counted.{one-record}
 
 -- ---- a price against a field of the order
 
@@ -143,11 +144,11 @@ module _ (o : Order) (es : List Event) (h : acceptOf o .answer ≡ Accepted) whe
   -- ---- who trades
 
   -- the records of the responses live at the ending
-  still : Every (Made o es) (liveAtEnd o es)
+  still : Every (OneRecord o es) (liveAtEnd o es)
   still =
-      subst (λ (rs : List Response). Every (Made o es) rs)
+      subst (λ (rs : List Response). Every (OneRecord o es) rs)
       (sym (ap (λ (s : Bool). map (sent s) (liveOf (atEnd o es .board))) (ap (λ (t : Terms). t .sell) (close-terms (auctionAfter o es)))
-      ∙ ap (λ (b : Board). map (sent (auctionAfter o es .head .terms .sell)) (liveOf b)) (close-board (auctionAfter o es)))) (made-by o es h)
+      ∙ ap (λ (b : Board). map (sent (auctionAfter o es .head .terms .sell)) (liveOf b)) (close-board (auctionAfter o es)))) (one-record o es h)
 
   party-of : (f : Fill) → In f (dealt o es h) → demands.Party (deal o es h) (atEnd o es .board) (f .party) → Trader o es (shown (isSell o) f)
   unfolding dealOf
@@ -160,7 +161,7 @@ module _ (o : Order) (es : List Event) (h : acceptOf o .answer ≡ Accepted) whe
       theMarket e (k .ends) (z ∙ s) (omega (arith, g, dealing .market-fits n, k .ends .size))
   party-of f i (isResponse r j z) =
       let t : In (sent (isSell o) r) (liveAtEnd o es) = subst (In (sent (isSell o) r)) (sym (there-is o es h)) (sent-in (isSell o) (live o es h) r j) in
-      let k : Made o es (sent (isSell o) r) = every-in (Made o es) (liveAtEnd o es) (sent (isSell o) r) still t in
+      let k : OneRecord o es (sent (isSell o) r) = every-in (OneRecord o es) (liveAtEnd o es) (sent (isSell o) r) still t in
       let e : Event = k .record-of in
       let is = given o es (k .sends) in
       let s : r .sequence ≡ e .sequence = is .0 in

@@ -398,11 +398,11 @@ taken-side o (e ∷ es) a w = go (isTaken (stepOf a e .answer)) refl (taken-side
     go false z rest = rest
 
 module _ (o : Order) (es : List Event) where
-  -- a response with its latest record
-  record Comes (r : Response) : Type 0 where
-    latest : Event
-    sends : Sends o es latest r
-    named : r .sequence ≡ latest .sequence
+  -- a response with the record that made it
+  pub record Comes (r : Response) : Type 0 where
+    pub record-of : Event
+    pub sends : Sends o es record-of r
+    pub named : r .sequence ≡ record-of .sequence
 
   -- up to a sequence
   abbrev UpTo : ℕ → Response → Type 0
@@ -418,7 +418,7 @@ module _ (o : Order) (es : List Event) where
   -- a record adds its response
   one-more : (e : Event) (n : ℕ) (rs : List Response) → Known e → n ≤ e .sequence → ((e .kind ≡ 1) × (e .side ≡ otherSide o)) ⊎ ((e .kind ≡ 3) × (takesPlace o e ≡ true)) → Every (UpTo n) rs → Every (UpTo (e .sequence)) (rs ++ (sentBy o e ∷ []))
   one-more e n rs i l k h =
-      every-append (UpTo (e .sequence)) rs (sentBy o e ∷ []) (later n (e .sequence) rs l h) ((record { latest = e; sends = places e (i .0) k; named = refl }, le-refl _), tt)
+      every-append (UpTo (e .sequence)) rs (sentBy o e ∷ []) (later n (e .sequence) rs l h) ((record { record-of = e; sends = places e (i .0) k; named = refl }, le-refl _), tt)
 
   -- an amend's response comes from that of an earlier record
   instead : (e : Event) (n : ℕ) → Known e → n < e .sequence → e .kind ≡ 6 → (rs : List Response) → Every (UpTo n) rs → Every (λ r. isGtx (nameOf e) r ≡ true) rs → Every (UpTo (e .sequence)) (map (sentInstead o e) rs)
@@ -427,7 +427,7 @@ module _ (o : Order) (es : List Event) where
       let c : Comes r = h .0 .0 in
       let g : r .gtx ≡ true = and-left (r .gtx) _ (t .0) in
       let q : r .sequence ≡ nameOf e = eqb-true (r .sequence) (nameOf e) (and-right (r .gtx) _ (t .0)) in (
-        (record { latest = e; sends = amends e (c .latest) r (i .0) k (c .sends) g (sym q ∙ c .named) (omega (arith, c .named, h .0 .1)); named = refl }, le-refl _),
+        (record { record-of = e; sends = amends e (c .record-of) r (i .0) k (c .sends) g (sym q ∙ c .named) (omega (arith, c .named, h .0 .1)); named = refl }, le-refl _),
         instead e n i l k rs (h .1) (t .1),
       )
 
@@ -453,24 +453,17 @@ module _ (o : Order) (es : List Event) where
   after-all [] n rs k u h = every-map (UpTo n) Comes rs (λ r c. c .0) h
   after-all (e ∷ ts) n rs k u h = after-all ts (e .sequence) (standsAfter o rs e) (k .1) (u .1) (after-one e n rs (k .0) (u .0) h)
 
-  -- a response, its record, and no other record that bears its sequence
-  pub record Made (r : Response) : Type 0 where
-    pub record-of : Event
-    pub sends : Sends o es record-of r
-    pub only : (g : Event) → In g (takenRecords o es) → g .sequence ≡ r .sequence → g ≡ record-of
-
-  pub made-by : acceptOf o .answer ≡ Accepted → Every Made (responses (auctionAfter o es))
-  made-by h =
+  pub come-from : acceptOf o .answer ≡ Accepted → Every Comes (responses (auctionAfter o es))
+  come-from h =
       let a : Auction = acceptOf o .auction in
       let known : Every Known (takenRecords o es) = every-with Known (takenRecords o es) (λ e i. (i, every-in (λ e. e .kind ≡ 1 → e .side ≡ otherSide o) (takenRecords o es) e (taken-side o es a (terms-sell o h)) i)) in
       let all : Every Comes (inSequence (responses (auctionAfter o es))) = subst (Every Comes) (sym (by-records o es h)) (after-all (takenRecords o es) (a .head .sequence) [] known (rising es a) tt) in
-      every-with Made (responses (auctionAfter o es)) (λ r i.
-      let c : Comes r = every-in Comes (inSequence (responses (auctionAfter o es))) r all (in-shuffles r (sequence-shuffles (responses (auctionAfter o es))) i) in
-      record { record-of = c .latest; sends = c .sends; only = λ g j q. one a es g (c .latest) j (sender (c .sends)) (q ∙ c .named) })
-    where
-      sender : {e : Event} {r : Response} → Sends o es e r → In e (takenRecords o es)
-      sender (places e i _) = i
-      sender (amends e _ _ i _ _ _ _ _) = i
+      every-with Comes (responses (auctionAfter o es)) (λ r i. every-in Comes (inSequence (responses (auctionAfter o es))) r all (in-shuffles r (sequence-shuffles (responses (auctionAfter o es))) i))
+
+-- the record was taken
+pub sender : (o : Order) (es : List Event) {e : Event} {r : Response} → Sends o es e r → In e (takenRecords o es)
+sender o es (places e i _) = i
+sender o es (amends e _ _ i _ _ _ _ _) = i
 
 -- what a response's record gives it
 pub given : (o : Order) (es : List Event) {e : Event} {r : Response} → Sends o es e r → (r .sequence ≡ e .sequence) × (r .size ≤ givenSize e) × (r .price ≡ givenPrice e)
