@@ -29,7 +29,7 @@ pub fn bound_by(t: Terms, q: Quotes) -> u64
     bound(t.size, t.floor, q.bb, q.bidmark)
 }
 
-fn to_word(x: u64) -> u32
+pub(crate) fn to_word(x: u64) -> u32
     ensures { λ r. ⌜ r ≡ word x ⌝ }
 {
     if x < 4294967295 { x as u32 } else { 4294967295 }

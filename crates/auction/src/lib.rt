@@ -2,12 +2,15 @@
 use board::Board;
 
 mod bounds;
+mod offer;
 mod orders;
 
 pub use bounds::bound_by;
 pub use bounds::bound_now;
 pub use bounds::is_open;
 pub use bounds::price_range;
+pub use offer::moved_offer;
+pub use offer::on_offer;
 pub use orders::accept;
 
 // What is fixed at acceptance. `floor` is the NBB at initiation, `stop` the stop or auto-match limit as it was given.
@@ -46,7 +49,7 @@ pub enum Ending {
     Improve,
 }
 
-// An auction but for its board; `sequence` is the highest taken, `clock` the time of the last event taken.
+// An auction but for its board; `sequence` is the highest taken, `clock` the time of the last event taken, `offered` the contracts on offer: the sum of the live responses' sizes.
 pub struct Head {
     pub terms: Terms,
     pub quotes: Quotes,
@@ -54,6 +57,7 @@ pub struct Head {
     pub clock: u32,
     pub ending: Ending,
     pub market: Market,
+    pub offered: u32,
 }
 
 pub struct Auction {

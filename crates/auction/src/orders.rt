@@ -175,6 +175,7 @@ fn opened_by(sell: bool, b: Order) -> Auction
                 sequence: 0,
                 size: 0,
             },
+            offered: 0,
         },
         board,
     }
@@ -211,6 +212,7 @@ fn no_auction() -> Auction
                 sequence: 0,
                 size: 0,
             },
+            offered: 0,
         },
         board,
     }

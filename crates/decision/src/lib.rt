@@ -23,11 +23,11 @@ pub struct Sight {
     pub old: Response,
 }
 
-// What an event changes besides the sequence, the clock and the ending: a response takes a place, a place is freed, the quotes or the market order are new.
+// What an event changes besides the sequence, the clock and the ending: a response takes a place, a place is freed, the quotes or the market order are new. The last number of the first two is the size of the live response that is gone from the place; 0 where none is.
 pub enum Change {
     Nothing,
-    Seat(usize, Response),
-    Free(usize),
+    Seat(usize, Response, u32),
+    Free(usize, u32),
     Quote(Quotes),
     Sell(Market),
 }
@@ -57,7 +57,7 @@ fn seat(s: Sight, r: Response, ending: Ending) -> Outcome
 {
     let at = s.at;
     if at < 64 {
-        return Outcome::Does(Change::Seat(at, r), ending);
+        return Outcome::Does(Change::Seat(at, r, 0), ending);
     }
     Outcome::Refuses(38)
 }
@@ -79,7 +79,7 @@ fn cancel(s: Sight) -> Outcome
 {
     let found = s.found;
     if found < 64 {
-        return Outcome::Does(Change::Free(found), Ending::Open);
+        return Outcome::Does(Change::Free(found, s.old.size), Ending::Open);
     }
     Outcome::Refuses(37)
 }
@@ -105,7 +105,8 @@ fn amend(t: Terms, s: Sight, e: Event) -> Outcome
     }
     let found = s.found;
     if found < 64 {
-        return Outcome::Does(Change::Seat(found, amended(t, s.old, e)), Ending::Open);
+        let r = amended(t, s.old, e);
+        return Outcome::Does(Change::Seat(found, r, s.old.size), Ending::Open);
     }
     Outcome::Refuses(37)
 }

@@ -2,7 +2,7 @@
 ghost use mathlib.Core.Path.{_≡_};
 ghost use mathlib.Core.Bool.{cond};
 ghost use Rattle.auction.specs.rules.Range.{isOpen};
-ghost use Rattle.events.specs.rules.Step.{sightOf, eventRefusal, quotesAfter, marketAfter, stays, endedByTime, headAfter, carried, turnOf, closeTurn};
+ghost use Rattle.events.specs.rules.Step.{sightOf, eventRefusal, quotesAfter, marketAfter, offeredAfter, stays, endedByTime, headAfter, carried, turnOf, closeTurn};
 use crate::Answer;
 use crate::Turn;
 use auction::Ending;
@@ -10,6 +10,7 @@ use auction::Head;
 use auction::Market;
 use auction::Quotes;
 use auction::is_open;
+use auction::moved_offer;
 use board::Board;
 use decision::Change;
 use decision::Outcome;
@@ -79,6 +80,7 @@ fn by_time(h: Head) -> Head
         clock,
         ending: Ending::Time,
         market,
+        offered: h.offered,
     }
 }
 
@@ -87,8 +89,8 @@ fn quotes_after(q: Quotes, c: Change) -> Quotes
 {
     match c {
         Change::Nothing => q,
-        Change::Seat(_, _) => q,
-        Change::Free(_) => q,
+        Change::Seat(_, _, _) => q,
+        Change::Free(_, _) => q,
         Change::Quote(n) => n,
         Change::Sell(_) => q,
     }
@@ -99,10 +101,23 @@ fn market_after(m: Market, c: Change) -> Market
 {
     match c {
         Change::Nothing => m,
-        Change::Seat(_, _) => m,
-        Change::Free(_) => m,
+        Change::Seat(_, _, _) => m,
+        Change::Free(_, _) => m,
         Change::Quote(_) => m,
         Change::Sell(n) => n,
+    }
+}
+
+// The contracts on offer after a change.
+fn offered_after(n: u32, c: Change) -> u32
+    ensures { λ r. ⌜ r ≡ offeredAfter n c ⌝ }
+{
+    match c {
+        Change::Nothing => n,
+        Change::Seat(_, r, gone) => moved_offer(n, gone, r.size),
+        Change::Free(_, gone) => moved_offer(n, gone, 0),
+        Change::Quote(_) => n,
+        Change::Sell(_) => n,
     }
 }
 
@@ -113,6 +128,7 @@ fn head_after(h: Head, e: Event, c: Change, ending: Ending) -> Head
     let terms = h.terms;
     let quotes = quotes_after(h.quotes, c);
     let market = market_after(h.market, c);
+    let offered = offered_after(h.offered, c);
     Head {
         terms,
         quotes,
@@ -120,6 +136,7 @@ fn head_after(h: Head, e: Event, c: Change, ending: Ending) -> Head
         clock: e.time,
         ending,
         market,
+        offered,
     }
 }
 

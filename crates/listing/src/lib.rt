@@ -73,13 +73,13 @@ fn put_events(tape: &[u8], t: Trailer, a: Auction, out: &mut [u8], start: usize)
         w = put_event(out, w, e.sequence, answer);
         let c = u.change;
         match c {
-            Change::Seat(i, r) => {
+            Change::Seat(i, r, _) => {
                 if i < 64 {
                     b.places[i] = r;
                     b.live = bits::with_bit(b.live, i);
                 }
             }
-            Change::Free(i) => {
+            Change::Free(i, _) => {
                 b.live = bits::without_bit(b.live, i);
             }
             Change::Nothing => {}

@@ -85,7 +85,7 @@ noMarket = record { sequence = 0; size = 0 }
 unfoldable pub openedBy : Bool → Order → Auction
 openedBy sell b =
     record {
-      head = record { terms = termsOf sell b; quotes = quotesOf b; sequence = 0; clock = 0; ending = Open; market = noMarket };
+      head = record { terms = termsOf sell b; quotes = quotesOf b; sequence = 0; clock = 0; ending = Open; market = noMarket; offered = 0 };
       board = emptyBoard;
     }
 
@@ -101,6 +101,7 @@ noAuction =
             clock = 0;
             ending = Time;
             market = noMarket;
+            offered = 0;
           };
       board = emptyBoard;
     }

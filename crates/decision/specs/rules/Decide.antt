@@ -35,7 +35,7 @@ responseOf gtx size e = record { sequence = e .sequence; size = size; price = pr
 
 -- a response has to be placed: 38 where there is no place for it
 abbrev pub seats : Sight → Response → Ending → Outcome
-seats s r ending = cond (ltb (s .at) 64) (Does (Seat (s .at) r) ending) (Refuses 38)
+seats s r ending = cond (ltb (s .at) 64) (Does (Seat (s .at) r 0) ending) (Refuses 38)
 
 -- a GTX response: its size is capped at the CUBE size
 unfoldable pub gtxOutcome : Terms → Sight → Event → Outcome
@@ -45,7 +45,7 @@ gtxOutcome t s e =
     (seats s (responseOf true (min (sizeOf e) (t .size)) e) Open))
 
 unfoldable pub cancelOutcome : Sight → Outcome
-cancelOutcome s = cond (ltb (s .found) 64) (Does (Free (s .found)) Open) (Refuses 37)
+cancelOutcome s = cond (ltb (s .found) 64) (Does (Free (s .found) (s .old .size)) Open) (Refuses 37)
 
 -- the GTX response that an amend makes of an old one: the event's sequence, the new size, capped at the CUBE size, the new price; the Customer mark stays
 abbrev pub amendedBy : Terms → Response → Event → Response
@@ -55,7 +55,7 @@ amendedBy t old e = record { sequence = e .sequence; size = min (newSizeOf e) (t
 unfoldable pub amendOutcome : Terms → Sight → Event → Outcome
 amendOutcome t s e =
     cond (ltb (t .initiating) (newPriceOf e)) (Refuses 36)
-    (cond (ltb (s .found) 64) (Does (Seat (s .found) (amendedBy t (s .old) e)) Open) (Refuses 37))
+    (cond (ltb (s .found) 64) (Does (Seat (s .found) (amendedBy t (s .old) e) (s .old .size)) Open) (Refuses 37))
 
 -- a sell limit: marketable at the NBB or below (non-routable: the BB); it takes a place where it is not above the initiating price
 unfoldable pub sellLimitOutcome : Terms → Quotes → Sight → Event → Outcome

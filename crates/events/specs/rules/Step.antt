@@ -10,6 +10,7 @@ use Rattle.tape.specs.rules.Fields.{nameOf}
 use Rattle.mirror.specs.rules.Mirror.{buyEvent}
 use Rattle.decision.specs.rules.Decide.{isCancel, isAmend, outcomeOf}
 use Rattle.auction.specs.rules.Range.{isOpen}
+use Rattle.auction.specs.rules.Offer.{movedOffer}
 use Rattle.auction.specs.declared.Auction.{Auction}
 use Rattle.auction.specs.declared.Head.{Head}
 use Rattle.auction.specs.declared.Quotes.{Quotes}
@@ -46,28 +47,36 @@ foundFor b e = cond (isCancel e || isAmend e) (findGtx b (nameOf e)) 64
 unfoldable pub sightOf : Board → Event → Sight
 sightOf b e = record { at = firstFree b; found = foundFor b e; old = responseAt (b .places) (foundFor b e) }
 
--- ---- what a change makes of the board, the quotes and the market order
+-- ---- what a change makes of the board, the quotes, the market order and the contracts on offer
 
 abbrev pub boardAfter : Board → Change → Board
 boardAfter b Nothing = b
-boardAfter b (Seat i r) = seatedAt b i r
-boardAfter b (Free i) = cleared b i
+boardAfter b (Seat i r gone) = seatedAt b i r
+boardAfter b (Free i gone) = cleared b i
 boardAfter b (Quote q) = b
 boardAfter b (Sell m) = b
 
 abbrev pub quotesAfter : Quotes → Change → Quotes
 quotesAfter q Nothing = q
-quotesAfter q (Seat i r) = q
-quotesAfter q (Free i) = q
+quotesAfter q (Seat i r gone) = q
+quotesAfter q (Free i gone) = q
 quotesAfter q (Quote n) = n
 quotesAfter q (Sell m) = q
 
 abbrev pub marketAfter : Market → Change → Market
 marketAfter m Nothing = m
-marketAfter m (Seat i r) = m
-marketAfter m (Free i) = m
+marketAfter m (Seat i r gone) = m
+marketAfter m (Free i gone) = m
 marketAfter m (Quote n) = m
 marketAfter m (Sell n) = n
+
+-- a response that is placed counts with the size that it has on the board, one that is cancelled or amended no more; a market order never does
+abbrev pub offeredAfter : ℕ → Change → ℕ
+offeredAfter n Nothing = n
+offeredAfter n (Seat i r gone) = movedOffer n gone (r .size)
+offeredAfter n (Free i gone) = movedOffer n gone 0
+offeredAfter n (Quote q) = n
+offeredAfter n (Sell m) = n
 
 -- ---- the turn: the answer to an event, the head after it, and what becomes of the board
 
@@ -78,7 +87,7 @@ stays answer h = record { answer = answer; head = h; change = Nothing }
 -- by time: nothing but the ending moves
 unfoldable pub endedByTime : Head → Head
 endedByTime h =
-    record { terms = h .terms; quotes = h .quotes; sequence = h .sequence; clock = h .clock; ending = Time; market = h .market }
+    record { terms = h .terms; quotes = h .quotes; sequence = h .sequence; clock = h .clock; ending = Time; market = h .market; offered = h .offered }
 
 -- an event that is taken, or ends the auction, moves the highest sequence and the clock
 unfoldable pub headAfter : Head → Event → Change → Ending → Head
@@ -90,6 +99,7 @@ headAfter h e c ending =
       clock = e .time;
       ending = ending;
       market = marketAfter (h .market) c;
+      offered = offeredAfter (h .offered) c;
     }
 
 -- what is decided of an event, carried out
