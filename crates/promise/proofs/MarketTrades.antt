@@ -22,7 +22,7 @@ use Rattle.demand.proofs.Lists.{tally-append, got-fill}
 use Rattle.auction.specs.rules.Accept.{acceptOf}
 use Rattle.auction.specs.declared.Entry.the-variants.{Accepted}
 use Rattle.fills.specs.rules.Fills.{dealOf}
-use Rattle.run.proofs.SoundLaws.{size-least}
+use Rattle.run.proofs.SoundLaws.{size-of}
 use Rattle.promise.specs.rules.Sides.{otherSide, takenRecords, atEnd, writtenFills, marketOrder}
 use Rattle.promise.specs.promises.Parts.{Ends}
 use Rattle.promise.proofs.RealLaws.{deal, dealt, demand, size-is, got-is}
@@ -55,5 +55,5 @@ module _ (o : Order) (es : List Event) (h : acceptOf o .answer ≡ Accepted) whe
   market-trades e i k d =
       let f : eventFormed e ≡ true = every-in (λ x. eventFormed x ≡ true) (takenRecords o es) e (taken-formed es (acceptOf o .auction)) i in
       let ends : Ends o es e = market-ends o es h e i k d in
-      let g = market-got (omega (arith, ends .size, size-least e (inr (inr k)) f)) in
+      let g = market-got (omega (arith, ends .size, size-of e (inr (inr k)) f .0)) in
       (ends, ap (λ (n : ℕ). got n (writtenFills o es)) (sym (ends .sequence)) ∙ g ∙ ap (min (o .size)) (ends .size))

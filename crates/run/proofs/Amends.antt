@@ -218,10 +218,10 @@ does v a e s k6 sees =
     made-for : NewFor (a .head .terms) (responseAt (a .board .places) (namedPlace a e)) e r
     made-for = record { sequence = buy-sequence e sell; size = ap (λ (n : ℕ). min n (a .head .terms .size)) (amend-size e sell k6); price = refl; customer = refl; gtx = refl }
 
-    amended : a .head .sequence < e .sequence → v .found < 64 → Amended a e (seatedOn (a .board) (carried (a .head) e (Does (Seat (v .found) (amendedBy (a .head .terms) (v .old) (buyEvent sell e))) Open)) .auction)
+    amended : a .head .sequence < e .sequence → v .found < 64 → Amended a e (seatedOn (a .board) (carried (a .head) e (Does (Seat (v .found) (amendedBy (a .head .terms) (v .old) (buyEvent sell e)) (v .old .size)) Open)) .auction)
     amended newer f =
-        subst (λ (i : ℕ). Amended a e (seatedOn (a .board) (carried (a .head) e (Does (Seat i (amendedBy (a .head .terms) (v .old) (buyEvent sell e))) Open)) .auction)) (sym (sees .found))
-        (subst (λ (x : Response). Amended a e (seatedOn (a .board) (carried (a .head) e (Does (Seat (namedPlace a e) (amendedBy (a .head .terms) x (buyEvent sell e))) Open)) .auction)) (sym (sees .old))
+        subst (λ (i : ℕ). Amended a e (seatedOn (a .board) (carried (a .head) e (Does (Seat i (amendedBy (a .head .terms) (v .old) (buyEvent sell e)) (v .old .size)) Open)) .auction)) (sym (sees .found))
+        (subst (λ (x : Response). Amended a e (seatedOn (a .board) (carried (a .head) e (Does (Seat (namedPlace a e) (amendedBy (a .head .terms) x (buyEvent sell e)) (x .size)) Open)) .auction)) (sym (sees .old))
         (record {
           named = at a e s newer found r (made-for .sequence) refl;
           stands = subst (NewFor (a .head .terms) (responseAt (a .board .places) (namedPlace a e)) e) (sym (made a e s newer found r (made-for .sequence) refl .stands)) made-for;

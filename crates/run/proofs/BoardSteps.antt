@@ -1,20 +1,23 @@
--- What seating and clearing keep of the live responses, and what an event sees of a board. Assumes nothing.
+-- What seating and clearing keep of the live responses, what becomes of the sum of their sizes, and what an event sees of a board. Assumes nothing.
 use mathlib.Core.Path.{_≡_, refl, sym, subst}
 use mathlib.Core.Bool.{Bool, true, false, _||_}
-use mathlib.Core.List.{List}
+use mathlib.Core.List.{List, [], _∷_}
 use mathlib.Core.Logic.{_≢_}
-use Prim.Native.Nat.{ℕ, _<_}
+use Prim.Native.Nat.{ℕ, _+_, _*_, _≤_, _<_}
 use native.Mathlib.Omega.{arith}
-use Rattle.base.specs.Lists.{Every, Inserts}
+use lib.ListN.{length}
+use Rattle.base.specs.Lists.{Every, Inserts, sum}
 use Rattle.base.specs.Lists.Inserts.{here, there}
 use Rattle.base.proofs.ListLaws.{inserts-every, every-inserts}
 use Rattle.base.proofs.Bools.{by}
-use Rattle.board.specs.rules.Board.{isLive, liveOf, seatedAt, cleared, findGtx}
+use Rattle.board.specs.rules.Board.{responseAt, isLive, liveOf, seatedAt, cleared, findGtx}
 use Rattle.board.specs.promises.Board.{Good}
 use Rattle.board.specs.declared.Board.{Board}
 use Rattle.board.specs.declared.Response.{Response}
 use Rattle.board.proofs.BoardLaws.{seating, amending, clearing, cleared-dead, find-gtx}
 use Rattle.words.proofs.BitLaws.{clear-is}
+use Rattle.share.specs.rules.Fills.{sizes}
+use Rattle.trade.proofs.CodeLaws.{live-short}
 use Rattle.tape.specs.declared.event.Event.{Event}
 use Rattle.demand.specs.promises.Demands.{Absent, Distinct}
 use Rattle.tape.specs.rules.Fields.{nameOf}
@@ -68,3 +71,29 @@ module _ (b : Board) (g : Good b) where
       go : (l : Bool) → isLive b i ≡ l → Distinct (liveOf (cleared b i))
       go true z = distinct-less (clearing b i g z .takes) d
       go false z = subst (λ (c : Board). Distinct (liveOf c)) (sym (cleared-dead b i z)) d
+
+-- ---- the sum of the sizes
+
+sizes-more : {r : Response} {xs ys : List Response} → Inserts r xs ys → sum (sizes ys) ≡ r .size + sum (sizes xs)
+unfolding sum
+sizes-more here = refl
+sizes-more (there i) = omega (arith, sizes-more i)
+
+sizes-few : (rs : List Response) → Every (λ r. r .size ≤ 100000) rs → sum (sizes rs) ≤ 100000 * length rs
+unfolding sum
+sizes-few [] h = omega arith
+sizes-few (r ∷ rs) h = omega (arith, h .0, sizes-few rs (h .1))
+
+module _ (b : Board) (g : Good b) where
+  pub seat-sizes : (i : ℕ) (r : Response) → i < 64 → isLive b i ≡ false → sum (sizes (liveOf (seatedAt b i r))) ≡ r .size + sum (sizes (liveOf b))
+  seat-sizes i r l z = sizes-more (seating b i r g l z .adds)
+
+  pub clear-sizes : (i : ℕ) → isLive b i ≡ true → sum (sizes (liveOf b)) ≡ responseAt (b .places) i .size + sum (sizes (liveOf (cleared b i)))
+  clear-sizes i z = sizes-more (clearing b i g z .takes)
+
+  pub amend-sizes : (i : ℕ) (r : Response) → isLive b i ≡ true → responseAt (b .places) i .size + sum (sizes (liveOf (seatedAt b i r))) ≡ r .size + sum (sizes (liveOf b))
+  amend-sizes i r z = let m = amending b i r g z in omega (arith, sizes-more (m .takes), sizes-more (m .adds))
+
+  -- 64 places, of 100,000 each at most
+  pub live-sizes : Every (λ r. r .size ≤ 100000) (liveOf b) → sum (sizes (liveOf b)) ≤ 6400000
+  live-sizes h = omega (arith, sizes-few (liveOf b) h, live-short (b .live) (b .places), g .places-are)

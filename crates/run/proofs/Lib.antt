@@ -5,6 +5,7 @@ pub mod BoardSteps
 pub mod Accepted
 pub mod SoundLaws
 pub mod Amends
+pub mod OnOffer
 pub mod MarketFrom
 pub mod Mirrors
 pub mod LentLaws

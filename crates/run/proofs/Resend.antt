@@ -43,10 +43,10 @@ any-change t q s m P r d =
     record {
       refuses = r;
       nothing = λ g _. d Nothing g;
-      gtx = λ _ _ _ _. d (Seat _ _) _;
-      limit = λ g _ _ _ _. d (Seat _ _) g;
-      clear = λ _ _. d (Free _) _;
-      amend = λ _ _ _. d (Seat _ _) _;
+      gtx = λ _ _ _ _. d (Seat _ _ _) _;
+      limit = λ g _ _ _ _. d (Seat _ _ _) g;
+      clear = λ _ _. d (Free _ _) _;
+      amend = λ _ _ _. d (Seat _ _ _) _;
       quote = λ n _ _. d (Quote n) _;
       sell = λ _ _. d (Sell _) _;
     }

@@ -6,18 +6,18 @@ use mathlib.Core.Logic.{_⊎_, inl, inr, _≢_}
 use Prim.Native.Nat.{ℕ, _+_, _-_, _≤_, _<_, min}
 use native.Mathlib.Omega.{arith}
 use lib.Dec.{eqb}
-use Rattle.base.specs.Lists.{Every}
+use Rattle.base.specs.Lists.{Every, sum}
 use Rattle.base.proofs.Bools.{by, no}
 use Rattle.base.proofs.ListLaws.{every-map}
-use Rattle.board.specs.rules.Board.{liveOf, seatedAt}
+use Rattle.board.specs.rules.Board.{liveOf, seatedAt, cleared}
 use Rattle.board.specs.promises.Board.{Good}
 use Rattle.board.specs.declared.Response.{Response}
 use Rattle.board.proofs.BoardLaws.{empty-good, empty-live, seated-good, cleared-good}
-use Rattle.share.specs.rules.Fills.{Fill}
+use Rattle.share.specs.rules.Fills.{Fill, sizes}
 use Rattle.tape.specs.declared.event.Event.{Event}
 use Rattle.tape.specs.declared.order.Order.{Order}
-use Rattle.tape.specs.rules.Form.{eventFormed, shapeOf, shapeTests, orderFormed}
-use Rattle.tape.proofs.FormLaws.{each, within-ge, order-bounds}
+use Rattle.tape.specs.rules.Form.{eventFormed, shapeOf, shapeTests, orderFormed, within}
+use Rattle.tape.proofs.FormLaws.{each, within-ge, within-le, order-bounds}
 use Rattle.trade.specs.rules.Trade.{offers, fills, traded}
 use Rattle.trade.specs.rules.Write.{reportedPrice, reported, fillsOf}
 use Rattle.demand.specs.promises.Demands.{Absent, Distinct, InRange, Tradable as SoundDeal}
@@ -27,7 +27,7 @@ use Rattle.mirror.specs.rules.Mirror.{mirroredOrder, buyOrder, buyEvent}
 use Rattle.auction.specs.rules.Accept.{initiatingOf, termsOf, quotesOf, openedBy, acceptOf}
 use Rattle.auction.specs.rules.Range.{isOpen, boundBy, boundNow, rangeOf}
 use Rattle.tape.specs.rules.Fields.{sizeOf, newSizeOf}
-use Rattle.events.specs.rules.Step.{sightOf, boardAfter, quotesAfter, marketAfter, headAfter, endedByTime, carried, closeTurn, seatedOn, stepBy, stepOf, closeOf}
+use Rattle.events.specs.rules.Step.{sightOf, boardAfter, quotesAfter, marketAfter, offeredAfter, headAfter, endedByTime, carried, closeTurn, seatedOn, stepBy, stepOf, closeOf}
 use Rattle.decision.specs.rules.Decide.{responseOf, amendedBy}
 use Rattle.fills.specs.rules.Fills.{dealOf}
 use Rattle.run.specs.rules.Run.{run, played}
@@ -43,14 +43,14 @@ use Rattle.events.specs.declared.Turn.{Turn}
 use Rattle.auction.specs.declared.Entry.the-variants.{Accepted}
 use Rattle.run.proofs.StepLaws.{Outcomes, cases}
 use Rattle.mirror.proofs.EventLaws.{buy-sequence, buy-kind, mirror-one, mirror-three, priced-size, amend-size}
-use Rattle.run.proofs.BoardSteps.{sees, seat-every, amend-every, clear-every, seat-distinct, amend-distinct, clear-distinct}
+use Rattle.run.proofs.BoardSteps.{sees, seat-every, amend-every, clear-every, seat-distinct, amend-distinct, clear-distinct, seat-sizes, amend-sizes, clear-sizes, live-sizes}
 use Rattle.run.proofs.Accepted.{Passed, bound-fits, opened, price-fits}
 use Rattle.run.proofs.Resend.{keeps}
 
 -- ---- at the opening
 
 opened-sound : (s : Bool) (b : Order) → Passed b → initiatingOf b ≤ 999999 → (1 ≤ b .mode) × (b .mode ≤ 3) → Sound (openedBy s b)
-unfolding openedBy termsOf quotesOf
+unfolding openedBy termsOf quotesOf sum
 opened-sound s b p q m =
     record {
       bound-below = bound-fits b p;
@@ -61,6 +61,7 @@ opened-sound s b p q m =
       board = empty-good;
       live = subst (Every _) (sym empty-live) tt;
       distinct = subst Distinct (sym empty-live) tt;
+      offered = sym (ap (λ (rs : List Response). sum (sizes rs)) empty-live);
       no-market = λ _. refl;
       market-apart = λ z. absurd (omega arith);
     }
@@ -77,27 +78,35 @@ sound-opened o h = let k = opened o h in subst Sound (sym (k .auction)) (opened-
 
 -- ---- a step
 
--- the size of a GTX response, a limit order or a market order in form
-size-some : (e : Event) → eventFormed e ≡ true → shapeOf (e .kind) .f12 .low ≤ sizeOf e
-unfolding eventFormed shapeTests
-size-some e h = within-ge (sizeOf e) (shapeOf (e .kind) .f12 .low) (shapeOf (e .kind) .f12 .high) (each (shapeTests (shapeOf (e .kind)) e) true h 4)
+-- a size that an event in form may have
+abbrev pub Size : ℕ → Type 0
+Size n = (1 ≤ n) × (n ≤ 100000)
 
 -- the kinds that have a size
-sized : (k : ℕ) → (k ≡ 1) ⊎ ((k ≡ 3) ⊎ (k ≡ 4)) → shapeOf k .f12 .low ≡ 1
+sized : (k : ℕ) → (k ≡ 1) ⊎ ((k ≡ 3) ⊎ (k ≡ 4)) → (shapeOf k .f12 .low ≡ 1) × (shapeOf k .f12 .high ≡ 100000)
 unfolding shapeOf
-sized k (inl z) = ap (λ (n : ℕ). shapeOf n .f12 .low) z
-sized k (inr (inl z)) = ap (λ (n : ℕ). shapeOf n .f12 .low) z
-sized k (inr (inr z)) = ap (λ (n : ℕ). shapeOf n .f12 .low) z
+sized k (inl z) = (ap (λ (n : ℕ). shapeOf n .f12 .low) z, ap (λ (n : ℕ). shapeOf n .f12 .high) z)
+sized k (inr (inl z)) = (ap (λ (n : ℕ). shapeOf n .f12 .low) z, ap (λ (n : ℕ). shapeOf n .f12 .high) z)
+sized k (inr (inr z)) = (ap (λ (n : ℕ). shapeOf n .f12 .low) z, ap (λ (n : ℕ). shapeOf n .f12 .high) z)
 
-pub size-least : (e : Event) → (e .kind ≡ 1) ⊎ ((e .kind ≡ 3) ⊎ (e .kind ≡ 4)) → eventFormed e ≡ true → 1 ≤ sizeOf e
-size-least e k h = omega (arith, size-some e h, sized (e .kind) k)
+within-sizes : (x low high : ℕ) → (low ≡ 1) × (high ≡ 100000) → within x low high ≡ true → Size x
+within-sizes x low high z h = (omega (arith, z .0, within-ge x low high h), omega (arith, z .1, within-le x low high h))
+
+-- the size of a GTX response, a limit order or a market order in form
+pub size-of : (e : Event) → (e .kind ≡ 1) ⊎ ((e .kind ≡ 3) ⊎ (e .kind ≡ 4)) → eventFormed e ≡ true → Size (sizeOf e)
+unfolding eventFormed shapeTests
+size-of e k h = within-sizes (sizeOf e) (shapeOf (e .kind) .f12 .low) (shapeOf (e .kind) .f12 .high) (sized (e .kind) k) (each (shapeTests (shapeOf (e .kind)) e) true h 4)
 
 -- the new size of an amend in form
-new-size-least : (e : Event) → e .kind ≡ 6 → eventFormed e ≡ true → 1 ≤ newSizeOf e
+pub new-size-of : (e : Event) → e .kind ≡ 6 → eventFormed e ≡ true → Size (newSizeOf e)
 unfolding eventFormed shapeTests shapeOf
-new-size-least e k h =
-    let low : shapeOf (e .kind) .f16 .low ≡ 1 = ap (λ (n : ℕ). shapeOf n .f16 .low) k in
-    omega (arith, low, within-ge (newSizeOf e) (shapeOf (e .kind) .f16 .low) (shapeOf (e .kind) .f16 .high) (each (shapeTests (shapeOf (e .kind)) e) true h 5))
+new-size-of e k h =
+    let row : (shapeOf (e .kind) .f16 .low ≡ 1) × (shapeOf (e .kind) .f16 .high ≡ 100000) = (ap (λ (n : ℕ). shapeOf n .f16 .low) k, ap (λ (n : ℕ). shapeOf n .f16 .high) k) in
+    within-sizes (newSizeOf e) (shapeOf (e .kind) .f16 .low) (shapeOf (e .kind) .f16 .high) row (each (shapeTests (shapeOf (e .kind)) e) true h 5)
+
+-- a size, capped
+capped : (n most : ℕ) → Size n → 1 ≤ most → Size (min n most)
+capped n most h l = (omega (arith, h .0), omega (arith, h .1))
 
 -- the auction after an event that changed it
 abbrev after : Auction → Event → Change → Ending → Auction
@@ -107,11 +116,12 @@ after a e c g = record { head = headAfter (a .head) e c g; board = boardAfter (a
 after-sound : (a : Auction) (e : Event) (c : Change) (g : Ending) → Sound a
     → boundBy (a .head .terms) (quotesAfter (a .head .quotes) c) ≤ a .head .terms .initiating → Good (boardAfter (a .board) c)
     → Every (Stands (e .sequence) (a .head .terms .initiating)) (liveOf (boardAfter (a .board) c)) → Distinct (liveOf (boardAfter (a .board) c))
+    → offeredAfter (a .head .offered) c ≡ sum (sizes (liveOf (boardAfter (a .board) c)))
     → (isOpen g ≡ true → marketAfter (a .head .market) c .size ≡ 0)
     → (0 < marketAfter (a .head .market) c .size → (0 < marketAfter (a .head .market) c .sequence) × Absent (marketAfter (a .head .market) c .sequence) (liveOf (boardAfter (a .board) c)))
     → Sound (after a e c g)
 unfolding headAfter
-after-sound a e c g s bound good live distinct none apart =
+after-sound a e c g s bound good live distinct offered none apart =
     record {
       bound-below = bound;
       stop-below = s .stop-below;
@@ -121,9 +131,18 @@ after-sound a e c g s bound good live distinct none apart =
       board = good;
       live = live;
       distinct = distinct;
+      offered = offered;
       no-market = none;
       market-apart = apart;
     }
+
+-- the sum of the sizes is far from the largest word
+pub sum-fits : (a : Auction) → Sound a → sum (sizes (liveOf (a .board))) ≤ 6400000
+sum-fits a s = live-sizes (a .board) (s .board) (every-map (Stands (a .head .sequence) (a .head .terms .initiating)) (λ r. r .size ≤ 100000) (liveOf (a .board)) (λ r h. h .4) (s .live))
+
+-- what was found: its size is among those that add up
+pub old-size : (v : Sight) (a : Auction) → Fits (a .board) v → Sound a → v .found < 64 → sum (sizes (liveOf (a .board))) ≡ v .old .size + sum (sizes (liveOf (cleared (a .board) (v .found))))
+old-size v a fits s f = clear-sizes (a .board) (s .board) (v .found) (fits .found f) ∙ ap (λ (x : Response). x .size + sum (sizes (liveOf (cleared (a .board) (v .found))))) (sym (fits .old))
 
 module _ (v : Sight) (a : Auction) (e : Event) (fits : Fits (a .board) v) (s : Sound a) (o : InTime (a .head) e) where
   no-size : a .head .market .size ≡ 0
@@ -134,53 +153,59 @@ module _ (v : Sight) (a : Auction) (e : Event) (fits : Fits (a .board) v) (s : S
 
   -- those that were live stand under the new highest sequence, and none of them bears it
   stand : Every (Stands (e .sequence) (a .head .terms .initiating)) (liveOf (a .board))
-  stand = every-map (Stands (a .head .sequence) (a .head .terms .initiating)) (Stands (e .sequence) (a .head .terms .initiating)) (liveOf (a .board)) (λ r h. (h .0, omega (arith, h .1, o .ordinary .newer), h .2, h .3)) (s .live)
+  stand = every-map (Stands (a .head .sequence) (a .head .terms .initiating)) (Stands (e .sequence) (a .head .terms .initiating)) (liveOf (a .board)) (λ r h. (h .0, omega (arith, h .1, o .ordinary .newer), h .2, h .3, h .4)) (s .live)
 
   fresh : (k : ℕ) → k ≡ e .sequence → Absent k (liveOf (a .board))
   fresh k z = every-map (Stands (a .head .sequence) (a .head .terms .initiating)) (λ r. r .sequence ≢ k) (liveOf (a .board)) (λ r h q. omega (arith, h .1, o .ordinary .newer)) (s .live)
 
   -- a response of the event stands at a place i: a free one, or one of which the old response is gone
-  seated-sound : (i : ℕ) (r : Response) (g : Ending) → r .sequence ≡ e .sequence → 1 ≤ r .size → r .price ≤ a .head .terms .initiating
+  seated-sound : (i : ℕ) (r : Response) (gone : ℕ) (g : Ending) → r .sequence ≡ e .sequence → Size (r .size) → r .price ≤ a .head .terms .initiating
       → ((P : Response → Type 0) → P r → Every P (liveOf (a .board)) → Every P (liveOf (seatedAt (a .board) i r)))
       → (Absent (r .sequence) (liveOf (a .board)) → Distinct (liveOf (a .board)) → Distinct (liveOf (seatedAt (a .board) i r)))
-      → Sound (after a e (Seat i r) g)
-  seated-sound i r g q n p every distinct =
-      after-sound a e (Seat i r) g s (s .bound-below) (seated-good (a .board) i r (s .board))
-      (every (Stands (e .sequence) (a .head .terms .initiating)) (omega (arith, q, o .ordinary .newer), omega (arith, q), n, p) stand)
+      → (gone ≤ sum (sizes (liveOf (a .board)))) × (gone + sum (sizes (liveOf (seatedAt (a .board) i r))) ≡ r .size + sum (sizes (liveOf (a .board))))
+      → Sound (after a e (Seat i r gone) g)
+  seated-sound i r gone g q n p every distinct sums =
+      let live = every (Stands (e .sequence) (a .head .terms .initiating)) (omega (arith, q, o .ordinary .newer), omega (arith, q), n .0, p, n .1) stand in
+      let good = seated-good (a .board) i r (s .board) in
+      after-sound a e (Seat i r gone) g s (s .bound-below) good live
       (distinct (fresh (r .sequence) q) (s .distinct))
+      (omega (arith, s .offered, sums .0, sums .1, live-sizes (seatedAt (a .board) i r) good (every-map (Stands (e .sequence) (a .head .terms .initiating)) (λ r. r .size ≤ 100000) (liveOf (seatedAt (a .board) i r)) (λ r h. h .4) live)))
       (λ _. no-size) no-more
 
-  placed-sound : (r : Response) (g : Ending) → v .at < 64 → r .sequence ≡ e .sequence → 1 ≤ r .size → r .price ≤ a .head .terms .initiating → Sound (after a e (Seat (v .at) r) g)
+  placed-sound : (r : Response) (g : Ending) → v .at < 64 → r .sequence ≡ e .sequence → Size (r .size) → r .price ≤ a .head .terms .initiating → Sound (after a e (Seat (v .at) r 0) g)
   placed-sound r g f q n p =
-      seated-sound (v .at) r g q n p (λ P. seat-every (a .board) (s .board) P (v .at) r f (fits .free f)) (seat-distinct (a .board) (s .board) (v .at) r f (fits .free f))
+      seated-sound (v .at) r 0 g q n p (λ P. seat-every (a .board) (s .board) P (v .at) r f (fits .free f)) (seat-distinct (a .board) (s .board) (v .at) r f (fits .free f))
+      (omega arith, omega (arith, seat-sizes (a .board) (s .board) (v .at) r f (fits .free f)))
 
   does-sound : Outcomes (a .head .terms) (a .head .quotes) v (buyEvent (a .head .terms .sell) e) (λ u. Sound (seatedOn (a .board) (carried (a .head) e u) .auction))
   does-sound =
       let sell = a .head .terms .sell in
       record {
         refuses = λ n _. s;
-        nothing = λ g _. after-sound a e Nothing g s (s .bound-below) (s .board) stand (s .distinct) (λ _. no-size) no-more;
+        nothing = λ g _. after-sound a e Nothing g s (s .bound-below) (s .board) stand (s .distinct) (s .offered) (λ _. no-size) no-more;
         gtx = λ k _ f p.
             let k1 : e .kind ≡ 1 = sym (buy-kind e sell) ∙ k in
             placed-sound (responseOf true (min (sizeOf (buyEvent sell e)) (a .head .terms .size)) (buyEvent sell e)) Open f (buy-sequence e sell)
-            (omega (arith, priced-size e sell (mirror-one e k1), size-least e (inl k1) (o .ordinary .formed), s .size)) p;
+            (capped _ _ (subst Size (sym (priced-size e sell (mirror-one e k1))) (size-of e (inl k1) (o .ordinary .formed))) (s .size)) p;
         limit = λ g k _ f p.
             let k3 : e .kind ≡ 3 = sym (buy-kind e sell) ∙ k in
             placed-sound (responseOf false (sizeOf (buyEvent sell e)) (buyEvent sell e)) g f (buy-sequence e sell)
-            (omega (arith, priced-size e sell (mirror-three e k3), size-least e (inr (inl k3)) (o .ordinary .formed))) p;
+            (subst Size (sym (priced-size e sell (mirror-three e k3))) (size-of e (inr (inl k3)) (o .ordinary .formed))) p;
         clear = λ k f.
-            after-sound a e (Free (v .found)) Open s (s .bound-below) (cleared-good (a .board) (v .found) (s .board))
+            after-sound a e (Free (v .found) (v .old .size)) Open s (s .bound-below) (cleared-good (a .board) (v .found) (s .board))
             (clear-every (a .board) (s .board) (Stands (e .sequence) (a .head .terms .initiating)) (v .found) stand)
             (clear-distinct (a .board) (s .board) (v .found) (s .distinct))
+            (omega (arith, s .offered, old-size v a fits s f, sum-fits a s))
             (λ _. no-size) no-more;
         amend = λ k f p.
             let k6 : e .kind ≡ 6 = sym (buy-kind e sell) ∙ k in
             let r : Response = amendedBy (a .head .terms) (v .old) (buyEvent sell e) in
-            seated-sound (v .found) r Open (buy-sequence e sell) (omega (arith, amend-size e sell k6, new-size-least e k6 (o .ordinary .formed), s .size)) p
-            (λ P. amend-every (a .board) (s .board) P (v .found) r (fits .found f)) (amend-distinct (a .board) (s .board) (v .found) r (fits .found f));
-        quote = λ n f _. after-sound a e (Quote n) Open s (f (s .bound-below)) (s .board) stand (s .distinct) (λ _. no-size) no-more;
+            seated-sound (v .found) r (v .old .size) Open (buy-sequence e sell) (capped _ _ (subst Size (sym (amend-size e sell k6)) (new-size-of e k6 (o .ordinary .formed))) (s .size)) p
+            (λ P. amend-every (a .board) (s .board) P (v .found) r (fits .found f)) (amend-distinct (a .board) (s .board) (v .found) r (fits .found f))
+            (omega (arith, old-size v a fits s f), ap (λ (x : Response). x .size + sum (sizes (liveOf (seatedAt (a .board) (v .found) r)))) (fits .old) ∙ amend-sizes (a .board) (s .board) (v .found) r (fits .found f));
+        quote = λ n f _. after-sound a e (Quote n) Open s (f (s .bound-below)) (s .board) stand (s .distinct) (s .offered) (λ _. no-size) no-more;
         sell = λ _ _.
-            after-sound a e (Sell (record { sequence = buyEvent sell e .sequence; size = sizeOf (buyEvent sell e) })) Opposite s (s .bound-below) (s .board) stand (s .distinct)
+            after-sound a e (Sell (record { sequence = buyEvent sell e .sequence; size = sizeOf (buyEvent sell e) })) Opposite s (s .bound-below) (s .board) stand (s .distinct) (s .offered)
             (λ z. no (sym z))
             (λ _. (omega (arith, buy-sequence e sell, o .ordinary .newer), fresh (buyEvent sell e .sequence) (buy-sequence e sell)));
       }
@@ -197,6 +222,7 @@ time-sound a s =
       board = s .board;
       live = s .live;
       distinct = s .distinct;
+      offered = s .offered;
       no-market = λ z. no (sym z);
       market-apart = s .market-apart;
     }

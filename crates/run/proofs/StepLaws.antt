@@ -67,10 +67,10 @@ pub record Leaves (t : Terms) (m : Event) : Type 0 where
 pub record Outcomes (t : Terms) (q : Quotes) (s : Sight) (m : Event) (P : Outcome → Type 0) : Type 0 where
   pub refuses : (n : ℕ) → KindNumber n → P (Refuses n)
   pub nothing : (g : Ending) → Leaves t m → P (Does Nothing g)
-  pub gtx : m .kind ≡ 1 → eqb (m .side) 1 ≡ false → s .at < 64 → priceOf m ≤ t .initiating → P (Does (Seat (s .at) (responseOf true (min (sizeOf m) (t .size)) m)) Open)
-  pub limit : (g : Ending) → m .kind ≡ 3 → eqb (m .side) 1 ≡ false → s .at < 64 → priceOf m ≤ t .initiating → P (Does (Seat (s .at) (responseOf false (sizeOf m) m)) g)
-  pub clear : m .kind ≡ 2 → s .found < 64 → P (Does (Free (s .found)) Open)
-  pub amend : m .kind ≡ 6 → s .found < 64 → newPriceOf m ≤ t .initiating → P (Does (Seat (s .found) (amendedBy t (s .old) m)) Open)
+  pub gtx : m .kind ≡ 1 → eqb (m .side) 1 ≡ false → s .at < 64 → priceOf m ≤ t .initiating → P (Does (Seat (s .at) (responseOf true (min (sizeOf m) (t .size)) m) 0) Open)
+  pub limit : (g : Ending) → m .kind ≡ 3 → eqb (m .side) 1 ≡ false → s .at < 64 → priceOf m ≤ t .initiating → P (Does (Seat (s .at) (responseOf false (sizeOf m) m) 0) g)
+  pub clear : m .kind ≡ 2 → s .found < 64 → P (Does (Free (s .found) (s .old .size)) Open)
+  pub amend : m .kind ≡ 6 → s .found < 64 → newPriceOf m ≤ t .initiating → P (Does (Seat (s .found) (amendedBy t (s .old) m) (s .old .size)) Open)
   pub quote : (n : Quotes) → (boundBy t q ≤ t .initiating → boundBy t n ≤ t .initiating) → Leaves t m → P (Does (Quote n) Open)
   pub sell : m .kind ≡ 4 → eqb (m .side) 1 ≡ false → P (Does (Sell (record { sequence = m .sequence; size = sizeOf m })) Opposite)
 

@@ -1,16 +1,16 @@
 -- What is promised of an auction, in the user's words.
 use mathlib.Core.Path.{_≡_}
-use mathlib.Core.Bool.{Bool, true, false, cond}
+use mathlib.Core.Bool.{Bool, true, false, cond, not, _&&_, _||_}
 use mathlib.Core.List.{List, [], _∷_}
 use mathlib.Core.Logic.{_⊎_}
-use Prim.Native.Nat.{ℕ, _≤_, _<_, min}
-use lib.Dec.{ltb}
-use Rattle.base.specs.Lists.{In, Every}
+use Prim.Native.Nat.{ℕ, _+_, _≤_, _<_, min}
+use lib.Dec.{leb, ltb, eqb}
+use Rattle.base.specs.Lists.{In, Every, sum}
 use Rattle.board.specs.rules.Board.{responseAt, isLive, liveCount, liveOf, findGtx}
 use Rattle.board.specs.promises.Board.{Good, GtxAt}
 use Rattle.board.specs.declared.Board.{Board}
 use Rattle.board.specs.declared.Response.{Response}
-use Rattle.share.specs.rules.Fills.{Fill}
+use Rattle.share.specs.rules.Fills.{Fill, sizes}
 use Rattle.tape.specs.declared.order.Order.{Order}
 use Rattle.tape.specs.declared.event.Event.{Event}
 use Rattle.tape.specs.rules.Form.{orderFormed, eventFormed}
@@ -21,10 +21,12 @@ use Rattle.base.specs.Price.{mirrored}
 use Rattle.mirror.specs.rules.Mirror.{mirroredOrder, mirroredEvent, buyEvent}
 use Rattle.auction.specs.rules.Accept.{acceptOf}
 use Rattle.auction.specs.rules.Range.{isOpen, boundBy, rangeOf}
-use Rattle.tape.specs.rules.Fields.{sizeOf, nameOf, newSizeOf, newPriceOf}
+use Rattle.auction.specs.rules.Offer.{onOffer}
+use Rattle.decision.specs.rules.Decide.{isCancel, isAmend}
+use Rattle.tape.specs.rules.Fields.{sizeOf, priceOf, nameOf, newSizeOf, newPriceOf}
 use Rattle.events.specs.rules.Step.{sightOf, endedByTime, gives, stepBy, stepOf, closeOf}
 use Rattle.fills.specs.rules.Fills.{dealOf, auctionFills}
-use Rattle.run.specs.rules.Run.{run, heard, played, isTaken, takenOf}
+use Rattle.run.specs.rules.Run.{run, heard, closed, played, isTaken, takenOf}
 use Rattle.auction.specs.declared.Auction.{Auction}
 use Rattle.auction.specs.declared.Head.{Head}
 use Rattle.auction.specs.declared.Terms.{Terms}
@@ -119,9 +121,9 @@ pub record Resend : Type 0 where
 
 -- ---- demand 3
 
--- a live response has a sequence up to the highest taken, a size, and a price up to the initiating price
+-- a live response has a sequence up to the highest taken, a size, and a price up to the initiating price; no size is above 100,000
 abbrev pub Stands : ℕ → ℕ → Response → Type 0
-Stands highest initiating r = (0 < r .sequence) × (r .sequence ≤ highest) × (1 ≤ r .size) × (r .price ≤ initiating)
+Stands highest initiating r = (0 < r .sequence) × (r .sequence ≤ highest) × (1 ≤ r .size) × (r .price ≤ initiating) × (r .size ≤ 100000)
 
 -- what every auction that was opened has, and keeps
 pub record Sound (a : Auction) : Type 0 where
@@ -135,6 +137,8 @@ pub record Sound (a : Auction) : Type 0 where
   -- each live response stands rightly, with a sequence of its own
   pub live : Every (Stands (a .head .sequence) (a .head .terms .initiating)) (liveOf (a .board))
   pub distinct : Distinct (liveOf (a .board))
+  -- the contracts on offer are the sum of the sizes over the live places
+  pub offered : onOffer a ≡ sum (sizes (liveOf (a .board)))
   -- no market order while it is open; after it, where there is one, it has a sequence of its own
   pub no-market : isOpen (a .head .ending) ≡ true → a .head .market .size ≡ 0
   pub market-apart : 0 < a .head .market .size → (0 < a .head .market .sequence) × Absent (a .head .market .sequence) (liveOf (a .board))
@@ -218,6 +222,37 @@ pub record Amends : Type 0 where
   -- a cancel: 37, else taken
   pub cancel-answers : (s : Sight) (a : Auction) (e : Event) → e .kind ≡ 2 → SeesNamed s a e → InTime (a .head) e → stepBy s a e .answer ≡ cond (ltb (namedPlace a e) 64) Taken (Refused 37)
 
+-- ---- the contracts on offer
+
+-- the size that an event brings onto the board where it is taken: a GTX response's and an amend's, capped at the CUBE size; a limit order's, whole, where it takes a place, also one that ends the auction;
+-- no other event brings any, and so no market order
+abbrev pub brings : Terms → Event → ℕ
+brings t e =
+    let m = buyEvent (t .sell) e in
+    cond (eqb (e .kind) 1) (min (sizeOf e) (t .size))
+    (cond (eqb (e .kind) 3 && (not (eqb (m .side) 1) && leb (priceOf m) (t .initiating))) (sizeOf e)
+    (cond (isAmend e) (min (newSizeOf e) (t .size))
+    0))
+
+-- the size that it takes away: that of the GTX response that a cancel or an amend names
+abbrev pub takesAway : Sight → Event → ℕ
+takesAway s e = cond (isCancel e || isAmend e) (s .old .size) 0
+
+pub record OnOffer : Type 0 where
+  -- of every accepted order, after every list of events, refused ones among them, and at the end: the sum of the sizes over the live places. A word of 32 bits holds it with room to spare
+  pub sums : (o : Order) (es : List Event) → acceptOf o .answer ≡ Accepted → onOffer (run (acceptOf o .auction) es) ≡ sum (sizes (liveOf (run (acceptOf o .auction) es .board)))
+  pub sums-end : (o : Order) (es : List Event) → acceptOf o .answer ≡ Accepted → onOffer (played o es) ≡ sum (sizes (liveOf (played o es .board)))
+  pub fits : (o : Order) (es : List Event) → acceptOf o .answer ≡ Accepted → onOffer (run (acceptOf o .auction) es) ≤ 6400000
+  -- an event that is taken, or ends the auction, moves it by what it brings and takes away
+  pub moves : (s : Sight) (a : Auction) (e : Event) → Fits (a .board) s → Sound a → isTaken (stepBy s a e .answer) ≡ true → onOffer (stepBy s a e .auction) + takesAway s e ≡ onOffer a + brings (a .head .terms) e
+  -- every other event leaves it, whatever is seen: one that is refused, and one that is late; closing by hand does too
+  pub leaves : (s : Sight) (a : Auction) (e : Event) → isTaken (stepBy s a e .answer) ≡ false → onOffer (stepBy s a e .auction) ≡ onOffer a
+  pub closing : (a : Auction) → onOffer (closeOf a .auction) ≡ onOffer a
+  -- a market order leaves it, of either side, and so do quotes, of any auction
+  pub market : (s : Sight) (a : Auction) (e : Event) → (e .kind ≡ 4) ⊎ (e .kind ≡ 5) → onOffer (stepBy s a e .auction) ≡ onOffer a
+  -- once the auction has ended it stands at its last value, whatever comes
+  pub stands : (a : Auction) (es : List Event) → isOpen (a .head .ending) ≡ false → (onOffer (run a es) ≡ onOffer a) × (onOffer (closed (run a es)) ≡ onOffer a)
+
 -- ---- the mirror
 
 -- the same auction for the other side
@@ -225,7 +260,7 @@ abbrev pub flippedTerms : Terms → Terms
 flippedTerms t = record { sell = cond (t .sell) false true; mode = t .mode; size = t .size; initiating = t .initiating; floor = t .floor; stop = t .stop; interval = t .interval }
 
 abbrev pub flippedHead : Head → Head
-flippedHead h = record { terms = flippedTerms (h .terms); quotes = h .quotes; sequence = h .sequence; clock = h .clock; ending = h .ending; market = h .market }
+flippedHead h = record { terms = flippedTerms (h .terms); quotes = h .quotes; sequence = h .sequence; clock = h .clock; ending = h .ending; market = h .market; offered = h .offered }
 
 abbrev pub flipped : Auction → Auction
 flipped a = record { head = flippedHead (a .head); board = a .board }
