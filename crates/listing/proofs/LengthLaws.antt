@@ -136,8 +136,8 @@ places a = length (a .board .places)
 board-kept : (b : Board) (c : Change) → length (boardAfter b c .places) ≡ length (b .places)
 unfolding seatedAt
 board-kept b Nothing = refl
-board-kept b (Seat i r) = by (λ (x : Board). length (x .places) ≡ length (b .places)) (ltb i 64) _ _ (λ _. length-set (b .places) i r) (λ _. refl)
-board-kept b (Free i) = refl
+board-kept b (Seat i r gone) = by (λ (x : Board). length (x .places) ≡ length (b .places)) (ltb i 64) _ _ (λ _. length-set (b .places) i r) (λ _. refl)
+board-kept b (Free i gone) = refl
 board-kept b (Quote q) = refl
 board-kept b (Sell m) = refl
 

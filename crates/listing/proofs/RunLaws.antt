@@ -64,16 +64,16 @@ closed-whole h b u e = ap (λ (v : Turn). whole (v .head) b) e ∙ go (isOpen (h
 -- ---- a change, seated on the loop's own board
 
 module _ (b after : Board) (c : Change) where
-  pub seat-set : (i : ℕ) (r : Response) (w : ℕ) → c ≡ Seat i r → i < 64 → w ≡ withBit (b .live) i → after ≡ record { places = set (b .places) i r; live = w } → after ≡ boardAfter b c
+  pub seat-set : (i : ℕ) (r : Response) (gone w : ℕ) → c ≡ Seat i r gone → i < 64 → w ≡ withBit (b .live) i → after ≡ record { places = set (b .places) i r; live = w } → after ≡ boardAfter b c
   unfolding seatedAt
-  seat-set i r w e l z f = f ∙ simp (z, e, lt-ltb _ _ l)
+  seat-set i r gone w e l z f = f ∙ simp (z, e, lt-ltb _ _ l)
 
-  pub seat-past : (i : ℕ) (r : Response) → c ≡ Seat i r → 64 ≤ i → after ≡ b → after ≡ boardAfter b c
+  pub seat-past : (i : ℕ) (r : Response) (gone : ℕ) → c ≡ Seat i r gone → 64 ≤ i → after ≡ b → after ≡ boardAfter b c
   unfolding seatedAt
-  seat-past i r e l f = f ∙ simp (e, le-ltb _ _ l)
+  seat-past i r gone e l f = f ∙ simp (e, le-ltb _ _ l)
 
-  pub seat-free : (i w : ℕ) → c ≡ Free i → w ≡ withoutBit (b .live) i → after ≡ record { places = b .places; live = w } → after ≡ boardAfter b c
-  seat-free i w e z f = f ∙ simp (z, e)
+  pub seat-free : (i gone w : ℕ) → c ≡ Free i gone → w ≡ withoutBit (b .live) i → after ≡ record { places = b .places; live = w } → after ≡ boardAfter b c
+  seat-free i gone w e z f = f ∙ simp (z, e)
 
   pub seat-none : (d : Change) → c ≡ d → boardAfter b d ≡ b → after ≡ b → after ≡ boardAfter b c
   seat-none d e k f = f ∙ sym k ∙ ap (boardAfter b) (sym e)

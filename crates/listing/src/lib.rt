@@ -24,6 +24,7 @@ use words::bits;
 mod lines;
 mod results;
 mod text;
+pub mod watch;
 
 // What came of a tape, and the length of its listing.
 pub enum Listed {

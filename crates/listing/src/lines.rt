@@ -3,7 +3,7 @@ ghost use Prim.Native.Nat.{_+_, _≤_};
 ghost use lib.ListN.{length};
 ghost use Rattle.auction.specs.rules.Range.{rangeOf};
 ghost use Rattle.run.specs.rules.Run.{said};
-ghost use Rattle.listing.specs.rules.Listing.{refusedLine, rangeText, sideText, auctionLine, answerText, eventLine, endText, endLine, partyText, fillLine, totalLine};
+ghost use Rattle.listing.specs.rules.Listing.{refusedLine, rangeText, sideText, auctionLine, answerText, eventText, eventLine, watchedLine, endText, endLine, partyText, fillLine, totalLine};
 ghost use Rattle.share.specs.rules.Fills.{fill};
 ghost use Rattle.listing.specs.inside.Code.{WroteBytes};
 use crate::text::put_field;
@@ -56,19 +56,26 @@ pub(crate) fn put_auction(out: &mut [u8], at: usize, h: Head) -> usize
 }
 
 fn put_answer(out: &mut [u8], at: usize, answer: Answer) -> usize
-    requires { ⌜ at + 30 ≤ length (now out) ⌝ }
+    requires { ⌜ at + 29 ≤ length (now out) ⌝ }
     ensures { λ r. ⌜ WroteBytes (now (out .entry)) at (answerText answer) r (now (out .exit)) ⌝ }
-    ensures { λ r. ⌜ r ≤ at + 30 ⌝ }
+    ensures { λ r. ⌜ r ≤ at + 29 ⌝ }
 {
     match answer {
-        Answer::Taken => put_text(out, at, b" taken\n"),
-        Answer::Ended => put_text(out, at, b" ended\n"),
-        Answer::Late => put_text(out, at, b" late\n"),
-        Answer::Refused(number) => {
-            let w = put_word(out, at, b" refused ", number);
-            put_text(out, w, b"\n")
-        }
+        Answer::Taken => put_text(out, at, b" taken"),
+        Answer::Ended => put_text(out, at, b" ended"),
+        Answer::Late => put_text(out, at, b" late"),
+        Answer::Refused(number) => put_word(out, at, b" refused ", number),
     }
+}
+
+// An EVENT line up to its end.
+fn put_said(out: &mut [u8], at: usize, sequence: u32, answer: Answer) -> usize
+    requires { ⌜ at + 55 ≤ length (now out) ⌝ }
+    ensures { λ r. ⌜ WroteBytes (now (out .entry)) at (eventText (said sequence answer)) r (now (out .exit)) ⌝ }
+    ensures { λ r. ⌜ r ≤ at + 55 ⌝ }
+{
+    let w = put_word(out, at, b"EVENT ", sequence);
+    put_answer(out, w, answer)
 }
 
 pub(crate) fn put_event(out: &mut [u8], at: usize, sequence: u32, answer: Answer) -> usize
@@ -76,8 +83,18 @@ pub(crate) fn put_event(out: &mut [u8], at: usize, sequence: u32, answer: Answer
     ensures { λ r. ⌜ WroteBytes (now (out .entry)) at (eventLine (said sequence answer)) r (now (out .exit)) ⌝ }
     ensures { λ r. ⌜ r ≤ at + 56 ⌝ }
 {
-    let w = put_word(out, at, b"EVENT ", sequence);
-    put_answer(out, w, answer)
+    let w = put_said(out, at, sequence, answer);
+    put_text(out, w, b"\n")
+}
+
+// An EVENT line of a watch, with the contracts on offer at its end.
+pub(crate) fn put_watched(out: &mut [u8], at: usize, sequence: u32, answer: Answer, offered: u32) -> usize
+    requires { ⌜ at + 86 ≤ length (now out) ⌝ }
+    ensures { λ r. ⌜ WroteBytes (now (out .entry)) at (watchedLine (said sequence answer) offered) r (now (out .exit)) ⌝ }
+{
+    let w = put_said(out, at, sequence, answer);
+    let n = put_word(out, w, b" on offer ", offered);
+    put_text(out, n, b"\n")
 }
 
 fn put_ending(out: &mut [u8], at: usize, ending: Ending) -> usize

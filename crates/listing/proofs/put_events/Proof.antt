@@ -87,9 +87,9 @@ loop-again c =
     let u = c .before .before .before .before .before .before .turn in
     let eu = u .ensures ∙ ap (λ (x : Sight). turnOf (l .h) x (e .result)) (v .ensures) in
     let seated : c .before .match .b ≡ boardAfter (l .b) (u .result .change) =
-    ⊎-elim (λ x. seat-set (l .b) _ _ _ _ _ (x .1 .given .1) (x .3 .taken) (x .4 .ensures) (x .5))
-    (⊎-elim (λ x. seat-past (l .b) _ _ _ _ (x .1 .given .1) (x .3 .left) (x .4))
-    (⊎-elim (λ x. seat-free (l .b) _ _ _ _ (x .1 .given .1) (x .3 .ensures) (x .4))
+    ⊎-elim (λ x. seat-set (l .b) _ _ _ _ _ _ (x .1 .given .1) (x .3 .taken) (x .4 .ensures) (x .5))
+    (⊎-elim (λ x. seat-past (l .b) _ _ _ _ _ (x .1 .given .1) (x .3 .left) (x .4))
+    (⊎-elim (λ x. seat-free (l .b) _ _ _ _ _ (x .1 .given .1) (x .3 .ensures) (x .4))
     (⊎-elim (λ x. seat-none (l .b) _ _ _ (x .1 .given .1) refl (x .2))
     (⊎-elim (λ x. seat-none (l .b) _ _ _ (x .1 .given .1) refl (x .2))
     (λ x. seat-none (l .b) _ _ _ (x .1 .given .1) refl (x .2)))))) (c .before .match .came) in (

@@ -43,14 +43,21 @@ unfoldable pub auctionLine : Head → List ℕ
 auctionLine h = sideText (h .terms .sell) ++ (field " size " (h .terms .size) ++ rangeText (rangeOf h))
 
 unfoldable pub answerText : Answer → List ℕ
-answerText Taken = text " taken\n"
-answerText Ended = text " ended\n"
-answerText Late = text " late\n"
-answerText (Refused number) = field " refused " number ++ newline
+answerText Taken = text " taken"
+answerText Ended = text " ended"
+answerText Late = text " late"
+answerText (Refused number) = field " refused " number
 
 -- the sequence and the answer
+unfoldable pub eventText : Said → List ℕ
+eventText e = field "EVENT " (e .sequence) ++ answerText (e .answer)
+
 unfoldable pub eventLine : Said → List ℕ
-eventLine e = field "EVENT " (e .sequence) ++ answerText (e .answer)
+eventLine e = eventText e ++ newline
+
+-- the same line of a watch: the contracts on offer after the event stand at its end
+unfoldable pub watchedLine : Said → ℕ → List ℕ
+watchedLine e offered = eventText e ++ (field " on offer " offered ++ newline)
 
 -- why it ended (never `open`: an auction still open is closed by hand)
 unfoldable pub endText : Ending → List ℕ
