@@ -1,19 +1,21 @@
 -- Listings by computation.
 use mathlib.Core.Path.{_≡_, refl}
-use mathlib.Core.List.{List, []}
+use mathlib.Core.List.{List, [], _∷_}
 use Prim.Native.Nat.{ℕ}
 use Rattle.words.specs.rules.Bytes.{wordAt}
 use Rattle.tape.specs.rules.Records.{orderWords, orderOf, orderSpare, readOrder, eventWords, eventOf, eventSpare, recordAt, trailerWords, trailerOf, readTrailer}
 use Rattle.tape.specs.rules.Tape.{openTape, orderIn, recordIn, recordsFrom, recordsOf, tapeOf}
+use Rattle.auction.specs.rules.Accept.{acceptOf}
 use Rattle.run.specs.rules.Run.{runOf}
 use Rattle.run.proofs.Figures.{Computed}
 use Rattle.listing.specs.rules.Text.{text, digits, decimal}
-use Rattle.listing.specs.rules.Listing.{refusedLine, rangeText, auctionLine, answerText, eventLine, endText, endLine, partyText, fillLine, totalLine, endLines, listingOf}
-use Rattle.listing.specs.promises.Demands.{exampleTape, exampleListing, tapeE, listingE}
+use Rattle.listing.specs.rules.Listing.{refusedLine, rangeText, auctionLine, answerText, eventText, eventLine, watchedLine, endText, endLine, partyText, fillLine, totalLine, endLines, listingOf}
+use Rattle.listing.specs.rules.Watch.{watchLines}
+use Rattle.listing.specs.promises.Demands.{exampleOrder, exampleResponse, exampleTape, exampleListing, exampleWatch, tapeE, listingE}
 
 -- a tape and its listing
 abbrev Shows : List ℕ → List ℕ → Type 0
-unfolding Computed wordAt orderWords orderOf orderSpare readOrder eventWords eventOf eventSpare recordAt trailerWords trailerOf readTrailer openTape orderIn recordIn recordsFrom recordsOf tapeOf runOf digits decimal refusedLine rangeText auctionLine answerText eventLine endText endLine partyText fillLine totalLine endLines listingOf
+unfolding Computed wordAt orderWords orderOf orderSpare readOrder eventWords eventOf eventSpare recordAt trailerWords trailerOf readTrailer openTape orderIn recordIn recordsFrom recordsOf tapeOf runOf digits decimal refusedLine rangeText auctionLine answerText eventText eventLine watchedLine endText endLine partyText fillLine totalLine endLines listingOf
 Shows tape t = listingOf tape ≡ t
 
 pub case-c : listingOf exampleTape ≡ exampleListing
@@ -23,6 +25,10 @@ case-c = refl
 pub case-e : listingOf tapeE ≡ listingE
 unfolding Shows
 case-e = refl
+
+pub watch-c : watchLines (acceptOf exampleOrder .auction) (exampleResponse ∷ exampleResponse ∷ []) ≡ exampleWatch
+unfolding Shows
+watch-c = refl
 
 pub no-bytes : listingOf [] ≡ text "REFUSED 21\n"
 unfolding Shows

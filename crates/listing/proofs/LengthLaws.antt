@@ -39,7 +39,7 @@ use Rattle.auction.specs.rules.Range.{rangeOf}
 use Rattle.fills.specs.rules.Fills.{dealOf, auctionFills}
 use Rattle.listing.specs.rules.Text.{text, decimal, newline}
 use Rattle.run.specs.rules.Run.{Said, run, heard, refused, closed, runEntry, runOrder, runTape, runOf}
-use Rattle.listing.specs.rules.Listing.{field, refusedLine, rangeText, sideText, auctionLine, answerText, eventLine, endText, endLine, partyText, fillLine, totalLine, eventLines, fillLines, endLines, linesOf, listingOf, roomOf}
+use Rattle.listing.specs.rules.Listing.{field, refusedLine, rangeText, sideText, auctionLine, answerText, eventText, eventLine, watchedLine, endText, endLine, partyText, fillLine, totalLine, eventLines, fillLines, endLines, linesOf, listingOf, roomOf}
 use Rattle.listing.proofs.DecimalLaws.{decimal-short}
 use Rattle.listing.proofs.RunLaws.{tape-fits}
 
@@ -52,7 +52,7 @@ field-short s n = omega (arith, length-append (text s) (decimal n), decimal-shor
 then-short : (j k : ℕ) (s t : List ℕ) → length s ≤ j → length t ≤ k → length (s ++ t) ≤ j + k
 then-short j k s t h i = omega (arith, length-append s t)
 
-refused-short : (n : ℕ) → length (refusedLine n) ≤ 29
+pub refused-short : (n : ℕ) → length (refusedLine n) ≤ 29
 unfolding refusedLine
 refused-short n = then-short 28 1 (field "REFUSED " n) newline (field-short "REFUSED " n) (omega arith)
 
@@ -66,22 +66,30 @@ side-short : (b : Bool) → length (sideText b) ≤ 12
 side-short true = omega arith
 side-short false = omega arith
 
-auction-short : (h : Head) → length (auctionLine h) ≤ 90
+pub auction-short : (h : Head) → length (auctionLine h) ≤ 90
 unfolding auctionLine
 auction-short h =
     then-short 12 78 (sideText (h .terms .sell)) (field " size " (h .terms .size) ++ rangeText (rangeOf h)) (side-short (h .terms .sell))
     (then-short 26 52 (field " size " (h .terms .size)) (rangeText (rangeOf h)) (field-short " size " (h .terms .size)) (range-short (rangeOf h)))
 
-answer-short : (r : Answer) → length (answerText r) ≤ 30
+answer-short : (r : Answer) → length (answerText r) ≤ 29
 unfolding answerText
 answer-short Taken = omega arith
 answer-short Ended = omega arith
 answer-short Late = omega arith
-answer-short (Refused n) = then-short 29 1 (field " refused " n) newline (field-short " refused " n) (omega arith)
+answer-short (Refused n) = field-short " refused " n
+
+said-short : (e : Said) → length (eventText e) ≤ 55
+unfolding eventText
+said-short e = then-short 26 29 (field "EVENT " (e .sequence)) (answerText (e .answer)) (field-short "EVENT " (e .sequence)) (answer-short (e .answer))
 
 event-short : (e : Said) → length (eventLine e) ≤ 56
 unfolding eventLine
-event-short e = then-short 26 30 (field "EVENT " (e .sequence)) (answerText (e .answer)) (field-short "EVENT " (e .sequence)) (answer-short (e .answer))
+event-short e = then-short 55 1 (eventText e) newline (said-short e) (omega arith)
+
+pub watched-short : (e : Said) (n : ℕ) → length (watchedLine e n) ≤ 86
+unfolding watchedLine
+watched-short e n = then-short 55 31 (eventText e) (field " on offer " n ++ newline) (said-short e) (then-short 30 1 (field " on offer " n) newline (field-short " on offer " n) (omega arith))
 
 ending-short : (g : Ending) → length (endText g) ≤ 12
 unfolding endText
@@ -145,7 +153,7 @@ run-kept : (es : List Event) (a : Auction) → places (run a es) ≡ places a
 run-kept [] a = refl
 run-kept (e ∷ es) a = run-kept es (stepOf a e .auction) ∙ board-kept (a .board) (turnOf (a .head) (sightOf (a .board) e) e .change)
 
-closed-kept : (a : Auction) → places (closed a) ≡ places a
+pub closed-kept : (a : Auction) → places (closed a) ≡ places a
 closed-kept a = board-kept (a .board) (closeTurn (a .head) .change)
 
 accept-places : (o : Order) → places (acceptOf o .auction) ≡ 64
@@ -154,7 +162,7 @@ accept-places o = by (λ (p : Opening). places (p .auction) ≡ 64) (eqb (orderR
 
 -- ---- the listing
 
-end-lines-short : (a : Auction) → places a ≡ 64 → length (endLines a) ≤ 8931
+pub end-lines-short : (a : Auction) → places a ≡ 64 → length (endLines a) ≤ 8931
 unfolding endLines
 end-lines-short a h =
     let fs : List Fill = auctionFills a in

@@ -5,6 +5,7 @@ pub mod FillLaws
 pub mod RunLaws
 pub mod LengthLaws
 pub mod ListsLaws
+pub mod WatchLaws
 pub mod Examples
 pub mod Theorems
 pub mod Settled

@@ -1,6 +1,6 @@
 use mathlib.Core.Path.{sym, ap}
 use native.Mathlib.Omega.{arith}
-use Rattle.listing.proofs.WroteLaws.{wrote-append, wrote-same}
+use Rattle.listing.proofs.WroteLaws.{wrote-same}
 use Rattle.listing.specs.rules.Listing.{answerText}
 use borrow.Author.Needs.{needs}
 use Rattle.listing.proofs.lines.put_answer.Statement.{statement}
@@ -42,12 +42,6 @@ slice-aggregate-put-word c = search needs
 put-word-requires : tie.Need-put-word-requires
 put-word-requires c κs = search needs
 
-slice-aggregate-put-text-4 : tie.Need-slice-aggregate-put-text-4
-slice-aggregate-put-text-4 c = search needs
-
-put-text-requires-4 : tie.Need-put-text-requires-4
-put-text-requires-4 c κs = search needs
-
 same-length : tie.Need-same-length
 same-length c = search needs
 
@@ -74,7 +68,7 @@ same-length-4 c = search needs
 
 returns-4 : tie.Need-returns-4
 unfolding answerText
-returns-4 c = (wrote-same (wrote-append (c .before .before .before .before .before .before .before .put-word .ensures .0) (c .before .before .put-text4 .ensures)) (ap answerText (sym (c .before .before .before .before .before .before .before .before .before .before .before .answer .given .1))), omega arith)
+returns-4 c = (wrote-same (c .before .before .put-word .ensures .0) (ap answerText (sym (c .before .before .before .before .before .before .answer .given .1))), omega arith)
 
 pub put-answer-spec : {M : Type 1} → statement M
 put-answer-spec =
@@ -92,8 +86,6 @@ put-answer-spec =
     enum-known-answer
     slice-aggregate-put-word
     put-word-requires
-    slice-aggregate-put-text-4
-    put-text-requires-4
     same-length
     returns
     same-length-2

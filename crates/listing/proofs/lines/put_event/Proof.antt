@@ -5,23 +5,23 @@ use borrow.Author.Needs.{needs}
 use Rattle.listing.proofs.lines.put_event.Statement.{statement}
 use Rattle.listing.proofs.lines.put_event.Tie as tie
 
-slice-aggregate-put-word : tie.Need-slice-aggregate-put-word
-slice-aggregate-put-word c = search needs
+put-said-requires : tie.Need-put-said-requires
+put-said-requires c κs = search needs
 
-put-word-requires : tie.Need-put-word-requires
-put-word-requires c κs = search needs
+slice-aggregate-put-text : tie.Need-slice-aggregate-put-text
+slice-aggregate-put-text c = search needs
 
-put-answer-requires : tie.Need-put-answer-requires
-put-answer-requires c κs = search needs
+put-text-requires : tie.Need-put-text-requires
+put-text-requires c κs = search needs
 
 same-length : tie.Need-same-length
 same-length c = search needs
 
 returns : tie.Need-returns
 unfolding eventLine
-returns c = (wrote-append (c .before .before .before .before .before .before .put-word .ensures .0) (c .before .before .put-answer .ensures .0), omega arith)
+returns c = (wrote-append (c .before .before .before .before .before .before .before .put-said .ensures .0) (c .before .before .put-text .ensures), omega arith)
 
 pub put-event-spec : {M : Type 1} → statement M
 put-event-spec =
     tie.close
-    (tie.spec slice-aggregate-put-word put-word-requires put-answer-requires same-length returns)
+    (tie.spec put-said-requires slice-aggregate-put-text put-text-requires same-length returns)
