@@ -78,12 +78,16 @@ static int named(const struct fold *f, uint32_t seq)
     return -1;
 }
 
+/* Is it on the side that responds? */
+static int is_opposite(const struct peer_auction *start, const struct peer_event *e)
+{
+    return e->side == (start->sell ? PEER_BUY : PEER_SELL);
+}
+
 /* Does it have to be placed, if it is applied? */
 static int needs_place(const struct peer_auction *start, const struct peer_event *e)
 {
-    uint32_t opposite = start->sell ? PEER_BUY : PEER_SELL;
-
-    return (e->kind == PEER_GTX || e->kind == PEER_LIMIT) && e->side == opposite &&
+    return (e->kind == PEER_GTX || e->kind == PEER_LIMIT) && is_opposite(start, e) &&
            as_buy(start, price_of(e)) <= start->init;
 }
 
@@ -113,6 +117,17 @@ static void fold_record(struct fold *f, const struct peer_auction *start, const 
     r->gtx = e->kind != PEER_LIMIT;
     if (r->gtx && r->size > start->order.size)
         r->size = start->order.size;
+}
+
+/* The sizes of the fold, added up: what is on offer. */
+static uint64_t fold_total(const struct fold *f)
+{
+    uint64_t total = 0;
+    int i;
+
+    for (i = 0; i < f->n; i++)
+        total += f->live[i].size;
+    return total;
 }
 
 /* ------------------------------------------------------------------ */
@@ -187,6 +202,133 @@ static void count_amends(long cell[AMENDS][COLUMNS], int column, const struct pe
     }
 }
 
+/* What comes up with the contracts on offer; the eight refusals are in a row. */
+enum watch {
+    WATCH_CAPPED, WATCH_CAPPED_GONE, WATCH_CAPPED_DOWN, WATCH_CAPPED_AGAIN, WATCH_AMENDED_GONE, WATCH_ALL_GONE,
+    WATCH_DOWN, WATCH_DOWN_ONE, WATCH_UP, WATCH_UP_ONE, WATCH_TO_CAP, WATCH_PAST_CAP,
+    WATCH_WHOLE, WATCH_LARGE, WATCH_GREATEST, WATCH_GREATEST_38, WATCH_GREATEST_LEFT, WATCH_RESEND, WATCH_RESEND_GONE,
+    WATCH_AT_31, WATCH_LATE = WATCH_AT_31 + 8, WATCH_ENDS_PLACED, WATCH_ENDS_WHOLE, WATCH_ENDS_ABOVE, WATCH_ABOVE,
+    WATCH_ENDS_MARKET, WATCHES
+};
+
+static const char *const watch_name[WATCHES] = {
+    "GTX capped", "capped one cancelled", "capped one down", "capped one capped", "amended one cancelled",
+    "the last one cancelled", "amend down", "amend down by one", "amend up", "amend up by one", "amend up to the cap",
+    "amend up past the cap", "limit above CUBE size", "20 of 99,990 and more", "6,400,000 on offer",
+    "6,400,000 and 38", "6,400,000 and less", "resend of a live one", "resend of one gone",
+    "31, some on offer", "32, some on offer", "33, some on offer", "34, some on offer",
+    "35, some on offer", "36, some on offer", "37, some on offer", "38, some on offer", "late, some on offer",
+    "opposite, placed", "opposite, above size", "opposite, no place", "taken, no place", "market, some on offer"
+};
+
+#define MOST_ON_OFFER ((uint64_t)PEER_PLACES * PEER_SIZE_MAX)
+
+/* Kinds that can move what is on offer. */
+static int can_move(uint32_t kind)
+{
+    return kind == PEER_GTX || kind == PEER_CANCEL || kind == PEER_LIMIT || kind == PEER_AMEND;
+}
+
+/* A limit order above the initiating price takes no place. */
+static int is_above(const struct peer_auction *start, const struct peer_event *e)
+{
+    return e->kind == PEER_LIMIT && is_opposite(start, e) && !needs_place(start, e);
+}
+
+/* Is it the very record of a GTX that was taken before? */
+static int is_resend(const struct peer_run *r, const unsigned char *events, int i)
+{
+    struct peer_event e = record(events, i);
+    int made = place_of(r, e.seq);
+
+    return e.kind == PEER_GTX && made >= 0 && made < i &&
+           memcmp(events + PEER_EVENT_BYTES * made, events + PEER_EVENT_BYTES * i, PEER_EVENT_BYTES) == 0;
+}
+
+/* How many live ones are of about the greatest size. */
+static int count_large(const struct fold *f)
+{
+    int i, n = 0;
+
+    for (i = 0; i < f->n; i++)
+        n += f->live[i].size >= PEER_SIZE_MAX - 10;
+    return n;
+}
+
+/* Counts a cancel or an amend that was taken; the fold is of those before it. */
+static void count_move(long cell[WATCHES][COLUMNS], int column, const struct peer_run *r, const unsigned char *events,
+                       const struct fold *f, const struct peer_event *e)
+{
+    uint32_t cap = r->start.order.size, size = size_of(e), old;
+    int k = named(f, e->field[0]), made = place_of(r, e->field[0]), capped;
+    struct peer_event before;
+
+    if (k < 0 || made < 0)
+        return;
+    before = record(events, made);
+    capped = size_of(&before) > cap;
+    old = f->live[k].size;
+    cell[WATCH_GREATEST_LEFT][column] += fold_total(f) == MOST_ON_OFFER && (e->kind == PEER_CANCEL || size < old);
+    if (e->kind == PEER_CANCEL) {
+        cell[WATCH_CAPPED_GONE][column] += capped;
+        cell[WATCH_AMENDED_GONE][column] += before.kind == PEER_AMEND;
+        cell[WATCH_ALL_GONE][column] += f->n == 1;
+        return;
+    }
+    cell[WATCH_CAPPED_DOWN][column] += capped && size < cap;
+    cell[WATCH_CAPPED_AGAIN][column] += capped && size > cap;
+    cell[WATCH_DOWN][column] += size < old;
+    cell[WATCH_DOWN_ONE][column] += size + 1 == old;
+    cell[WATCH_UP][column] += size > old && size < cap;
+    cell[WATCH_UP_ONE][column] += size == old + 1 && size <= cap;
+    cell[WATCH_TO_CAP][column] += size > old && size == cap;
+    cell[WATCH_PAST_CAP][column] += size > cap && old < cap;
+}
+
+/* Counts one record; the fold is of those before it. */
+static void count_watch(long cell[WATCHES][COLUMNS], int column, const struct peer_run *r, const unsigned char *events,
+                        const struct fold *f, int i)
+{
+    struct peer_event e = record(events, i);
+    int answer = r->event[i].answer, ended = answer == PEER_ENDED;
+    int placed = applied(answer) && needs_place(&r->start, &e), large = size_of(&e) > r->start.order.size;
+
+    if (f->n > 0 && can_move(e.kind) && answer >= 31)
+        cell[WATCH_AT_31 + answer - 31][column]++;
+    cell[WATCH_LATE][column] += f->n > 0 && can_move(e.kind) && answer == PEER_LATE;
+    cell[WATCH_GREATEST_38][column] += answer == 38 && fold_total(f) == MOST_ON_OFFER;
+    if (answer == 33 && f->n > 0 && is_resend(r, events, i))
+        cell[named(f, e.seq) >= 0 ? WATCH_RESEND : WATCH_RESEND_GONE][column]++;
+    if (!applied(answer))
+        return;
+    if (e.kind == PEER_CANCEL || e.kind == PEER_AMEND)
+        count_move(cell, column, r, events, f, &e);
+    cell[WATCH_CAPPED][column] += placed && e.kind == PEER_GTX && large;
+    cell[WATCH_WHOLE][column] += placed && e.kind == PEER_LIMIT && large;
+    cell[WATCH_ENDS_PLACED][column] += placed && ended;
+    cell[WATCH_ENDS_WHOLE][column] += placed && ended && large;
+    cell[WATCH_ENDS_ABOVE][column] += ended && is_above(&r->start, &e);
+    cell[WATCH_ABOVE][column] += !ended && is_above(&r->start, &e);
+    cell[WATCH_ENDS_MARKET][column] += ended && e.kind == PEER_MARKET && f->n > 0;
+}
+
+static void count_watches(long cell[WATCHES][COLUMNS], int column, const struct peer_run *r, const unsigned char *events)
+{
+    struct fold f = { .n = 0 };
+    int i, large = 0, greatest = 0;
+
+    for (i = 0; i < r->n_events; i++) {
+        struct peer_event e = record(events, i);
+
+        count_watch(cell, column, r, events, &f, i);
+        fold_record(&f, &r->start, &e, r->event[i].answer);
+        large |= count_large(&f) >= 20;
+        greatest |= fold_total(&f) == MOST_ON_OFFER;
+    }
+    cell[WATCH_LARGE][column] += large;     /* these two by the tape */
+    cell[WATCH_GREATEST][column] += greatest;
+}
+
 /* Which kind of ending a run had. */
 static int cause_of(const struct peer_run *r, const unsigned char *events)
 {
@@ -233,11 +375,32 @@ static long print_missing(const char *name, const long *cell, int but_mode)
     return missing;
 }
 
+/* A table of rows with its names, and a blank line. */
+static void print_rows(const char *const *name, long cell[][COLUMNS], int n)
+{
+    int i;
+
+    for (i = 0; i < n; i++)
+        print_row(name[i], cell[i]);
+    printf("\n");
+}
+
+static long print_rows_missing(const char *const *name, long cell[][COLUMNS], int n)
+{
+    int i;
+    long missing = 0;
+
+    for (i = 0; i < n; i++)
+        missing += print_missing(name[i], cell[i], 0);
+    return missing;
+}
+
 int stats(const char *dir)
 {
     static unsigned char tape[PEER_TAPE_MAX + 1];
     static struct peer_run r;
-    static long number[NUMBERS][COLUMNS], ending[CAUSES][COLUMNS], amend[AMENDS][COLUMNS];
+    static long number[NUMBERS][COLUMNS], ending[CAUSES][COLUMNS], amend[AMENDS][COLUMNS],
+                watch[WATCHES][COLUMNS];
     static long full_end[COLUMNS], only_one[COLUMNS], none[COLUMNS], many_prices[COLUMNS];
     static const int bucket_low[] = { 1, 2, 3, 4, 6, 10, 20, 40, 64, 100, 129, 130 };
     enum { BUCKETS = sizeof bucket_low / sizeof bucket_low[0] };
@@ -251,7 +414,7 @@ int stats(const char *dir)
         struct peer_order o;
         int column, seen = 0;
 
-        peer_run(tape, n, &r);
+        peer_run(tape, n, 0, &r);
         if (r.refused >= 21) {
             refused_tape[r.refused]++;
             continue;
@@ -273,6 +436,7 @@ int stats(const char *dir)
         some_refused += seen;
         ending[cause_of(&r, tape + at + PEER_ORDER_BYTES)][column]++;
         count_amends(amend, column, &r, tape + at + PEER_ORDER_BYTES);
+        count_watches(watch, column, &r, tape + at + PEER_ORDER_BYTES);
         full_end[column] += r.end.n_live == PEER_PLACES;
         only_one[column] += r.end.n_live == 1;
         none[column] += r.end.n_live == 0;
@@ -295,12 +459,9 @@ int stats(const char *dir)
         print_row(name, number[i]);
     }
     printf("\n");
-    for (i = 0; i < CAUSES; i++)
-        print_row(cause_name[i], ending[i]);
-    printf("\n");
-    for (i = 0; i < AMENDS; i++)
-        print_row(amend_name[i], amend[i]);
-    printf("\n");
+    print_rows(cause_name, ending, CAUSES);
+    print_rows(amend_name, amend, AMENDS);
+    print_rows(watch_name, watch, WATCHES);
     print_row("64 live at the end", full_end);
     print_row("one live at the end", only_one);
     print_row("none live at the end", none);
@@ -322,10 +483,9 @@ int stats(const char *dir)
         sprintf(name, "number %d", i);
         missing += print_missing(name, number[i], i == 11 ? PEER_MATCH : 0);
     }
-    for (i = 0; i < CAUSES; i++)
-        missing += print_missing(cause_name[i], ending[i], 0);
-    for (i = 0; i < AMENDS; i++)
-        missing += print_missing(amend_name[i], amend[i], 0);
+    missing += print_rows_missing(cause_name, ending, CAUSES);
+    missing += print_rows_missing(amend_name, amend, AMENDS);
+    missing += print_rows_missing(watch_name, watch, WATCHES);
     missing += print_missing("64 live at the end", full_end, 0);
     printf(missing ? "%ld cells missing\n" : "nothing missing\n", missing);
     return missing != 0;
@@ -484,7 +644,7 @@ static void check_mirror(const struct peer_run *r, const unsigned char *tape, si
     }
     build_trailer(turned + n, 0, (uint32_t)r->n_events);
     n += PEER_TRAILER_BYTES;
-    peer_run(turned, n, &t);
+    peer_run(turned, n, r->watch, &t);
     if (t.refused) {
         fault("the mirror is refused");
         return;
@@ -493,7 +653,7 @@ static void check_mirror(const struct peer_run *r, const unsigned char *tape, si
         t.end.init != r->end.init || t.end.sell == r->end.sell)
         fault("the mirror ends otherwise");
     for (i = 0; i < r->n_events; i++)
-        if (t.event[i].answer != r->event[i].answer)
+        if (t.event[i].answer != r->event[i].answer || t.event[i].on_offer != r->event[i].on_offer)
             fault("the mirror answers otherwise");
     for (i = 0; i < r->n_fills && i < t.n_fills; i++)
         if (t.fill[i].party != r->fill[i].party || t.fill[i].quantity != r->fill[i].quantity ||
@@ -564,6 +724,58 @@ static struct fold check_answers(const struct peer_run *r, const unsigned char *
     return f;
 }
 
+/* After each record the watch tells the sum over the live responses; one that
+ * is refused or late leaves it, and after the ending it stands. */
+static void check_watch(const struct peer_run *r, const unsigned char *events)
+{
+    struct fold f = { .n = 0 };
+    uint32_t before = 0;
+    int i, over = 0;
+
+    for (i = 0; i < r->n_events; i++) {
+        struct peer_event e = record(events, i);
+        int answer = r->event[i].answer;
+        uint32_t now = r->event[i].on_offer;
+
+        fold_record(&f, &r->start, &e, answer);
+        if (now != fold_total(&f))
+            fault("on offer is not the sum over the live responses");
+        if (!applied(answer) && now != before)
+            fault("a refused or late record moves what is on offer");
+        if (over && now != before)
+            fault("what is on offer moves after the ending");
+        if (answer == PEER_ENDED || answer == PEER_LATE)
+            over = 1;
+        before = now;
+    }
+}
+
+/* The watch is the listing, but for the numbers at the ends of EVENT lines. */
+static void check_text(const struct peer_run *r, const unsigned char *tape, size_t n)
+{
+    static char plain[PEER_LISTING_MAX + 1], watch[PEER_LISTING_MAX + 1], want[PEER_LISTING_MAX + 1];
+    char *from = plain, *to = want;
+    int i = 0;
+
+    plain[peer_listing(tape, n, plain)] = 0;
+    watch[peer_print(r, watch)] = 0;
+    if (strlen(watch) > PEER_LISTING_MAX)
+        fault("listing too long");
+    while (*from) {
+        size_t line = strcspn(from, "\n");
+
+        memcpy(to, from, line);
+        to += line;
+        if (strncmp(from, "EVENT ", 6) == 0)
+            to += sprintf(to, " on offer %lu", (unsigned long)r->event[i++].on_offer);
+        *to++ = '\n';
+        from += line + 1;
+    }
+    *to = 0;
+    if (strcmp(watch, want) != 0)
+        fault("the watch is not the listing with its numbers");
+}
+
 /* The engine's live responses are those that the records tell. */
 static void check_live(const struct peer_auction *a, const struct fold *f)
 {
@@ -624,16 +836,14 @@ int check(const char *dir)
 {
     static unsigned char tape[PEER_TAPE_MAX + 1];
     static struct peer_run r;
-    static char out[PEER_LISTING_MAX];
     struct fold told;
     size_t n, at, events;
     long accepted = 0;
     int most = 0;
 
     for (current = 0; read_tape_file(dir, current, tape, &n); current++) {
-        peer_run(tape, n, &r);
-        if (peer_print(&r, out) > PEER_LISTING_MAX)
-            fault("listing too long");
+        peer_run(tape, n, 1, &r);
+        check_text(&r, tape, n);
         if (r.refused)
             continue;
         accepted++;
@@ -641,6 +851,7 @@ int check(const char *dir)
         if (r.n_fills > most)
             most = r.n_fills;
         told = check_answers(&r, tape + at + PEER_ORDER_BYTES);
+        check_watch(&r, tape + at + PEER_ORDER_BYTES);
         check_live(&r.end, &told);
         check_fills(&r, &told);
         check_parties(&r, tape + at + PEER_ORDER_BYTES);

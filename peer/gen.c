@@ -340,12 +340,15 @@ static void damage_order(unsigned char *p, uint32_t k)
 
 /* What a tape is to look like. */
 enum plan_body {
-    BODY_NONE, BODY_ONE, BODY_SHARE, BODY_LEVELS, BODY_FULL, BODY_BOUND, BODY_MIX, BODY_DAMAGED, BODY_LONG
+    BODY_NONE, BODY_ONE, BODY_SHARE, BODY_LEVELS, BODY_FULL, BODY_BOUND, BODY_MIX, BODY_DAMAGED, BODY_LONG,
+    BODY_CAPPED, BODY_LARGE, BODY_GREATEST  /* these three for the contracts on offer */
 };
 
 enum plan_ending {
     END_LATE, END_CLOSE, END_SAME_LIMIT, END_SAME_MARKET, END_OPP_LIMIT, END_OPP_MARKET,
-    END_IMPROVE_BID, END_IMPROVE_QUOTES, END_KINDS
+    END_IMPROVE_BID, END_IMPROVE_QUOTES,
+    END_DRAWN,                              /* those before are for any tape */
+    END_OPP_ABOVE = END_DRAWN, END_KINDS
 };
 
 struct draft {
@@ -388,15 +391,22 @@ static void send_event(struct draft *d, const struct peer_event *e)
     send_bytes(d, p);
 }
 
-/* How the auction would stand after the bytes. */
-static int ending_after(const struct draft *d, const unsigned char *p)
+/* What the bytes would be answered; the auction would stand as in after. */
+static int answer_to(const struct draft *d, const unsigned char *p, struct peer_auction *after)
 {
-    struct peer_auction a = d->a;
     struct peer_event e;
 
+    *after = d->a;
     peer_read_event(p, &e);
-    peer_step(&a, &e);
-    return a.ending;
+    return peer_step(after, &e);
+}
+
+static int ending_after(const struct draft *d, const unsigned char *p)
+{
+    struct peer_auction after;
+
+    answer_to(d, p, &after);
+    return after.ending;
 }
 
 /* The next sequence and time, written into an event. */
@@ -1324,6 +1334,237 @@ static void body_damaged(struct draft *d)
 }
 
 /* ------------------------------------------------------------------ */
+/* Bodies aimed at the contracts on offer                             */
+
+/* A size about the CUBE size, most often above it. */
+static uint32_t size_about_cap(struct draft *d)
+{
+    uint32_t cap = d->a.order.size;
+
+    switch (below(&d->g, 8)) {
+    case 0: case 1: return as_size((int64_t)cap + 1);
+    case 2: return as_size((int64_t)cap + between(&d->g, 2, 1000));
+    case 3: return PEER_SIZE_MAX;
+    case 4: case 5: return between(&d->g, cap, PEER_SIZE_MAX);
+    case 6: return cap;
+    default: return as_size((int64_t)cap - 1);
+    }
+}
+
+/* The size of an amend: by one, down, up, to the cap, past it, the same. */
+static uint32_t moved_size(struct draft *d, uint32_t old)
+{
+    uint32_t cap = d->a.order.size;
+
+    switch (below(&d->g, 8)) {
+    case 0: return as_size((int64_t)old - 1);
+    case 1: return as_size((int64_t)old + 1);
+    case 2: return between(&d->g, 1, old);
+    case 3: return between(&d->g, old, cap);
+    case 4: return cap;
+    case 5: return old;
+    default: return size_about_cap(d);
+    }
+}
+
+/* Some live GTX, or NULL. */
+static const struct peer_response *some_gtx(struct draft *d)
+{
+    const struct peer_auction *a = &d->a;
+    int i, from = (int)below(&d->g, PEER_PLACES);
+
+    for (i = 0; i < a->n_live; i++) {
+        const struct peer_response *r = &a->live[(from + i) % a->n_live];
+
+        if (r->gtx)
+            return r;
+    }
+    return NULL;
+}
+
+/* A cancel or an amend of a live GTX. */
+static struct peer_event move_of(struct draft *d, const struct peer_response *r)
+{
+    struct peer_event e = build_cancel(0, 0, r->seq);
+
+    if (chance(&d->g, 65)) {
+        uint32_t size = moved_size(d, r->size);
+
+        e = build_amend(0, 0, r->seq, size, chance(&d->g, 70) ? r->price : response_price(d));
+    }
+    return stamp(d, e);
+}
+
+/* A GTX about its cap, or a move of one that is live. */
+static struct peer_event offer_event(struct draft *d)
+{
+    const struct peer_response *r = some_gtx(d);
+    struct peer_event e;
+
+    if (r != NULL && chance(&d->g, 55))
+        return move_of(d, r);
+    e = stamp(d, build_gtx(0, 0, PEER_SELL, size_about_cap(d), 1, 0));
+    e.field[1] = response_price(d);
+    e.marks = response_mark(d);
+    return e;
+}
+
+/* The bytes of a record sent before: of a name that is gone, or any. */
+static const unsigned char *sent_before(struct draft *d)
+{
+    uint32_t gone = named_before(d);
+    int i = (int)below(&d->g, (uint32_t)d->n), k;
+
+    if (chance(&d->g, 50))
+        for (k = 0; k < d->n; k++)
+            if (seq_of_sent(d, k) == gone)
+                i = k;
+    return d->bytes + PEER_EVENT_BYTES * i;
+}
+
+/* Sends a record that the number refuses, if it is found; without that number
+ * most would move what is on offer. */
+static void send_refused(struct draft *d, uint32_t number)
+{
+    const struct peer_auction *a = &d->a;
+    struct peer_event e = offer_event(d);
+    struct peer_auction after;
+    unsigned char p[PEER_EVENT_BYTES];
+    int again = 0;
+
+    switch (number) {
+    case 32:
+        if (e.kind == PEER_GTX && chance(&d->g, 50))
+            e.field[0] = (uint32_t)PICK(&d->g, 0, 100001, -1);
+        else
+            e.marks = (uint32_t)PICK(&d->g, 2, 4, 128);
+        break;
+    case 33:
+        again = d->n > 0 && chance(&d->g, 60);
+        e.seq = chance(&d->g, 50) ? a->top_seq : below(&d->g, a->top_seq);
+        break;
+    case 34:
+        e.time = clamp((int64_t)a->clock - PICK(&d->g, 1, 1, 5), 0, PEER_TIME_MAX);
+        break;
+    case 35:
+        e = stamp(d, build_gtx(0, 0, PEER_BUY, size_about_cap(d), a->init, 0));
+        break;
+    case 36:
+        if (e.kind == PEER_CANCEL)
+            e = stamp(d, build_gtx(0, 0, PEER_SELL, size_about_cap(d), 1, 0));
+        e.field[e.kind == PEER_AMEND ? 2 : 1] = as_price((int64_t)a->init + PICK(&d->g, 1, 1, 2, 100));
+        break;
+    case 37:
+        if (e.kind == PEER_GTX)
+            e = stamp(d, build_cancel(0, 0, 0));
+        e.field[0] = any_name(d, e.seq);
+        break;
+    default:                                /* 38: any that needs a place, on a full board */
+        if (chance(&d->g, 50))
+            e = stamp(d, build_limit(0, 0, PEER_SELL, PEER_SIZE_MAX, a->init, 0));
+        break;
+    }
+    if (again)
+        memcpy(p, sent_before(d), PEER_EVENT_BYTES);
+    else
+        to_bytes(d, &e, p);
+    if (answer_to(d, p, &after) == (int)number)
+        send_bytes(d, p);
+}
+
+static void send_any_refused(struct draft *d) { send_refused(d, between(&d->g, 32, 38)); }
+
+/* A response that counts with its whole size, where it ends nothing: a limit
+ * order, or a GTX of no more than the CUBE size. */
+static void send_whole(struct draft *d, uint32_t size)
+{
+    uint32_t price = between(&d->g, d->a.nbb + 1, d->a.init);
+    uint32_t marks = response_mark(d);
+    struct peer_event e;
+
+    if (size <= d->a.order.size && chance(&d->g, 50)) {
+        e = build_gtx(0, 0, PEER_SELL, size, price, marks);
+    } else {
+        if (chance(&d->g, 30))
+            marks |= PEER_NON_ROUTABLE;
+        e = build_limit(0, 0, PEER_SELL, size, price, marks);
+    }
+    e = stamp(d, e);
+    send_quiet(d, &e);
+}
+
+/* GTX about their cap, moved again and again; limit orders past it. */
+static void body_capped(struct draft *d)
+{
+    int k;
+
+    for (k = (int)between(&d->g, 6, 24); k > 0; k--) {
+        switch (below(&d->g, 8)) {
+        case 0:
+            send_whole(d, size_about_cap(d));
+            break;
+        case 1:                             /* above the initiating price it takes no place */
+            try_limit(d, PEER_SELL, (int64_t)d->a.init + PICK(&d->g, 0, 1, 1, 2), 0);
+            break;
+        case 2: case 3:
+            send_any_refused(d);
+            break;
+        default:
+            send_some(d, offer_event);
+            break;
+        }
+    }
+}
+
+/* Fills places up to a goal, with the greatest size or a few less. */
+static void fill_large(struct draft *d, int goal, uint32_t off)
+{
+    const struct peer_auction *a = &d->a;
+    int k;
+
+    for (k = a->n_live; k < goal + 5 && a->n_live < goal && a->nbb < a->init; k++) {
+        send_whole(d, PEER_SIZE_MAX - between(&d->g, 0, off));
+        if (chance(&d->g, 15))
+            send_any_refused(d);
+    }
+}
+
+static void body_large(struct draft *d)
+{
+    int k, goal = (int)between(&d->g, 20, 50);
+
+    fill_large(d, goal, chance(&d->g, 50) ? 1 : 10);
+    for (k = (int)below(&d->g, 8); k > 0; k--)
+        send_some(d, offer_event);
+}
+
+/* 64 places of the greatest size, all but the last if the ending takes it;
+ * where one can go or shrink, it does, and comes back. */
+static void body_greatest(struct draft *d, int goal)
+{
+    const struct peer_response *r;
+    struct peer_event e;
+    int k;
+
+    fill_large(d, goal, 0);
+    for (k = (int)between(&d->g, 2, 5); k > 0; k--)
+        send_refused(d, chance(&d->g, 50) ? 38 : between(&d->g, 32, 37));
+    for (k = (int)between(&d->g, 1, 4); k > 0 && (r = some_gtx(d)) != NULL; k--) {
+        if (chance(&d->g, 50)) {
+            cancel_named(d, r->seq);
+        } else {
+            e = stamp(d, build_amend(0, 0, r->seq, PEER_SIZE_MAX - 1, r->price));
+            send_event(d, &e);
+            e = stamp(d, build_amend(0, 0, e.seq, PEER_SIZE_MAX, e.field[2]));
+            send_event(d, &e);
+        }
+        if (chance(&d->g, 80))
+            fill_large(d, goal, 0);
+        send_any_refused(d);
+    }
+}
+
+/* ------------------------------------------------------------------ */
 /* Endings                                                            */
 
 static struct peer_event ending_event(struct draft *d, int ending)
@@ -1355,6 +1596,11 @@ static struct peer_event ending_event(struct draft *d, int ending)
         return e;
     case END_OPP_MARKET:
         return any_market(d, PEER_SELL);
+    case END_OPP_ABOVE:                     /* marketable, and above the initiating price */
+        e = any_limit(d, PEER_SELL);
+        e.marks &= PEER_CUSTOMER;
+        e.field[1] = as_price(between(&d->g, a->init + 1, a->nbb));
+        return e;
     case END_IMPROVE_BID:
         marks = below(&d->g, 4);
         e = stamp(d, build_limit(0, 0, PEER_BUY, response_size(d), 1, marks));
@@ -1369,7 +1615,7 @@ static void send_ending(struct draft *d, int ending)
 {
     static const int stands[END_KINDS] = {
         PEER_BY_TIME, PEER_BY_TIME, PEER_BY_SAME, PEER_BY_SAME, PEER_BY_OPPOSITE, PEER_BY_OPPOSITE,
-        PEER_BY_IMPROVE, PEER_BY_IMPROVE
+        PEER_BY_IMPROVE, PEER_BY_IMPROVE, PEER_BY_OPPOSITE
     };
     unsigned char p[PEER_EVENT_BYTES];
     struct peer_event e;
@@ -1377,6 +1623,8 @@ static void send_ending(struct draft *d, int ending)
 
     if (ending == END_CLOSE || d->a.ending != PEER_OPEN)
         return;
+    if (ending == END_OPP_ABOVE)            /* a national bid above the initiating price */
+        try_quotes(d, (int64_t)d->a.init + PICK(&d->g, 1, 1, 2, 3), d->a.nbo, d->a.bb, d->a.bo, mark_bb(d));
     for (tries = 0; tries < 80; tries++) {
         e = ending_event(d, ending);
         to_bytes(d, &e, p);
@@ -1430,6 +1678,8 @@ static void draft_events(struct draft *d, int body, int ending, int wide)
         }
         if (wide)
             d->market = between(&d->g, 1, 3);
+        if (body >= BODY_CAPPED)            /* it counts whole, or not at all */
+            d->market = body == BODY_GREATEST ? PEER_SIZE_MAX : size_about_cap(d);
     }
     if (body != BODY_NONE && !wide && chance(&d->g, 12))
         send_odd(d);
@@ -1442,6 +1692,9 @@ static void draft_events(struct draft *d, int body, int ending, int wide)
     case BODY_MIX: body_mix(d, (int)between(&d->g, 1, 25)); break;
     case BODY_DAMAGED: body_damaged(d); break;
     case BODY_LONG: body_mix(d, PEER_EVENTS_MAX - 30); break;
+    case BODY_CAPPED: body_capped(d); break;
+    case BODY_LARGE: body_large(d); break;
+    case BODY_GREATEST: body_greatest(d, ending == END_OPP_LIMIT ? PEER_PLACES - 1 : PEER_PLACES); break;
     }
     if (!wide && body != BODY_NONE && chance(&d->g, 20))
         script(d);
@@ -1456,7 +1709,7 @@ static void draft_events(struct draft *d, int body, int ending, int wide)
     if (chance(&d->g, 8))                   /* the last word before the ending */
         send_some(d, aimed_amend);
     send_ending(d, ending);
-    if (ending != END_CLOSE && chance(&d->g, 25))
+    if (ending != END_CLOSE && chance(&d->g, body >= BODY_CAPPED ? 60 : 25))
         send_tail(d);
     if (body == BODY_LONG)                  /* as many events as a tape can hold */
         while (d->n < PEER_EVENTS_MAX)
@@ -1561,6 +1814,10 @@ static uint32_t prefix_length(struct rng *g, size_t rest)
 
 size_t gen_tape(uint64_t seed, uint32_t index, unsigned char *out)
 {
+    static const int offer_ending[] = {
+        END_OPP_LIMIT, END_OPP_ABOVE, END_LATE, END_OPP_MARKET, END_OPP_LIMIT, END_OPP_ABOVE, END_LATE, END_CLOSE,
+        END_OPP_MARKET, END_OPP_LIMIT, END_OPP_ABOVE, END_SAME_MARKET, END_IMPROVE_BID
+    };
     struct draft d;
     struct rng *g = &d.g;
     unsigned char order_bytes[PEER_ORDER_BYTES];
@@ -1576,7 +1833,9 @@ size_t gen_tape(uint64_t seed, uint32_t index, unsigned char *out)
     g->state ^= next(g);
 
     /* Every twelfth tape is refused for its order; numbers, sides and modes
-     * take turns, so that each comes up. The rest are drawn. */
+     * take turns, so that each comes up. So do bodies, endings, sides and
+     * modes of the twelfth that is aimed at the contracts on offer. The rest
+     * are drawn. */
     d.sell = (int)below(g, 2);
     mode = between(g, 1, 3);
     if (kind == 5) {
@@ -1589,11 +1848,17 @@ size_t gen_tape(uint64_t seed, uint32_t index, unsigned char *out)
     body = (int)PICK(g, BODY_NONE, BODY_ONE, BODY_SHARE, BODY_SHARE, BODY_SHARE, BODY_SHARE, BODY_LEVELS, BODY_LEVELS,
                      BODY_LEVELS, BODY_LEVELS, BODY_LEVELS, BODY_LEVELS, BODY_LEVELS, BODY_FULL, BODY_BOUND, BODY_BOUND,
                      BODY_BOUND, BODY_MIX, BODY_MIX, BODY_MIX);
-    ending = (int)below(g, END_KINDS);
+    ending = (int)below(g, END_DRAWN);
     if (ending == END_OPP_MARKET && mode == PEER_MATCH && chance(g, 20))
         body = BODY_NONE;                   /* the midpoint */
     if (kind == 2 && chance(g, 30))
         body = BODY_DAMAGED;
+    if (kind == 11) {
+        d.sell = (int)(turn % 2);
+        mode = 1 + turn / 2 % 3;
+        body = BODY_CAPPED + (int)(turn / 6 % 3);
+        ending = offer_ending[turn / 18 % (sizeof offer_ending / sizeof offer_ending[0])];
+    }
     if (index % 500 == 498)
         body = BODY_LONG;
     room = ANY_ROOM;
@@ -1601,10 +1866,12 @@ size_t gen_tape(uint64_t seed, uint32_t index, unsigned char *out)
         room = WIDE_ROOM;
         if (chance(g, 40))
             ending = END_OPP_MARKET;        /* with it come the most fills there can be */
-    } else if (body == BODY_LEVELS && chance(g, 60))
+    } else if (body >= BODY_CAPPED || (body == BODY_LEVELS && chance(g, 60)))
         room = SOME_ROOM;
 
     o = number > 1 ? refused_order(g, mode, number) : good_order(g, mode, room);
+    if (body == BODY_GREATEST && chance(g, 70))
+        o.size = PEER_SIZE_MAX;             /* then a GTX can be of that size too */
     m = d.sell && peer_order_form(&o) ? build_turn_order(o) : o;
     build_order(order_bytes, &m);
     if (number == 1) {

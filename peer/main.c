@@ -2,6 +2,8 @@
  *
  *   peer list < TAPE            the listing of one tape
  *   peer evening < NAMES        the listings of many, one file name to a line
+ *   peer watch < TAPE           the listing, with the contracts on offer after each event
+ *   peer watches < NAMES        the same of many
  *   peer tapes SEED COUNT DIR   random tapes DIR/00000.tape and on
  *   peer stats DIR              what such a folder covers
  *   peer check DIR              whether its results hold up */
@@ -19,7 +21,10 @@
 static unsigned char tape[GEN_TAPE_MAX];
 static char listing[PEER_LISTING_MAX];
 
-static int list(void)
+/* From a tape to its listing or its watch. */
+typedef size_t printer(const unsigned char *tape, size_t n, char *out);
+
+static int list(printer *print)
 {
     size_t n = fread(tape, 1, PEER_TAPE_MAX + 1, stdin);
 
@@ -27,7 +32,7 @@ static int list(void)
         fprintf(stderr, "peer: standard input can't be read\n");
         return 1;
     }
-    n = peer_listing(tape, n, listing);
+    n = print(tape, n, listing);
     return fwrite(listing, 1, n, stdout) != n;
 }
 
@@ -60,7 +65,7 @@ static long read_line(FILE *f, char **line, size_t *room)
     return (long)n;
 }
 
-static int evening(void)
+static int evening(printer *print)
 {
     char *name = NULL;
     size_t room = 0, n;
@@ -76,7 +81,7 @@ static int evening(void)
             putchar('\n');
             continue;
         }
-        n = peer_listing(tape, n, listing);
+        n = print(tape, n, listing);
         fwrite(listing, 1, n, stdout);
     }
     free(name);
@@ -108,15 +113,19 @@ static int tapes(const char *seed, const char *count, const char *dir)
 int main(int argc, char **argv)
 {
     if (argc == 2 && strcmp(argv[1], "list") == 0)
-        return list();
+        return list(peer_listing);
     if (argc == 2 && strcmp(argv[1], "evening") == 0)
-        return evening();
+        return evening(peer_listing);
+    if (argc == 2 && strcmp(argv[1], "watch") == 0)
+        return list(peer_watch);
+    if (argc == 2 && strcmp(argv[1], "watches") == 0)
+        return evening(peer_watch);
     if (argc == 5 && strcmp(argv[1], "tapes") == 0)
         return tapes(argv[2], argv[3], argv[4]);
     if (argc == 3 && strcmp(argv[1], "stats") == 0)
         return stats(argv[2]);
     if (argc == 3 && strcmp(argv[1], "check") == 0)
         return check(argv[2]);
-    fprintf(stderr, "usage: peer list | evening | tapes SEED COUNT DIR | stats DIR | check DIR\n");
+    fprintf(stderr, "usage: peer list | evening | watch | watches | tapes SEED COUNT DIR | stats DIR | check DIR\n");
     return 2;
 }

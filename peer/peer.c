@@ -1,8 +1,8 @@
 /* peer.c: one single-leg CUBE auction, from a tape to its listing.
  *
  * The parts follow the headings of document 01; the amend is document 02's
- * W-201. All is worked as a buy; a sell is mirrored on the way in and its
- * fills are mirrored back. */
+ * W-201, the contracts on offer are its W-202. All is worked as a buy; a sell
+ * is mirrored on the way in and its fills are mirrored back. */
 #include "peer.h"
 
 #include <stdlib.h>
@@ -303,6 +303,17 @@ int peer_accept(const struct peer_order *raw, struct peer_auction *out)
 
 /* ------------------------------------------------------------------ */
 /* What an event does                                                 */
+
+/* Summed anew each time; nothing in the auction keeps it. */
+uint32_t peer_on_offer(const struct peer_auction *a)
+{
+    uint32_t total = 0;
+    int i;
+
+    for (i = 0; i < a->n_live; i++)
+        total += a->live[i].size;
+    return total;
+}
 
 static int end_by(struct peer_auction *a, int ending)
 {
@@ -684,12 +695,13 @@ int peer_fills(const struct peer_auction *a, struct peer_fill *fill)
 /* ------------------------------------------------------------------ */
 /* The runner                                                         */
 
-void peer_run(const unsigned char *tape, size_t n, struct peer_run *r)
+void peer_run(const unsigned char *tape, size_t n, int watch, struct peer_run *r)
 {
     struct peer_order o;
     struct peer_event e;
     size_t at, events, i;
 
+    r->watch = watch;
     r->n_events = 0;
     r->n_fills = 0;
     r->refused = peer_read_tape(tape, n, &at, &events);
@@ -705,6 +717,8 @@ void peer_run(const unsigned char *tape, size_t n, struct peer_run *r)
         peer_read_event(tape + at + PEER_ORDER_BYTES + PEER_EVENT_BYTES * i, &e);
         r->event[i].seq = e.seq;
         r->event[i].answer = peer_step(&r->end, &e);
+        if (watch)
+            r->event[i].on_offer = peer_on_offer(&r->end);
     }
     r->n_events = (int)events;
     peer_close(&r->end);
@@ -749,6 +763,21 @@ static char *put_range(char *p, const struct peer_auction *a)
     return put(p, "\n");
 }
 
+/* " taken", " ended", " late", or " refused" and its number. */
+static char *put_answer(char *p, int answer)
+{
+    switch (answer) {
+    case PEER_TAKEN:
+        return put(p, " taken");
+    case PEER_ENDED:
+        return put(p, " ended");
+    case PEER_LATE:
+        return put(p, " late");
+    default:
+        return put_number(put(p, " refused "), (uint32_t)answer);
+    }
+}
+
 size_t peer_print(const struct peer_run *r, char *out)
 {
     static const char *const ending[] = { "open", "time", "same", "opposite", "improve" };
@@ -768,21 +797,12 @@ size_t peer_print(const struct peer_run *r, char *out)
     p = put_range(p, &r->start);
 
     for (i = 0; i < r->n_events; i++) {
-        int answer = r->event[i].answer;
-
         p = put(p, "EVENT ");
         p = put_number(p, r->event[i].seq);
-        if (answer == PEER_TAKEN) {
-            p = put(p, " taken\n");
-        } else if (answer == PEER_ENDED) {
-            p = put(p, " ended\n");
-        } else if (answer == PEER_LATE) {
-            p = put(p, " late\n");
-        } else {
-            p = put(p, " refused ");
-            p = put_number(p, (uint32_t)answer);
-            p = put(p, "\n");
-        }
+        p = put_answer(p, r->event[i].answer);
+        if (r->watch)
+            p = put_number(put(p, " on offer "), r->event[i].on_offer);
+        p = put(p, "\n");
     }
 
     p = put(p, "END ");
@@ -807,10 +827,14 @@ size_t peer_print(const struct peer_run *r, char *out)
     return (size_t)(p - out);
 }
 
-size_t peer_listing(const unsigned char *tape, size_t n, char *out)
+static size_t run_and_print(const unsigned char *tape, size_t n, int watch, char *out)
 {
     struct peer_run r;
 
-    peer_run(tape, n, &r);
+    peer_run(tape, n, watch, &r);
     return peer_print(&r, out);
 }
+
+size_t peer_listing(const unsigned char *tape, size_t n, char *out) { return run_and_print(tape, n, 0, out); }
+
+size_t peer_watch(const unsigned char *tape, size_t n, char *out) { return run_and_print(tape, n, 1, out); }

@@ -13,7 +13,9 @@
 #define PEER_EVENTS_MAX   2045      /* what fits a tape of the greatest length */
 #define PEER_PLACES       64
 #define PEER_FILLS_MAX    130
-#define PEER_LISTING_MAX  65536     /* no listing is longer than this */
+
+/* No listing is longer: EVENT lines of at most 48 bytes, FILL lines of at most 30, and 97 for the other three. */
+#define PEER_LISTING_MAX  (PEER_EVENTS_MAX * 48 + PEER_FILLS_MAX * 30 + 97)
 
 #define PEER_MIRROR       1000000u  /* a sell's price p is worked as this less p */
 #define PEER_PRICE_MAX    999999u
@@ -87,12 +89,14 @@ struct peer_fill {
 
 /* All that a listing says of a tape. */
 struct peer_run {
+    int watch;                          /* are the contracts on offer told? */
     int refused;                        /* number for tape or order, else 0 */
     struct peer_auction start, end;     /* at acceptance, and after the ending */
     int n_events;
     struct {
         uint32_t seq;
         int answer;
+        uint32_t on_offer;              /* in a watch: after it, also where it was refused */
     } event[PEER_EVENTS_MAX];
     int n_fills;
     struct peer_fill fill[PEER_FILLS_MAX];
@@ -118,6 +122,9 @@ uint32_t peer_bound(const struct peer_auction *a);
 /* G, once the auction has ended. */
 uint32_t peer_guarantee(const struct peer_auction *a);
 
+/* The contracts on offer: the total size of the live responses. */
+uint32_t peer_on_offer(const struct peer_auction *a);
+
 /* One event: an answer or a number 31 to 38. */
 int peer_step(struct peer_auction *a, const struct peer_event *raw);
 
@@ -127,13 +134,17 @@ int peer_close(struct peer_auction *a);
 /* The fills of an ended auction, in the prices of the tape; gives their count. */
 int peer_fills(const struct peer_auction *a, struct peer_fill *fill);
 
-/* Runs a whole tape, and closes an auction still open after it. */
-void peer_run(const unsigned char *tape, size_t n, struct peer_run *r);
+/* Runs a whole tape, and closes an auction still open after it. A watch also
+ * tells the contracts on offer after each event; a listing needs no sums. */
+void peer_run(const unsigned char *tape, size_t n, int watch, struct peer_run *r);
 
 /* The listing of a run; out has room for PEER_LISTING_MAX bytes. */
 size_t peer_print(const struct peer_run *r, char *out);
 
 /* Both together: tape bytes to listing bytes, giving the listing's length. */
 size_t peer_listing(const unsigned char *tape, size_t n, char *out);
+
+/* The listing with the contracts on offer at the end of each EVENT line. */
+size_t peer_watch(const unsigned char *tape, size_t n, char *out);
 
 #endif
