@@ -22,12 +22,33 @@ use tape::Order;
 use tape::ReadOrder;
 use tape::Trailer;
 ghost use mathlib.Core.Path.{_≡_};
+ghost use Prim.Native.Nat.{_≤_};
 ghost use lib.ListN.{length};
+ghost use Rattle.io.specs.Counts.{Counts};
 
 fn tape_buffer() -> [u8; MOST]
     ensures { λ r. ⌜ 65537 ≡ length r ⌝ }
 {
     [0; MOST]
+}
+
+fn lines_buffer() -> [u8; LINES]
+    ensures { λ r. ⌜ 9216 ≡ length r ⌝ }
+{
+    [0; LINES]
+}
+
+fn order_buffer() -> [u8; 64]
+    ensures { λ r. ⌜ 64 ≡ length r ⌝ }
+{
+    [0; 64]
+}
+
+// An event's record, with room for an order's before it.
+fn record_buffer() -> [u8; 96]
+    ensures { λ r. ⌜ 96 ≡ length r ⌝ }
+{
+    [0; 96]
 }
 
 // ---- writing: whether all was written; where not, it is said
@@ -110,14 +131,21 @@ fn print_auction(word: &[u8], a: Auction) -> bool {
 
 // ---- the lines of a watch, in lent bytes
 
+// The first n bytes.
+fn print_start(out: &[u8], n: usize) -> bool
+    requires { ⌜ n ≤ length (now out) ⌝ }
+{
+    print(&out[..n])
+}
+
 fn show_refused(number: u32, out: &mut [u8]) -> bool {
     let n = watch::refused(number, out);
-    print(&out[..n])
+    print_start(out, n)
 }
 
 fn show_opened(a: Auction, out: &mut [u8]) -> bool {
     let n = watch::opened(a.head, out);
-    print(&out[..n])
+    print_start(out, n)
 }
 
 // The auction after an event, and whether its line was written.
@@ -128,15 +156,14 @@ struct Shown {
 
 fn show_event(a: Auction, e: Event, out: &mut [u8]) -> Shown {
     let w = watch::event(a, e, out);
-    let n = w.length;
-    let well = print(&out[..n]);
+    let well = print_start(out, w.length);
     let auction = w.auction;
     Shown { auction, well }
 }
 
 fn show_ended(a: Auction, out: &mut [u8]) -> bool {
     let n = watch::ended(a, out);
-    print(&out[..n])
+    print_start(out, n)
 }
 
 // ---- a tape
@@ -235,24 +262,27 @@ fn serve_tape(watches: bool, out: &mut [u8]) {
 
 // What was read of a record: how many bytes, and whether the read went well; where not, it is said.
 struct Came {
-    bytes: usize,
+    length: usize,
     well: bool,
 }
 
-fn read_record(record: &mut [u8]) -> Came {
-    let c = input::read_tape(STDIN_FILENO, record);
+fn read_record(bytes: &mut [u8]) -> Came
+    ensures { λ r. ⌜ Counts (r .length) (now (bytes .exit)) ⌝ }
+{
+    let c = input::read_tape(STDIN_FILENO, bytes);
     if !c.whole {
         os::fail(b"desk: standard input");
     }
     Came {
-        bytes: c.length,
+        length: c.length,
         well: c.whole,
     }
 }
 
 fn is_open(a: Auction) -> bool {
     let h = a.head;
-    auction::is_open(h.ending)
+    let g = h.ending;
+    auction::is_open(g)
 }
 
 // The input is at its end: an auction still open is closed by hand; of one that has ended the lines were shown.
@@ -262,21 +292,15 @@ fn live_end(a: Auction, out: &mut [u8]) {
     }
 }
 
-// One event record, which stands after the order's 64 bytes; the lines of the end at once where it ends the auction.
-fn live_event(a: Auction, record: &[u8], out: &mut [u8]) -> Shown {
+// One event record, with room for an order's before it; the lines of the end at once where it ends the auction.
+fn live_event(a: Auction, bytes: &[u8], out: &mut [u8]) -> Shown {
     let t = Trailer {
         order: 0,
         events: 1,
     };
-    let s = show_event(a, tape::record_in(record, t, 0), out);
-    if !s.well {
-        return s;
-    }
-    if !is_open(a) {
-        return s;
-    }
+    let s = show_event(a, tape::record_in(bytes, t, 0), out);
     let after = s.auction;
-    if is_open(after) {
+    if !s.well | !is_open(a) | is_open(after) {
         return s;
     }
     let well = show_ended(after, out);
@@ -286,27 +310,43 @@ fn live_event(a: Auction, record: &[u8], out: &mut [u8]) -> Shown {
     }
 }
 
-fn live_events(opened: Auction, out: &mut [u8]) {
-    let mut record = [0u8; 96];
+// No record follows.
+fn stopped(a: Auction) -> Shown {
+    Shown {
+        auction: a,
+        well: false,
+    }
+}
+
+// The next event record: the auction after it, and whether one may follow.
+fn live_turn(a: Auction, bytes: &mut [u8], out: &mut [u8]) -> Shown
+    requires { ⌜ length (now bytes) ≡ 96 ⌝ }
+{
+    let c = read_record(&mut bytes[64..]);
+    if !c.well {
+        return stopped(a);
+    }
+    if c.length == 0 {
+        live_end(a, out);
+        return stopped(a);
+    }
+    if c.length < 32 {
+        io::write_all(
+            STDERR_FILENO,
+            b"desk: standard input ended inside an event record; the auction was not closed\n",
+        );
+        return stopped(a);
+    }
+    live_event(a, bytes, out)
+}
+
+fn live_events(opened: Auction, bytes: &mut [u8], out: &mut [u8])
+    requires { ⌜ length (now bytes) ≡ 96 ⌝ }
+{
     let mut a = opened;
     let mut turns = u64::MAX;
     while turns > 0 {
-        let c = read_record(&mut record[64..]);
-        if !c.well {
-            return;
-        }
-        if c.bytes == 0 {
-            live_end(a, out);
-            return;
-        }
-        if c.bytes < 32 {
-            io::write_all(
-                STDERR_FILENO,
-                b"desk: standard input ended inside an event record, and the auction was not closed\n",
-            );
-            return;
-        }
-        let s = live_event(a, &record, out);
+        let s = live_turn(a, bytes, out);
         if !s.well {
             return;
         }
@@ -315,16 +355,19 @@ fn live_events(opened: Auction, out: &mut [u8]) {
     }
 }
 
+fn live_auction(a: Auction, out: &mut [u8]) {
+    let mut bytes = record_buffer();
+    if show_opened(a, out) {
+        live_events(a, &mut bytes, out);
+    }
+}
+
 fn live_order(o: Order, out: &mut [u8]) {
     let opening = auction::accept(o);
     let answer = opening.answer;
     let a = opening.auction;
     match answer {
-        Entry::Accepted => {
-            if show_opened(a, out) {
-                live_events(a, out);
-            }
-        }
+        Entry::Accepted => live_auction(a, out),
         Entry::Refused(number) => {
             show_refused(number, out);
         }
@@ -332,13 +375,13 @@ fn live_order(o: Order, out: &mut [u8]) {
 }
 
 fn live(out: &mut [u8]) {
-    let mut record = [0u8; 64];
-    let c = read_record(&mut record);
+    let mut order = order_buffer();
+    let c = read_record(&mut order);
     if !c.well {
         return;
     }
-    let n = c.bytes;
-    match tape::read_order(&record[..n]) {
+    let n = c.length;
+    match tape::read_order(&order[..n]) {
         ReadOrder::Order(o) => live_order(o, out),
         ReadOrder::Refused(number) => {
             show_refused(number, out);
@@ -363,12 +406,6 @@ fn is_word(text: &[u8], word: &[u8]) -> bool {
         i += 1;
     }
     true
-}
-
-fn lines_buffer() -> [u8; LINES]
-    ensures { λ r. ⌜ 9216 ≡ length r ⌝ }
-{
-    [0; LINES]
 }
 
 fn serve(word: &[u8]) {

@@ -10,7 +10,7 @@ use Rattle.mirror.specs.promises.Records.{RecordsMirror}
 use Rattle.board.specs.promises.Board.{Changes, Seen, Finding, Ordering}
 use Rattle.share.specs.promises.Share.{ProRata}
 use Rattle.demand.specs.promises.Demands.{Demands as Demands3, Few}
-use Rattle.run.specs.promises.Demands.{Keeps, Resend, Amends, Demanded, Mirrors}
+use Rattle.run.specs.promises.Demands.{Keeps, Resend, Amends, OnOffer, Demanded, Mirrors}
 use Rattle.run.specs.promises.InPlace.{InPlace}
 use Rattle.run.specs.promises.Figures.{Figures}
 use Rattle.listing.specs.promises.Demands.{Demands as Listings}
@@ -32,10 +32,11 @@ pub record Below : Type 0 where
   pub pro-rata : ProRata
   pub demand-3 : Demands3
   pub few : Few
-  -- every run: refusals, resends, amends, demand 3 of every list of events, sells, events in place
+  -- every run: refusals, resends, amends, the contracts on offer, demand 3 of every list of events, sells, events in place
   pub keeps : Keeps
   pub resend : Resend
   pub amends : Amends
+  pub on-offer : OnOffer
   pub demanded : Demanded
   pub mirrors : Mirrors
   pub in-place : InPlace

@@ -26,16 +26,18 @@ use Rattle.trade.specs.rules.Write.{reported}
 use Rattle.demand.specs.promises.Demands.{Absent, Distinct, got, gots}
 use Rattle.auction.specs.rules.Accept.{acceptOf}
 use Rattle.auction.specs.rules.Range.{isOpen}
+use Rattle.auction.specs.rules.Offer.{onOffer}
 use Rattle.auction.specs.declared.Auction.{Auction}
 use Rattle.auction.specs.declared.Ending.{Ending}
 use Rattle.decision.specs.rules.Decide.{isAmend}
 use Rattle.events.specs.rules.Step.{stepOf}
 use Rattle.events.specs.declared.Answer.{Answer}
 use Rattle.fills.specs.rules.Fills.{dealOf, auctionFills, fillsAnswer, fillsAfter}
-use Rattle.run.specs.rules.Run.{Said, run, heard, played, runOf}
+use Rattle.run.specs.rules.Run.{Said, said, run, heard, played, isTaken, runOf}
 use Rattle.run.specs.promises.Demands.{Within, Trades, Names, InTime}
 use Rattle.listing.specs.rules.Text.{text, newline}
-use Rattle.listing.specs.rules.Listing.{field, answerText, endText, refusedLine, auctionLine, eventLines, endLines, listingOf, roomOf, listedOf, lengthIn, bytesOf}
+use Rattle.listing.specs.rules.Watch.{watchLine}
+use Rattle.listing.specs.rules.Listing.{field, answerText, eventText, endText, refusedLine, auctionLine, eventLines, endLines, listingOf, roomOf, listedOf, lengthIn, bytesOf}
 use Rattle.promise.specs.rules.Answers.{Accepts, no, yes, openedIs, orderIs, eventIs, trailerIs, writtenIs, entryIs, answerIs, endingIs, filledIs, runIs, listedIs}
 use Rattle.promise.specs.rules.Tapes.{Carries}
 use Rattle.promise.specs.rules.Sides.{isSell, otherSide, better, gotBetter, sent, responses, takenRecords, atEnd, rangeAtEnd, writtenFills, liveAtEnd, marketOrder, workingPrice, othersAtPrice, guaranteeAtEnd, planAtPrice, leftToOthersAtPrice, sentBy, sentInstead, initiatingPrice, takesPlace, standingOf, hasNamed, givenSize, givenPrice}
@@ -82,8 +84,8 @@ pub record Numbered : Type 0 where
   pub writes-event : (e : Event) (out : List ℕ) → writtenIs (eventAnswer e out) ≡ cond (eventFormed e) (cond (ltb (length out) 32) (no 24) (yes tt)) (no 32)
   pub writes-trailer : (t : Trailer) (out : List ℕ) → writtenIs (trailerAnswer t out) ≡ cond (ltb (length out) 16) (no 24) (yes tt)
   -- the words of the EVENT and END lines
-  pub event-words : (a : Answer) (w : String) → answerIs a ≡ yes w → answerText a ≡ text " " ++ (text w ++ newline)
-  pub event-number : (a : Answer) (n : ℕ) → answerIs a ≡ no n → answerText a ≡ field " refused " n ++ newline
+  pub event-words : (a : Answer) (w : String) → answerIs a ≡ yes w → answerText a ≡ text " " ++ text w
+  pub event-number : (a : Answer) (n : ℕ) → answerIs a ≡ no n → answerText a ≡ field " refused " n
   pub end-words : (g : Ending) → endText g ≡ text "END " ++ text (endingIs g)
 
 -- which numbers an event's line can have
@@ -199,3 +201,24 @@ module _ (o : Order) where
     -- so one that was cancelled or amended is named no more: 37, and 36 before it
     pub named-no-more : (es : List Event) (e g : Event) → Accepts o → In e (takenRecords o es) → Names e → Names g → nameOf g ≡ nameOf e → InTime (auctionAfter es .head) g
         → answerIs (stepOf (auctionAfter es) g .answer) ≡ no (cond (isAmend g && better (isSell o) (initiatingPrice o) (newPriceOf g)) 36 37)
+
+-- ---- 5. the contracts on offer
+
+module _ (o : Order) where
+  pub record Offered : Type 0 where
+    -- after any records, refused ones among them, and at the end: the sum of the sizes over the live places
+    pub sums : (es : List Event) → Accepts o → onOffer (auctionAfter o es) ≡ sum (sizes (responses (auctionAfter o es)))
+    pub sums-end : (es : List Event) → Accepts o → onOffer (atEnd o es) ≡ sum (sizes (liveAtEnd o es))
+    -- which are those that the records taken leave standing: a GTX response with its size capped at the CUBE size, a limit order with its whole size
+    pub by-records : (es : List Event) → Accepts o → onOffer (auctionAfter o es) ≡ sum (sizes (standingOf o (takenRecords o es)))
+    -- a limit order that takes a place counts, whether or not it ends the auction; a market order does not
+    pub limit-counts : (es : List Event) (e : Event) → Accepts o → e .kind ≡ 3 → takesPlace o e ≡ true → isTaken (stepOf (auctionAfter o es) e .answer) ≡ true → onOffer (auctionAfter o (es ++ (e ∷ []))) ≡ onOffer (auctionAfter o es) + sizeOf e
+    pub market-not : (es : List Event) (e : Event) → e .kind ≡ 4 → onOffer (auctionAfter o (es ++ (e ∷ []))) ≡ onOffer (auctionAfter o es)
+    -- a record that is refused, or late, leaves it
+    pub leaves : (es : List Event) (e : Event) → isTaken (stepOf (auctionAfter o es) e .answer) ≡ false → onOffer (auctionAfter o (es ++ (e ∷ []))) ≡ onOffer (auctionAfter o es)
+    -- once the auction has ended it stands at its last value, whatever records come; closing by hand leaves it too
+    pub stands : (es fs : List Event) → isOpen (auctionAfter o es .head .ending) ≡ false → onOffer (auctionAfter o (es ++ fs)) ≡ onOffer (auctionAfter o es)
+    pub closing : (es : List Event) → onOffer (atEnd o es) ≡ onOffer (auctionAfter o es)
+    -- on a watch each EVENT line is the listing's, with the sum after that record at its end
+    pub watched : (es : List Event) (e : Event) → Accepts o
+        → watchLine (auctionAfter o es) e ≡ eventText (said (e .sequence) (stepOf (auctionAfter o es) e .answer)) ++ (field " on offer " (sum (sizes (standingOf o (takenRecords o (es ++ (e ∷ [])))))) ++ newline)

@@ -18,7 +18,7 @@ use Rattle.listing.specs.rules.Listing.{listingOf}
 use Rattle.promise.specs.rules.Tapes.{Carries, SomeTape, endOf, notRefused, notRefusedSaid, WithResent, mirroredLines}
 use Rattle.promise.specs.rules.Answers.{Accepts}
 use Rattle.promise.specs.rules.Sides.{isSell, buyRange, sellRange}
-use Rattle.promise.specs.promises.Parts.{Answered, Roomed, Filling, Numbered, EventNumber, InRealPrices, CountedOnce}
+use Rattle.promise.specs.promises.Parts.{Answered, Roomed, Filling, Numbered, EventNumber, InRealPrices, CountedOnce, Offered}
 use Rattle.promise.specs.promises.Below.{Below}
 
 pub record Promise : Type 0 where
@@ -43,7 +43,9 @@ pub record Promise : Type 0 where
   -- a tape with any number of resent records put in, or of any records after the ending, has the same END, FILL and TOTAL lines (a tape has at most 2,045 records)
   pub same-records : (a : Auction) (es fs : List Event) → WithResent a es fs → notRefused a fs ≡ notRefused a es
   pub resends : (s t : List ℕ) (o : Order) (es fs : List Event) → Carries s o es → Carries t o fs → WithResent (acceptOf o .auction) es fs → endOf t ≡ endOf s
-  -- 5. Sells mirror buys: the tape whose order and records in form are mirrored (a record out of form stays as it is) has the mirrored listing
+  -- 5. The contracts on offer, kept in the auction and shown on a watch, are the sum of the sizes over the live places after every record; a refusal leaves them, and after the ending they stand at their last value
+  pub on-offer : (o : Order) → Offered o
+  -- 6. Sells mirror buys: the tape whose order and records in form are mirrored (a record out of form stays as it is) has the mirrored listing
   pub can-mirror : (s : List ℕ) (o : Order) (es : List Event) → AllBytes s → Carries s o es → SomeTape (mirroredOrder o) (mirroredRecords es)
   pub mirrors : (s t : List ℕ) (o : Order) (es : List Event) → Carries s o es → Carries t (mirroredOrder o) (mirroredRecords es) → listingOf t ≡ mirroredLines (runOf s)
   -- and the theorems below

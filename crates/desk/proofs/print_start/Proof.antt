@@ -1,0 +1,17 @@
+use mathlib.Core.Path.{sym}
+use lib.Seq.{length-take-le}
+use borrow.Author.Needs.{needs}
+use Rattle.desk.proofs.print_start.Statement.{statement}
+use Rattle.desk.proofs.print_start.Tie as tie
+
+slice-aggregate-print : tie.Need-slice-aggregate-print
+slice-aggregate-print c = sym (length-take-le _ _ (c .before .before .pre))
+
+print-requires : tie.Need-print-requires
+print-requires c κs = search needs
+
+returns : tie.Need-returns
+returns c = search needs
+
+pub print-start-spec : {M : Type 1} → statement M
+print-start-spec = tie.close (tie.spec slice-aggregate-print print-requires returns)

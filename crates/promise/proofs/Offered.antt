@@ -1,0 +1,71 @@
+-- The contracts on offer, by the records: the sum of the sizes of what they leave standing. Assumes nothing.
+use mathlib.Core.Path.{_≡_, refl, sym, ap, subst, _∙_}
+use mathlib.Core.Bool.{Bool, true, false, cond, not, _&&_}
+use mathlib.Core.List.{List, [], _∷_, _++_, map}
+use mathlib.Core.Logic.{inl}
+use Prim.Native.Nat.{ℕ, _+_}
+use native.Mathlib.Omega.{arith}
+use Rattle.base.specs.Lists.{sum}
+use Rattle.base.proofs.ListLaws.{shuffles-sum}
+use Rattle.board.specs.declared.Response.{Response}
+use Rattle.board.specs.rules.Board.{inSequence, liveOf}
+use Rattle.board.proofs.SequenceLaws.{sequence-shuffles}
+use Rattle.share.specs.rules.Fills.{sizes}
+use Rattle.tape.specs.declared.order.Order.{Order}
+use Rattle.tape.specs.declared.event.Event.{Event}
+use Rattle.auction.specs.declared.Auction.{Auction}
+use Rattle.auction.specs.declared.Entry.the-variants.{Accepted}
+use Rattle.auction.specs.rules.Accept.{acceptOf}
+use Rattle.auction.specs.rules.Offer.{onOffer}
+use Rattle.events.specs.rules.Step.{sightOf, stepOf}
+use Rattle.run.specs.rules.Run.{said, run}
+use Rattle.run.proofs.OnOffer.{on-offer}
+use Rattle.listing.specs.rules.Listing.{watchedLine}
+use Rattle.promise.specs.rules.Sides.{sent, responses, takenRecords, standingOf}
+use Rattle.promise.specs.promises.Parts.{auctionAfter, Offered}
+use Rattle.promise.proofs.Carried.{accepted}
+use Rattle.promise.proofs.RealLaws.{sizes-sent}
+use Rattle.promise.proofs.Standing.{by-records}
+
+-- the sum of the sizes, in whatever order
+sizes-map : (rs : List Response) → sizes rs ≡ map (λ (r : Response). r .size) rs
+sizes-map [] = refl
+sizes-map (r ∷ rs) = ap {B = List ℕ} (λ zs. r .size ∷ zs) (sizes-map rs)
+
+sizes-sequence : (rs : List Response) → sum (sizes (inSequence rs)) ≡ sum (sizes rs)
+sizes-sequence rs = ap sum (sizes-map (inSequence rs)) ∙ shuffles-sum (λ (r : Response). r .size) (sequence-shuffles rs) ∙ ap sum (sym (sizes-map rs))
+
+-- an auction's responses have the sizes that stand on its board
+sizes-are : (a : Auction) → sum (sizes (liveOf (a .board))) ≡ sum (sizes (responses a))
+sizes-are a = ap sum (sym (sizes-sent (a .head .terms .sell) (liveOf (a .board))))
+
+-- records one after the other
+run-append : (es fs : List Event) (a : Auction) → run a (es ++ fs) ≡ run (run a es) fs
+run-append [] fs a = refl
+run-append (e ∷ es) fs a = run-append es fs (stepOf a e .auction)
+
+module _ (o : Order) where
+  -- the auction after one record more
+  after : (es : List Event) (e : Event) → onOffer (auctionAfter o (es ++ (e ∷ []))) ≡ onOffer (stepOf (auctionAfter o es) e .auction)
+  after es e = ap onOffer (run-append es (e ∷ []) (acceptOf o .auction))
+
+  sums : (es : List Event) → acceptOf o .answer ≡ Accepted → onOffer (auctionAfter o es) ≡ sum (sizes (responses (auctionAfter o es)))
+  sums es h = on-offer .sums o es h ∙ sizes-are (auctionAfter o es)
+
+  stood : (es : List Event) → acceptOf o .answer ≡ Accepted → onOffer (auctionAfter o es) ≡ sum (sizes (standingOf o (takenRecords o es)))
+  stood es h = sums es h ∙ sym (sizes-sequence (responses (auctionAfter o es))) ∙ ap (λ (rs : List Response). sum (sizes rs)) (by-records o es h)
+
+  pub offered : Offered o
+  unfolding watchedLine
+  offered =
+      record {
+        sums = λ es h. sums es (accepted o h);
+        sums-end = λ es h. on-offer .sums-end o es (accepted o h) ∙ sizes-are _;
+        by-records = λ es h. stood es (accepted o h);
+        limit-counts = ?;
+        market-not = λ es e k. after es e ∙ on-offer .market (sightOf (auctionAfter o es .board) e) (auctionAfter o es) e (inl k);
+        leaves = λ es e z. after es e ∙ on-offer .leaves (sightOf (auctionAfter o es .board) e) (auctionAfter o es) e z;
+        stands = λ es fs z. ap onOffer (run-append es fs (acceptOf o .auction)) ∙ on-offer .stands (auctionAfter o es) fs z .0;
+        closing = λ es. on-offer .closing (auctionAfter o es);
+        watched = λ es e h. ap (watchedLine (said (e .sequence) (stepOf (auctionAfter o es) e .answer))) (sym (after es e) ∙ stood (es ++ (e ∷ [])) (accepted o h));
+      }
