@@ -264,17 +264,17 @@ numbered =
     written-by true false n = refl
     written-by false short n = refl
 
-    said-by : (a : Answer) (w : String) → answerIs a ≡ yes w → answerText a ≡ text " " ++ (text w ++ newline)
-    said-by Taken w z = let q : w ≡ "taken" = cc in ap (λ (v : String). text " " ++ (text v ++ newline)) (sym q)
-    said-by Ended w z = let q : w ≡ "ended" = cc in ap (λ (v : String). text " " ++ (text v ++ newline)) (sym q)
-    said-by Late w z = let q : w ≡ "late" = cc in ap (λ (v : String). text " " ++ (text v ++ newline)) (sym q)
+    said-by : (a : Answer) (w : String) → answerIs a ≡ yes w → answerText a ≡ text " " ++ text w
+    said-by Taken w z = let q : w ≡ "taken" = cc in ap (λ (v : String). text " " ++ text v) (sym q)
+    said-by Ended w z = let q : w ≡ "ended" = cc in ap (λ (v : String). text " " ++ text v) (sym q)
+    said-by Late w z = let q : w ≡ "late" = cc in ap (λ (v : String). text " " ++ text v) (sym q)
     said-by (Refused n) w z = cc
 
-    number-by : (a : Answer) (n : ℕ) → answerIs a ≡ no n → answerText a ≡ field " refused " n ++ newline
+    number-by : (a : Answer) (n : ℕ) → answerIs a ≡ no n → answerText a ≡ field " refused " n
     number-by Taken n z = cc
     number-by Ended n z = cc
     number-by Late n z = cc
-    number-by (Refused k) n z = let q : k ≡ n = cc in ap (λ (m : ℕ). field " refused " m ++ newline) q
+    number-by (Refused k) n z = let q : k ≡ n = cc in ap (λ (m : ℕ). field " refused " m) q
 
     end-by : (g : Ending) → endText g ≡ text "END " ++ text (endingIs g)
     end-by Open = refl

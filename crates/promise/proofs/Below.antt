@@ -9,6 +9,7 @@ use Rattle.demand.proofs.Theorems.{demand3, few}
 use Rattle.run.proofs.Resend.{keeps}
 use Rattle.run.proofs.MarketFrom.{resend}
 use Rattle.run.proofs.Amends.{amends}
+use Rattle.run.proofs.OnOffer.{on-offer}
 use Rattle.run.proofs.SoundLaws.{demanded}
 use Rattle.run.proofs.Mirrors.{mirrors}
 use Rattle.run.proofs.LentLaws.{in-place}
@@ -33,6 +34,7 @@ below =
       keeps = keeps;
       resend = resend;
       amends = amends;
+      on-offer = on-offer;
       demanded = demanded;
       mirrors = mirrors;
       in-place = in-place;

@@ -13,6 +13,7 @@ pub mod Shared
 pub mod SharedFigures
 pub mod Standing
 pub mod Counted
+pub mod Offered
 pub mod MarketTrades
 pub mod InRealPrices
 pub mod Mirrored

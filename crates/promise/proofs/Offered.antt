@@ -5,6 +5,8 @@ use mathlib.Core.List.{List, [], _∷_, _++_, map}
 use mathlib.Core.Logic.{inl}
 use Prim.Native.Nat.{ℕ, _+_}
 use native.Mathlib.Omega.{arith}
+use lib.Dec.{leb, eqb}
+use borrow.Author.Tests.{eq-eqb, ne-eqb}
 use Rattle.base.specs.Lists.{sum}
 use Rattle.base.proofs.ListLaws.{shuffles-sum}
 use Rattle.board.specs.declared.Response.{Response}
@@ -13,19 +15,27 @@ use Rattle.board.proofs.SequenceLaws.{sequence-shuffles}
 use Rattle.share.specs.rules.Fills.{sizes}
 use Rattle.tape.specs.declared.order.Order.{Order}
 use Rattle.tape.specs.declared.event.Event.{Event}
+use Rattle.tape.specs.rules.Form.{eventFormed}
+use Rattle.tape.specs.rules.Fields.{sizeOf, priceOf}
+use Rattle.mirror.specs.rules.Mirror.{buyEvent}
 use Rattle.auction.specs.declared.Auction.{Auction}
 use Rattle.auction.specs.declared.Entry.the-variants.{Accepted}
 use Rattle.auction.specs.rules.Accept.{acceptOf}
 use Rattle.auction.specs.rules.Offer.{onOffer}
+use Rattle.decision.specs.declared.Sight.{Sight}
 use Rattle.events.specs.rules.Step.{sightOf, stepOf}
-use Rattle.run.specs.rules.Run.{said, run}
+use Rattle.run.specs.rules.Run.{said, run, isTaken}
+use Rattle.run.specs.promises.Demands.{Sound, brings, takesAway}
+use Rattle.run.proofs.BoardSteps.{sees}
+use Rattle.run.proofs.Resend.{keeps}
+use Rattle.run.proofs.SoundLaws.{sound-opened, sound-run}
 use Rattle.run.proofs.OnOffer.{on-offer}
 use Rattle.listing.specs.rules.Listing.{watchedLine}
-use Rattle.promise.specs.rules.Sides.{sent, responses, takenRecords, standingOf}
+use Rattle.promise.specs.rules.Sides.{responses, takesPlace, takenRecords, standingOf, atEnd}
 use Rattle.promise.specs.promises.Parts.{auctionAfter, Offered}
 use Rattle.promise.proofs.Carried.{accepted}
 use Rattle.promise.proofs.RealLaws.{sizes-sent}
-use Rattle.promise.proofs.Standing.{by-records}
+use Rattle.promise.proofs.Standing.{by-records, takes-is, ours-after}
 
 -- the sum of the sizes, in whatever order
 sizes-map : (rs : List Response) → sizes rs ≡ map (λ (r : Response). r .size) rs
@@ -55,14 +65,25 @@ module _ (o : Order) where
   stood : (es : List Event) → acceptOf o .answer ≡ Accepted → onOffer (auctionAfter o es) ≡ sum (sizes (standingOf o (takenRecords o es)))
   stood es h = sums es h ∙ sym (sizes-sequence (responses (auctionAfter o es))) ∙ ap (λ (rs : List Response). sum (sizes rs)) (by-records o es h)
 
+  limit-counts : (es : List Event) (e : Event) → acceptOf o .answer ≡ Accepted → e .kind ≡ 3 → takesPlace o e ≡ true → isTaken (stepOf (auctionAfter o es) e .answer) ≡ true → onOffer (stepOf (auctionAfter o es) e .auction) ≡ onOffer (auctionAfter o es) + sizeOf e
+  limit-counts es e h k t z =
+      let a : Auction = auctionAfter o es in
+      let v : Sight = sightOf (a .board) e in
+      let s : Sound a = sound-run es (acceptOf o .auction) (sound-opened o h) in
+      let formed : eventFormed e ≡ true = keeps .taken v a e z .0 .ordinary .formed in
+      let placed : (not (eqb (buyEvent (a .head .terms .sell) e .side) 1) && leb (priceOf (buyEvent (a .head .terms .sell) e)) (a .head .terms .initiating)) ≡ true = sym (takes-is o a e s (ours-after o es h) _ refl k formed) ∙ t in
+      let away : takesAway v e ≡ 0 = simp (ne-eqb (e .kind) 2 (λ z. omega arith), ne-eqb (e .kind) 6 (λ z. omega arith)) in
+      let brought : brings (a .head .terms) e ≡ sizeOf e = simp (ne-eqb (e .kind) 1 (λ z. omega arith), eq-eqb (e .kind) 3 k, placed) in
+      omega (arith, on-offer .moves v a e (sees (a .board) e (s .board)) s z, away, brought)
+
   pub offered : Offered o
   unfolding watchedLine
   offered =
       record {
         sums = λ es h. sums es (accepted o h);
-        sums-end = λ es h. on-offer .sums-end o es (accepted o h) ∙ sizes-are _;
+        sums-end = λ es h. on-offer .sums-end o es (accepted o h) ∙ sizes-are (atEnd o es);
         by-records = λ es h. stood es (accepted o h);
-        limit-counts = ?;
+        limit-counts = λ es e h k t z. after es e ∙ limit-counts es e (accepted o h) k t z;
         market-not = λ es e k. after es e ∙ on-offer .market (sightOf (auctionAfter o es .board) e) (auctionAfter o es) e (inl k);
         leaves = λ es e z. after es e ∙ on-offer .leaves (sightOf (auctionAfter o es .board) e) (auctionAfter o es) e z;
         stands = λ es fs z. ap onOffer (run-append es fs (acceptOf o .auction)) ∙ on-offer .stands (auctionAfter o es) fs z .0;

@@ -183,7 +183,7 @@ named-is sell b k g d = go (ltb (findGtx b k) 64) refl
 -- ---- a step
 
 -- the terms of an auction are those of the order
-record Ours (o : Order) (t : Terms) : Type 0 where
+pub record Ours (o : Order) (t : Terms) : Type 0 where
   sell : t .sell ≡ isSell o
   size : t .size ≡ o .size
   initiating : initiatingPrice o ≡ reportedPrice (isSell o) (t .initiating)
@@ -199,7 +199,7 @@ module _ (o : Order) (a : Auction) (e : Event) (s : Sound a) (w : Ours o (a .hea
   m = buyEvent (terms .sell) e
 
   -- a limit order takes a place by the order's own fields where it does by the auction's
-  takes-is : e .kind ≡ 3 → eventFormed e ≡ true → takesPlace o e ≡ (not (eqb (m .side) 1) && leb (priceOf m) (terms .initiating))
+  pub takes-is : e .kind ≡ 3 → eventFormed e ≡ true → takesPlace o e ≡ (not (eqb (m .side) 1) && leb (priceOf m) (terms .initiating))
   takes-is k f =
       let z : eqb (e .side) (otherSide o) ≡ not (eqb (m .side) 1) = place-side (isSell o) e k f ∙ ap (λ (b : Bool). not (eqb (buyEvent b e .side) 1)) (sym (w .sell)) in
       let p : not (better (isSell o) (initiatingPrice o) (priceOf e)) ≡ leb (priceOf m) (terms .initiating) =
@@ -313,12 +313,19 @@ none-live : (s : Bool) (b : Order) → liveOf (openedBy s b .board) ≡ []
 unfolding openedBy
 none-live s b = empty-live
 
+-- an order's auction has its terms, at its opening and after any records
+ours : (o : Order) → acceptOf o .answer ≡ Accepted → Ours o (acceptOf o .auction .head .terms)
+ours o h = record { sell = terms-sell o h; size = terms-size o h; initiating = initiating-is o h }
+
+pub ours-after : (o : Order) (es : List Event) → acceptOf o .answer ≡ Accepted → Ours o (auctionAfter o es .head .terms)
+ours-after o es h = subst (Ours o) (sym (run-terms es (acceptOf o .auction))) (ours o h)
+
 stood : (o : Order) (es : List Event) → acceptOf o .answer ≡ Accepted → inSequence (onBoard (isSell o) (auctionAfter o es .board)) ≡ standingOf o (takenRecords o es)
 unfolding inSequence
 stood o es h =
     let a : Auction = acceptOf o .auction in
     let nobody : liveOf (a .board) ≡ [] = ap (λ (x : Auction). liveOf (x .board)) (opened o h .auction) ∙ none-live (isSell o) (buyOrder o) in
-    stands-run o es a [] (sound-opened o h) (record { sell = terms-sell o h; size = terms-size o h; initiating = initiating-is o h }) (ap (λ (rs : List Response). inSequence (map (sent (isSell o)) rs)) nobody)
+    stands-run o es a [] (sound-opened o h) (ours o h) (ap (λ (rs : List Response). inSequence (map (sent (isSell o)) rs)) nobody)
 
 pub by-records : (o : Order) (es : List Event) → acceptOf o .answer ≡ Accepted → inSequence (responses (auctionAfter o es)) ≡ standingOf o (takenRecords o es)
 by-records o es h =
