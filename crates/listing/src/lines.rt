@@ -88,7 +88,13 @@ pub(crate) fn put_event(out: &mut [u8], at: usize, sequence: u32, answer: Answer
 }
 
 // An EVENT line of a watch, with the contracts on offer at its end.
-pub(crate) fn put_watched(out: &mut [u8], at: usize, sequence: u32, answer: Answer, offered: u32) -> usize
+pub(crate) fn put_watched(
+    out: &mut [u8],
+    at: usize,
+    sequence: u32,
+    answer: Answer,
+    offered: u32,
+) -> usize
     requires { ⌜ at + 86 ≤ length (now out) ⌝ }
     ensures { λ r. ⌜ WroteBytes (now (out .entry)) at (watchedLine (said sequence answer) offered) r (now (out .exit)) ⌝ }
 {
