@@ -51,15 +51,14 @@ fn response(gtx: bool, size: u32, e: Event) -> Response
     }
 }
 
-// A response has to be placed: 38 where there is no place for it.
-fn seat(s: Sight, r: Response, ending: Ending) -> Outcome
-    ensures { λ o. ⌜ o ≡ seats s r ending ⌝ }
+// A response stands at a place, from which a size is gone; a number refuses it where there is no such place.
+fn seat(place: usize, r: Response, gone: u32, ending: Ending, number: u32) -> Outcome
+    ensures { λ o. ⌜ o ≡ seats place r gone ending number ⌝ }
 {
-    let at = s.at;
-    if at < 64 {
-        return Outcome::Does(Change::Seat(at, r, 0), ending);
+    if place < 64 {
+        return Outcome::Does(Change::Seat(place, r, gone), ending);
     }
-    Outcome::Refuses(38)
+    Outcome::Refuses(number)
 }
 
 fn gtx(t: Terms, s: Sight, e: Event) -> Outcome
@@ -71,7 +70,8 @@ fn gtx(t: Terms, s: Sight, e: Event) -> Outcome
     if t.initiating < e.f16 {
         return Outcome::Refuses(36);
     }
-    seat(s, response(true, lower(e.f12, t.size), e), Ending::Open)
+    let r = response(true, lower(e.f12, t.size), e);
+    seat(s.at, r, 0, Ending::Open, 38)
 }
 
 fn cancel(s: Sight) -> Outcome
@@ -103,12 +103,8 @@ fn amend(t: Terms, s: Sight, e: Event) -> Outcome
     if t.initiating < e.f20 {
         return Outcome::Refuses(36);
     }
-    let found = s.found;
-    if found < 64 {
-        let r = amended(t, s.old, e);
-        return Outcome::Does(Change::Seat(found, r, s.old.size), Ending::Open);
-    }
-    Outcome::Refuses(37)
+    let r = amended(t, s.old, e);
+    seat(s.found, r, s.old.size, Ending::Open, 37)
 }
 
 // One of two prices: the exchange's for a non-routable order, the nation's else.
@@ -135,7 +131,7 @@ fn sell_limit(t: Terms, q: Quotes, s: Sight, e: Event) -> Outcome
 {
     let ending = opposite_if(e.f16 <= market_price(e, q.bb, q.nbb));
     if e.f16 <= t.initiating {
-        return seat(s, response(false, e.f12, e), ending);
+        return seat(s.at, response(false, e.f12, e), 0, ending, 38);
     }
     Outcome::Does(Change::Nothing, ending)
 }

@@ -11,13 +11,12 @@ returns c = simp (lt-ltb _ _ (c .if1 .taken))
 amended-requires : tie.Need-amended-requires
 amended-requires c κs = search needs
 
+seat-requires : tie.Need-seat-requires
+seat-requires c κs = search needs
+
 returns-2 : tie.Need-returns-2
 unfolding amendOutcome
-returns-2 c = simp (le-ltb _ _ (c .before .before .if1 .left), lt-ltb _ _ (c .before .if2 .taken), c .amended .ensures)
-
-returns-3 : tie.Need-returns-3
-unfolding amendOutcome
-returns-3 c = simp (le-ltb _ _ (c .before .if1 .left), le-ltb _ _ (c .if2 .left))
+returns-2 c = simp (le-ltb _ _ (c .before .before .if1 .left), c .seat .ensures, c .before .amended .ensures)
 
 pub amend-spec : {M : Type 1} → statement M
-amend-spec = tie.close (tie.spec returns amended-requires returns-2 returns-3)
+amend-spec = tie.close (tie.spec returns amended-requires seat-requires returns-2)

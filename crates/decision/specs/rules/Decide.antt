@@ -33,16 +33,20 @@ isNonRoutable e = bitAt (e .marks) 1
 abbrev pub responseOf : Bool → ℕ → Event → Response
 responseOf gtx size e = record { sequence = e .sequence; size = size; price = priceOf e; customer = isCustomer e; gtx = gtx }
 
--- a response has to be placed: 38 where there is no place for it
-abbrev pub seats : Sight → Response → Ending → Outcome
-seats s r ending = cond (ltb (s .at) 64) (Does (Seat (s .at) r 0) ending) (Refuses 38)
+-- a response stands at a place, from which a size is gone; a number refuses it where there is no such place
+abbrev pub seats : ℕ → Response → ℕ → Ending → ℕ → Outcome
+seats place r gone ending number = cond (ltb place 64) (Does (Seat place r gone) ending) (Refuses number)
+
+-- a response has to be placed: at the lowest free place, and 38 where there is none
+abbrev pub places : Sight → Response → Ending → Outcome
+places s r ending = seats (s .at) r 0 ending 38
 
 -- a GTX response: its size is capped at the CUBE size
 unfoldable pub gtxOutcome : Terms → Sight → Event → Outcome
 gtxOutcome t s e =
     cond (eqb (e .side) 1) (Refuses 35)
     (cond (ltb (t .initiating) (priceOf e)) (Refuses 36)
-    (seats s (responseOf true (min (sizeOf e) (t .size)) e) Open))
+    (places s (responseOf true (min (sizeOf e) (t .size)) e) Open))
 
 unfoldable pub cancelOutcome : Sight → Outcome
 cancelOutcome s = cond (ltb (s .found) 64) (Does (Free (s .found) (s .old .size)) Open) (Refuses 37)
@@ -55,13 +59,13 @@ amendedBy t old e = record { sequence = e .sequence; size = min (newSizeOf e) (t
 unfoldable pub amendOutcome : Terms → Sight → Event → Outcome
 amendOutcome t s e =
     cond (ltb (t .initiating) (newPriceOf e)) (Refuses 36)
-    (cond (ltb (s .found) 64) (Does (Seat (s .found) (amendedBy t (s .old) e) (s .old .size)) Open) (Refuses 37))
+    (seats (s .found) (amendedBy t (s .old) e) (s .old .size) Open 37)
 
 -- a sell limit: marketable at the NBB or below (non-routable: the BB); it takes a place where it is not above the initiating price
 unfoldable pub sellLimitOutcome : Terms → Quotes → Sight → Event → Outcome
 sellLimitOutcome t q s e =
     let ending = cond (leb (priceOf e) (cond (isNonRoutable e) (q .bb) (q .nbb))) Opposite Open in
-    cond (leb (priceOf e) (t .initiating)) (seats s (responseOf false (sizeOf e) e) ending) (Does Nothing ending)
+    cond (leb (priceOf e) (t .initiating)) (places s (responseOf false (sizeOf e) e) ending) (Does Nothing ending)
 
 -- the quotes with a bid: a higher one becomes BB with its own mark, an equal one can only set the mark
 unfoldable pub bidQuotes : Quotes → ℕ → Bool → Quotes
