@@ -16,7 +16,9 @@ use libc::STDIN_FILENO;
 use libc::STDOUT_FILENO;
 use listing::watch;
 use listing::watch::LINES;
+use tape::EVENT;
 use tape::Event;
+use tape::ORDER;
 use tape::Opened;
 use tape::Order;
 use tape::ReadOrder;
@@ -38,17 +40,16 @@ fn lines_buffer() -> [u8; LINES]
     [0; LINES]
 }
 
-fn order_buffer() -> [u8; 64]
+fn order_buffer() -> [u8; ORDER]
     ensures { λ r. ⌜ 64 ≡ length r ⌝ }
 {
-    [0; 64]
+    [0; ORDER]
 }
 
-// An event's record, with room for an order's before it.
-fn record_buffer() -> [u8; 96]
-    ensures { λ r. ⌜ 96 ≡ length r ⌝ }
+fn event_buffer() -> [u8; EVENT]
+    ensures { λ r. ⌜ 32 ≡ length r ⌝ }
 {
-    [0; 96]
+    [0; EVENT]
 }
 
 // ---- writing: whether all was written; where not, it is said
@@ -292,13 +293,9 @@ fn live_end(a: Auction, out: &mut [u8]) {
     }
 }
 
-// One event record, with room for an order's before it; the lines of the end at once where it ends the auction.
-fn live_event(a: Auction, bytes: &[u8], out: &mut [u8]) -> Shown {
-    let t = Trailer {
-        order: 0,
-        events: 1,
-    };
-    let s = show_event(a, tape::record_in(bytes, t, 0), out);
+// One event; the lines of the end at once where it ends the auction.
+fn live_event(a: Auction, e: Event, out: &mut [u8]) -> Shown {
+    let s = show_event(a, e, out);
     let after = s.auction;
     if !s.well | !is_open(a) | is_open(after) {
         return s;
@@ -319,10 +316,8 @@ fn stopped(a: Auction) -> Shown {
 }
 
 // The next event record: the auction after it, and whether one may follow.
-fn live_turn(a: Auction, bytes: &mut [u8], out: &mut [u8]) -> Shown
-    requires { ⌜ length (now bytes) ≡ 96 ⌝ }
-{
-    let c = read_record(&mut bytes[64..]);
+fn live_turn(a: Auction, bytes: &mut [u8], out: &mut [u8]) -> Shown {
+    let c = read_record(bytes);
     if !c.well {
         return stopped(a);
     }
@@ -330,19 +325,17 @@ fn live_turn(a: Auction, bytes: &mut [u8], out: &mut [u8]) -> Shown
         live_end(a, out);
         return stopped(a);
     }
-    if c.length < 32 {
+    if c.length < EVENT {
         io::write_all(
             STDERR_FILENO,
             b"desk: standard input ended inside an event record; the auction was not closed\n",
         );
         return stopped(a);
     }
-    live_event(a, bytes, out)
+    live_event(a, tape::record_at(bytes), out)
 }
 
-fn live_events(opened: Auction, bytes: &mut [u8], out: &mut [u8])
-    requires { ⌜ length (now bytes) ≡ 96 ⌝ }
-{
+fn live_events(opened: Auction, bytes: &mut [u8], out: &mut [u8]) {
     let mut a = opened;
     let mut turns = u64::MAX;
     while turns > 0 {
@@ -356,7 +349,7 @@ fn live_events(opened: Auction, bytes: &mut [u8], out: &mut [u8])
 }
 
 fn live_auction(a: Auction, out: &mut [u8]) {
-    let mut bytes = record_buffer();
+    let mut bytes = event_buffer();
     if show_opened(a, out) {
         live_events(a, &mut bytes, out);
     }

@@ -72,7 +72,7 @@ pub(crate) fn of_no_kind(sequence: u32) -> Event
 }
 
 // The event that stands in the record at the start of lent bytes, in form or not.
-pub(crate) fn record_at(s: &[u8]) -> Event
+pub fn record_at(s: &[u8]) -> Event
     ensures { λ r. ⌜ r ≡ recordAt (now (s .entry)) ⌝ }
 {
     if s.len() < 32 {

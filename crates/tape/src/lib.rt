@@ -8,6 +8,7 @@ mod trailer;
 pub use event::Event;
 pub use event::ReadEvent;
 pub use event::read_event;
+pub use event::record_at;
 pub use event::write_event;
 pub use form::event_form;
 pub use form::order_form;
@@ -23,6 +24,11 @@ pub use trailer::Trailer;
 pub use trailer::open_tape;
 pub use trailer::read_trailer;
 pub use trailer::write_trailer;
+
+// How many bytes an order's record has, and an event's.
+pub const ORDER: usize = 64;
+
+pub const EVENT: usize = 32;
 
 // A writer's answer: done, or the number of the refusal.
 pub enum Written {
