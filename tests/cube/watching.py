@@ -128,14 +128,12 @@ def in_live_order(lines):
     return lines[:1] + found[:at] + lines[len(found) + 1:] + found[at:]
 
 
-
-
 class Watching(Case):
     def test_the_example_of_document_01(self):
         want = LISTING.replace("EVENT 1 taken", "EVENT 1 taken on offer 3").replace("refused 33", "refused 33 on offer 3")
-        self.ends(cube("watch", self.tape), 0, want, "")
+        self.ends(cube("watch", self.tape), 0, want)
         for words in (["watch"], ["watch", "-"]):
-            self.ends(cube(*words, given=tape_of(TEXT)), 0, want, "")
+            self.ends(cube(*words, given=tape_of(TEXT)), 0, want)
 
     def test_figures(self):
         """What is on offer after each event, in numbers worked out by hand; for a buy and for a sell."""
@@ -148,16 +146,16 @@ class Watching(Case):
         self.assertEqual(offers(watched(tape_of(MOST)))[-3:], [6400000, 6400000, 6300000])
 
     def agrees(self, tape, lines):
-        """The watch without what stands at the end of its EVENT lines is the listing; and that is the sum."""
+        """The watch is the listing, with the sum at the end of each EVENT line."""
         plain = listed(tape)
-        self.assertEqual([line.split(" on offer ")[0] for line in lines], plain)
-        if not plain[0].startswith("REFUSED "):
-            self.assertEqual(offers(lines), list(sums(tape, plain)))
+        answers = events(plain)
+        shown = ["%s on offer %d" % both for both in zip(answers, sums(tape, plain))] if answers else []
+        self.assertEqual(lines, plain[:1] + shown + plain[1 + len(answers):])
 
     def test_against_the_listing_and_a_sum(self):
         for text in texts():
             made = cube("watch", given=tape_of(text))
-            self.ends(made, 0, stderr="")
+            self.ends(made, 0)
             self.agrees(tape_of(text), made.stdout.decode().splitlines())
 
     def test_other_tapes_against_the_listing_and_a_sum(self):
@@ -165,10 +163,10 @@ class Watching(Case):
             self.agrees(tape, watched(tape))
 
     def test_refused(self):
-        self.ends(cube("watch", given=tape_of(REFUSED)), 0, "REFUSED 6\n", "")
-        self.ends(cube("watch", given=b""), 0, "REFUSED 21\n", "")
-        self.ends(cube("watch", given=tape_of(TEXT)[:-1]), 0, "REFUSED 22\n", "")
-        self.ends(cube("watch", given=b"x" + tape_of(TEXT)), 0, "REFUSED 23\n", "")
+        self.ends(cube("watch", given=tape_of(REFUSED)), 0, "REFUSED 6\n")
+        self.ends(cube("watch", given=b""), 0, "REFUSED 21\n")
+        self.ends(cube("watch", given=tape_of(TEXT)[:-1]), 0, "REFUSED 22\n")
+        self.ends(cube("watch", given=b"x" + tape_of(TEXT)), 0, "REFUSED 23\n")
 
     def test_no_file(self):
         self.ends(cube("watch", "nowhere", cwd=self.folder), 1, b"", "cube: nowhere: No such file or directory\n")
@@ -179,8 +177,9 @@ class Watching(Case):
         for text in (TEXT, ORDER + joined(line for line, _ in STEPS), REFUSED):
             tape = tape_of(text)
             plain, told = (cube("watch", *words, given=tape).stdout.decode().splitlines() for words in ([], ["--why"]))
-            listed = cube("list", "--why", given=tape).stdout.decode().splitlines()
-            for line, words, other in zip(plain, told, listed):
+            others = cube("list", "--why", given=tape).stdout.decode().splitlines()
+            self.assertEqual((len(plain), len(told)), (len(others), len(others)))
+            for line, words, other in zip(plain, told, others):
                 number = re.match(r"(?:REFUSED|EVENT \d+ refused) (\d+)", line)
                 self.assertTrue(words.startswith(line))
                 self.assertEqual(words[len(line):].strip(), re.split(" {2,}", other)[1] if number else "")
@@ -271,23 +270,23 @@ class Live(Case):
         for text in texts():
             lines = watched(tape_of(text))
             self.assertEqual(in_live_order(lines) == lines, " refused 31 " not in joined(lines))
-            self.ends(cube("watch", "--live", given=b"".join(records(tape_of(text)))), 0, joined(in_live_order(lines)), "")
+            self.ends(cube("watch", "--live", given=b"".join(records(tape_of(text)))), 0, joined(in_live_order(lines)))
 
     def test_cut_records(self):
         """Inside the order record it is REFUSED 24. Inside an event record the auction is not closed, and that is said."""
         sent = b"".join(records(tape_of(TEXT)))
         want = watched(tape_of(TEXT))
         for n in (0, 1, 63):
-            self.ends(cube("watch", "--live", given=sent[:n]), 0, "REFUSED 24\n", "")
+            self.ends(cube("watch", "--live", given=sent[:n]), 0, "REFUSED 24\n")
         for n in (65, 95, 97, 127):
             made = cube("watch", "--live", given=sent[:n])
-            self.ends(made, 1, joined(want[:1 + (n - 64) // 32]), "")
+            self.ends(made, 1, joined(want[:1 + (n - 64) // 32]))
             self.assertEqual(made.stderr.decode(), "cube: standard input ended inside an event record, and the auction was not closed\n")
-        self.ends(cube("watch", "--live", given=sent[:64]), 0, joined(want[:1]) + "END time range 101 to 109\nFILL contra 109 10\nTOTAL 10\n", "")
+        self.ends(cube("watch", "--live", given=sent[:64]), 0, joined(want[:1]) + "END time range 101 to 109\nFILL contra 109 10\nTOTAL 10\n")
 
     def test_a_refused_order(self):
-        self.ends(cube("watch", "--live", given=records(tape_of(REFUSED))[0]), 0, "REFUSED 6\n", "")
-        self.ends(cube("watch", "--live", given=bytes(64)), 0, "REFUSED 1\n", "")
+        self.ends(cube("watch", "--live", given=records(tape_of(REFUSED))[0]), 0, "REFUSED 6\n")
+        self.ends(cube("watch", "--live", given=bytes(64)), 0, "REFUSED 1\n")
 
     def test_usage(self):
         self.ends(cube("watch", "--live", "c.tape", cwd=self.folder), 2, b"", "usage: cube watch")
