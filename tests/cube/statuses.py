@@ -52,7 +52,7 @@ class Statuses(Case):
         fd = os.open(self.folder, os.O_RDONLY)
         try:
             self.ends(cube(stdin=fd), 1, "UNREADABLE -: Is a directory\n", "standard input: Is a directory")
-            for words in (["make"], ["show"], ["check"], ["draw"], ["sweep", "-", "--stop", "105"], ["list", "--names", "-"]):
+            for words in (["make"], ["show"], ["check"], ["draw"], ["watch"], ["watch", "--live"], ["sweep", "-", "--stop", "105"], ["list", "--names", "-"]):
                 self.ends(cube(*words, stdin=fd), 1, b"", "standard input: Is a directory")
         finally:
             os.close(fd)
@@ -61,14 +61,14 @@ class Statuses(Case):
         for words in (["--wrong"], ["list", "--wrong"], ["list", "--jobs", "x", "a"], ["list", "--jobs", "-1", "a"], ["list", "--format", "xml", "a"], ["why", "13"],
                       ["why", "x"], ["sweep", self.tape], ["sweep", "--stop", "1"], ["sweep", self.tape, "--stop", "9..1"], ["sweep", self.tape, "--stop", "1.."],
                       ["sweep", self.tape, "--stop", "1..2", "--size", "1..2"], ["sweep", self.tape, "--mode", "other"], ["make", "a", "b"], ["show", "--why"],
-                      ["draw", "--wrong"], ["check", "-x"], ["list", "-0", "a"], ["list", "--why", "--format", "csv", "a"], ["list", "--names", "-", "-"],
+                      ["draw", "--wrong"], ["watch", "a", "b"], ["watch", "--format", "csv"], ["check", "-x"], ["list", "-0", "a"], ["list", "--why", "--format", "csv", "a"], ["list", "--names", "-", "-"],
                       ["list", "--form", "csv", "a"], ["sweep", self.tape, "--stop", "1..1000000000"], ["list", "--names"]):
             with self.subTest(words):
                 made = cube(*words)
                 self.ends(made, 2, b"", "usage: cube ")
 
     def test_help(self):
-        for words in (["--help"], ["-h"], ["help"], *[[c, "--help"] for c in ("list", "why", "sweep", "draw", "make", "show", "check")]):
+        for words in (["--help"], ["-h"], ["help"], *[[c, "--help"] for c in ("list", "watch", "why", "sweep", "draw", "make", "show", "check")]):
             with self.subTest(words):
                 made = cube(*words)
                 self.ends(made, 0)
@@ -88,7 +88,7 @@ class Statuses(Case):
             os.close(theirs)
 
     def test_names_that_are_commands(self):
-        for name in ("make", "show", "list", "why"):
+        for name in ("make", "show", "list", "watch", "why"):
             self.write(name, tape_of(TEXT))
             self.ends(cube("list", name, cwd=self.folder), 0, LISTING)
             self.ends(cube("--", name, cwd=self.folder), 0, LISTING)
@@ -102,7 +102,7 @@ class Statuses(Case):
         self.ends(cube("show", "--", "-H", cwd=self.folder), 0, TEXT)
 
     def test_interrupted(self):
-        for words in (["make"], ["show"], ["list", "--names", "-"], []):
+        for words in (["make"], ["show"], ["watch"], ["list", "--names", "-"], []):
             # a run in the background ignores interrupts, and so would what it starts
             process = subprocess.Popen([CUBE] + words, stdin=subprocess.PIPE, stdout=subprocess.PIPE, stderr=subprocess.PIPE, preexec_fn=lambda: signal.signal(signal.SIGINT, signal.SIG_DFL))
             time.sleep(1)
@@ -117,4 +117,5 @@ class Statuses(Case):
             self.ends(cube("show", stdin=zero), 1, b"", "21: a tape has 16 to 65,536 bytes")
             self.ends(cube("make", stdin=zero), 1, b"", "more than 16777216 bytes")
             self.ends(cube("draw", stdin=zero), 0)
+            self.ends(cube("watch", stdin=zero), 0, "REFUSED 21\n")
         self.ends(cube("list", "/dev/zero"), 0, "REFUSED 21\n")

@@ -7,7 +7,7 @@ from support import CUBE, LISTING, TEXT, Case, cube, samples
 
 FULL = "No space left on device"
 COMMANDS = (["c.tape"], ["c.tape", "c.tape"], ["list", "--format", "csv", "c.tape"], ["list", "--format", "json", "c.tape", "c.tape"], ["why"], ["--help"], ["list", "--help"],
-            ["show", "c.tape"], ["make", "c.txt"], ["make", "c.txt", "-o", "/dev/full"], ["check", "c.txt"], ["draw", "c.tape"], ["sweep", "c.tape", "--size", "8..12"],
+            ["show", "c.tape"], ["make", "c.txt"], ["make", "c.txt", "-o", "/dev/full"], ["check", "c.txt"], ["draw", "c.tape"], ["watch", "c.tape"], ["sweep", "c.tape", "--size", "8..12"],
             ["sweep", "c.tape", "--size", "8..12", "--format", "csv"], ["list", "--jobs", "2", "c.tape", "c.tape"])
 
 
@@ -35,7 +35,7 @@ class Writing(Case):
         names = "".join(s + "\n" for s in samples() * 20).encode()
         with open(self.tape, "rb") as tape:
             given = tape.read()
-        for program, words, data in (("evening", [], names), ("runner", [], given), ("desk", ["trace"], given)):
+        for program, words, data in (("evening", [], names), ("runner", [], given), ("desk", ["trace"], given), ("desk", ["watch"], given), ("desk", ["live"], given)):
             with open("/dev/full", "wb") as full:
                 process = engine.start(program, words, stdout=full)
                 _, said = process.communicate(data)
@@ -43,7 +43,7 @@ class Writing(Case):
 
     def test_programs_say_a_failed_read(self):
         engine, folder = native(), os.open(self.folder, os.O_RDONLY)
-        for program, words in (("evening", []), ("runner", []), ("desk", ["trace"])):
+        for program, words in (("evening", []), ("runner", []), ("desk", ["trace"]), ("desk", ["watch"]), ("desk", ["live"])):
             text, said = engine.start(program, words, stdin=folder).communicate()
             self.assertEqual((text, said.decode()), (b"", "%s: standard input: Is a directory\n" % program))
         os.close(folder)
@@ -77,7 +77,7 @@ class Writing(Case):
             process.stderr.close()
 
     def test_closed_pipe_for_texts(self):
-        for words in (["show", self.tape], ["draw", self.tape], ["why"]):
+        for words in (["show", self.tape], ["draw", self.tape], ["watch", self.tape], ["why"]):
             ours, theirs = os.pipe()
             os.close(ours)
             self.ends(cube(*words, stdout=theirs), 1, stderr="standard output: Broken pipe")

@@ -25,6 +25,6 @@ def run(args, parser):
     if number is not None:
         made = drawing.refused(args.tape, number)
     else:
-        made = drawing.auction(picture.Picture(args.tape, tape, lines, runs.trace(engine, tape)))
+        made = drawing.auction(picture.Picture(args.tape, tape, lines, runs.desk(engine, "trace", tape)))
     files.write(args.output, made.encode("utf-8"))
     return FINE

@@ -113,8 +113,9 @@ def refusal(line):
 
 
 def with_reasons(lines):
-    """The lines, each refusal with its condition beside it."""
-    width = max(len(line) for line in lines)
+    """The lines as they come, each refusal with its condition beside it. The first line of a listing is its widest."""
+    width = 0
     for line in lines:
+        width = max(width, min(len(line), 40))
         number = None if line.startswith("UNREADABLE") else refusal(line)
-        yield line if number is None else "%-*s  %s" % (min(width, 40), line, reasons.condition(number))
+        yield line if number is None else "%-*s  %s" % (width, line, reasons.condition(number))

@@ -27,7 +27,7 @@ REASONS = {
     36: ("event", "GTX or amend above the initiating price", "The response's price, or the price that it is amended to, is worse than the price at which the auction began."),
     37: ("event", "cancel or amend names no live GTX", "No such response stands: it never came, was cancelled, was amended (and has the amend's sequence since), or is a limit order."),
     38: ("event", "a response has to be placed and all 64 places are live", "Sixty-four responses stand already."),
-    24: ("record", "lent bytes too short for the record (writers: after 1 or 32; readers: first)", "A program lent too few bytes for a record, or for a listing. No listing of a tape shows this."),
+    24: ("record", "lent bytes too short for the record (writers: after 1 or 32; readers: first)", "A program lent too few bytes for a record or a listing, or what `cube watch --live` reads ended inside the order record. No listing of a tape shows this."),
     39: ("fills", "fewer than 390 words from the start place, or a start past the end", "A program lent too few words for the fills. No listing of a tape shows this."),
     40: ("fills", "fills asked for before the ending (before 39)", "A program asked for the fills of an auction that is still open. No listing of a tape shows this."),
 }

@@ -1,4 +1,5 @@
-"""Runs of the proved programs: one tape through `runner`, many through `evening`, a trace through `desk`."""
+"""Runs of the proved programs: one tape through `runner`, many through `evening`, a trace or a watch through `desk`."""
+import contextlib
 import errno
 import os
 import re
@@ -22,14 +23,21 @@ def ended(program, process, said):
     return said or "%s ended with status %d and said nothing" % (program, process.returncode)
 
 
-def finish(process, given=None):
-    """What a program wrote and said; it does not outlive a failure here."""
+@contextlib.contextmanager
+def ours(process):
+    """What is done with a program: it does not outlive a failure there."""
     try:
-        return process.communicate(given)
+        yield
     except BaseException:
         process.kill()
         process.wait()
         raise
+
+
+def finish(process, given=None):
+    """What a program wrote and said."""
+    with ours(process):
+        return process.communicate(given)
 
 
 def one(engine, name, stdin=subprocess.PIPE, tape=None):
@@ -43,13 +51,24 @@ def one(engine, name, stdin=subprocess.PIPE, tape=None):
     return Listing(name, text)
 
 
-def trace(engine, tape):
-    """The lines of `desk trace`."""
-    process = engine.start("desk", ["trace"])
+def desk(engine, word, tape):
+    """The lines of `desk trace` or `desk watch`."""
+    process = engine.start("desk", [word])
     text, said = finish(process, tape)
     if said or process.returncode != 0 or not text:
         raise Trouble(ended("desk", process, said))
     return text.decode("ascii").splitlines()
+
+
+@contextlib.contextmanager
+def live(engine):
+    """The lines of `desk live`, each as soon as it is written. Its standard input is that of cube."""
+    process = engine.start("desk", ["live"], stdin=0)
+    with ours(process):
+        yield (line.decode("ascii").rstrip("\n") for line in process.stdout)
+        _, said = process.communicate()
+    if said or process.returncode != 0:
+        raise Trouble(ended("desk", process, said.replace(b"desk: ", b"", 1)))
 
 
 def fault(name):

@@ -1,0 +1,39 @@
+"""cube watch: the contracts on offer after each event, of a tape or of records as they come."""
+from . import files, listing, runs
+from .engine import Engine
+from .trouble import FINE
+
+NAME = "watch"
+SUMMARY = "the contracts on offer after each event, of a tape or live"
+DESCRIPTION = """\
+The listing of one tape, with the contracts on offer at the end of each EVENT line: the total size of the responses that stand after that event. With
+--live standard input is no tape but an order record (64 bytes) and then event records (32 bytes each), as they come, and each line is shown as soon
+as its record is there. The END, FILL and TOTAL lines come where an event ends the auction, else at the input's end, where an auction still open is
+closed by hand; a record after the ending is still answered. Where the input ends inside an event record the auction is not closed, and the status is
+1. All lines come from the proved program desk."""
+EXAMPLES = [("cube watch c.tape", "what was on offer, event by event"),
+            ("tail -c +1 -f c.records | cube watch --live", "the same on a screen, of a file that is still being written")]
+
+
+def add(parser):
+    parser.add_argument("tape", metavar="TAPE", nargs="?", default="-", help="the tape's file; - or none is standard input")
+    parser.add_argument("--live", action="store_true", help="follow the records on standard input: the order's, then each event's, with no trailer")
+    parser.add_argument("--why", action="store_true", help="put beside each refusal what its number says")
+
+
+def show(lines, why):
+    """Each line as it comes."""
+    for line in listing.with_reasons(lines) if why else lines:
+        files.put_text(line + "\n")
+
+
+def run(args, parser):
+    if args.live and args.tape != "-":
+        parser.error("--live follows standard input, and takes no tape")
+    if args.live:
+        with runs.live(Engine()) as lines:
+            show(lines, args.why)
+    else:
+        tape = files.read_tape(args.tape)
+        show(runs.desk(Engine(), "watch", tape), args.why)
+    return FINE
