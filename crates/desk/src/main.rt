@@ -293,6 +293,18 @@ fn live_end(a: Auction, out: &mut [u8]) {
     }
 }
 
+// The input ended inside an event record: an auction still open is not closed, for what was to come is not known.
+fn live_cut(a: Auction) {
+    io::write_all(
+        STDERR_FILENO,
+        b"desk: standard input ended inside an event record",
+    );
+    if is_open(a) {
+        io::write_all(STDERR_FILENO, b"; the auction was not closed");
+    }
+    io::write_all(STDERR_FILENO, b"\n");
+}
+
 // One event; the lines of the end at once where it ends the auction.
 fn live_event(a: Auction, e: Event, out: &mut [u8]) -> Shown {
     let s = show_event(a, e, out);
@@ -326,10 +338,7 @@ fn live_turn(a: Auction, bytes: &mut [u8], out: &mut [u8]) -> Shown {
         return stopped(a);
     }
     if c.length < EVENT {
-        io::write_all(
-            STDERR_FILENO,
-            b"desk: standard input ended inside an event record; the auction was not closed\n",
-        );
+        live_cut(a);
         return stopped(a);
     }
     live_event(a, tape::record_at(bytes), out)
