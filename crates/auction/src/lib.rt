@@ -1,4 +1,4 @@
-// A CUBE auction: what it holds, which orders are accepted, and the range that holds. The engine knows only buys: a sell is its mirror.
+// A CUBE auction: what it holds, which orders are accepted, the range that holds, and the contracts on offer. The engine knows only buys: a sell is its mirror.
 use board::Board;
 
 mod bounds;

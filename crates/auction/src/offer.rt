@@ -20,7 +20,7 @@ fn less(n: u32, gone: u32) -> u32
     if n < gone { 0 } else { n - gone }
 }
 
-// A sum of sizes, of which one is gone and another has come.
+// A sum of sizes, of which one is gone and another has come: never below 0, at most the largest u32.
 pub fn moved_offer(n: u32, gone: u32, come: u32) -> u32
     ensures { λ r. ⌜ r ≡ movedOffer n gone come ⌝ }
 {

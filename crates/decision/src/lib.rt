@@ -23,7 +23,7 @@ pub struct Sight {
     pub old: Response,
 }
 
-// What an event changes besides the sequence, the clock and the ending: a response takes a place, a place is freed, the quotes or the market order are new. The last number of the first two is the size of the live response that is gone from the place; 0 where none is.
+// What an event changes besides the sequence, the clock and the ending: a response takes a place, a place is freed, the quotes or the market order are new. The last number of `Seat` and of `Free` is the size of the live response that is gone from the place; 0 where none is.
 pub enum Change {
     Nothing,
     Seat(usize, Response, u32),

@@ -9,13 +9,14 @@ use Rattle.auction.specs.rules.Accept.{acceptOf}
 use Rattle.run.specs.rules.Run.{runOf}
 use Rattle.run.proofs.Figures.{Computed}
 use Rattle.listing.specs.rules.Text.{text, digits, decimal}
-use Rattle.listing.specs.rules.Listing.{refusedLine, rangeText, auctionLine, answerText, eventText, eventLine, watchedLine, endText, endLine, partyText, fillLine, totalLine, endLines, listingOf}
+use Rattle.listing.specs.rules.Listing.{refusedLine, rangeText, auctionLine, answerText, eventText, eventLine, eventLineWith, endText, endLine, partyText, fillLine, totalLine, endLines, listingOf}
 use Rattle.listing.specs.rules.Watch.{watchLines}
-use Rattle.listing.specs.promises.Demands.{exampleOrder, exampleResponse, exampleTape, exampleListing, exampleWatch, tapeE, listingE}
+use Rattle.listing.specs.promises.Demands.{exampleOrder, exampleResponse, exampleTape, exampleListing, orderE, noEvent, marketE, tapeE, listingE}
+use Rattle.listing.specs.promises.Watching.{watchC, moved, watchMoved, watchE}
 
 -- a tape and its listing
 abbrev Shows : List ℕ → List ℕ → Type 0
-unfolding Computed wordAt orderWords orderOf orderSpare readOrder eventWords eventOf eventSpare recordAt trailerWords trailerOf readTrailer openTape orderIn recordIn recordsFrom recordsOf tapeOf runOf digits decimal refusedLine rangeText auctionLine answerText eventText eventLine watchedLine endText endLine partyText fillLine totalLine endLines listingOf
+unfolding Computed wordAt orderWords orderOf orderSpare readOrder eventWords eventOf eventSpare recordAt trailerWords trailerOf readTrailer openTape orderIn recordIn recordsFrom recordsOf tapeOf runOf digits decimal refusedLine rangeText auctionLine answerText eventText eventLine eventLineWith endText endLine partyText fillLine totalLine endLines listingOf
 Shows tape t = listingOf tape ≡ t
 
 pub case-c : listingOf exampleTape ≡ exampleListing
@@ -26,9 +27,17 @@ pub case-e : listingOf tapeE ≡ listingE
 unfolding Shows
 case-e = refl
 
-pub watch-c : watchLines (acceptOf exampleOrder .auction) (exampleResponse ∷ exampleResponse ∷ []) ≡ exampleWatch
+pub watch-c : watchLines (acceptOf exampleOrder .auction) (exampleResponse ∷ exampleResponse ∷ []) ≡ watchC
 unfolding Shows
 watch-c = refl
+
+pub watch-moved : watchLines (acceptOf exampleOrder .auction) moved ≡ watchMoved
+unfolding Shows
+watch-moved = refl
+
+pub watch-e : watchLines (acceptOf orderE .auction) (noEvent 1 ∷ marketE ∷ noEvent 3 ∷ []) ≡ watchE
+unfolding Shows
+watch-e = refl
 
 pub no-bytes : listingOf [] ≡ text "REFUSED 21\n"
 unfolding Shows

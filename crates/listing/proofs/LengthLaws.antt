@@ -39,7 +39,7 @@ use Rattle.auction.specs.rules.Range.{rangeOf}
 use Rattle.fills.specs.rules.Fills.{dealOf, auctionFills}
 use Rattle.listing.specs.rules.Text.{text, decimal, newline}
 use Rattle.run.specs.rules.Run.{Said, run, heard, refused, closed, runEntry, runOrder, runTape, runOf}
-use Rattle.listing.specs.rules.Listing.{field, refusedLine, rangeText, sideText, auctionLine, answerText, eventText, eventLine, watchedLine, endText, endLine, partyText, fillLine, totalLine, eventLines, fillLines, endLines, linesOf, listingOf, roomOf}
+use Rattle.listing.specs.rules.Listing.{field, refusedLine, rangeText, sideText, auctionLine, answerText, eventText, eventLine, eventLineWith, endText, endLine, partyText, fillLine, totalLine, eventLines, fillLines, endLines, linesOf, listingOf, roomOf}
 use Rattle.listing.proofs.DecimalLaws.{decimal-short}
 use Rattle.listing.proofs.RunLaws.{tape-fits}
 
@@ -87,8 +87,8 @@ event-short : (e : Said) → length (eventLine e) ≤ 56
 unfolding eventLine
 event-short e = then-short 55 1 (eventText e) newline (said-short e) (omega arith)
 
-pub watched-short : (e : Said) (n : ℕ) → length (watchedLine e n) ≤ 86
-unfolding watchedLine
+pub watched-short : (e : Said) (n : ℕ) → length (eventLineWith e n) ≤ 86
+unfolding eventLineWith
 watched-short e n = then-short 55 31 (eventText e) (field " on offer " n ++ newline) (said-short e) (then-short 30 1 (field " on offer " n) newline (field-short " on offer " n) (omega arith))
 
 ending-short : (g : Ending) → length (endText g) ≤ 12

@@ -14,7 +14,7 @@ use Rattle.listing.specs.rules.Listing.{listingOf, roomOf, answerOf, len
 use Rattle.listing.specs.promises.Demands.{Demands}
 use Rattle.listing.proofs.DecimalLaws.{decimal-value}
 use Rattle.listing.proofs.LengthLaws.{listing-fits}
-use Rattle.listing.proofs.Examples.{case-c, case-e, no-bytes, watch-c}
+use Rattle.listing.proofs.Examples.{case-c, case-e, no-bytes}
 
 pub length-answer : (n : ℕ) (run : Run) → lengthIn (answerOf n run) ≡ n
 length-answer n (refused number) = refl
@@ -38,4 +38,4 @@ stands s out h = rw (le-ltb (length out) roomOf h)
 
 pub demands : Demands
 demands =
-    record { case-c = case-c; case-e = case-e; no-bytes = no-bytes; watch-c = watch-c; fits = listing-fits; within = within; kept = kept; stands = stands; spoken = decimal-value }
+    record { case-c = case-c; case-e = case-e; no-bytes = no-bytes; fits = listing-fits; within = within; kept = kept; stands = stands; spoken = decimal-value }

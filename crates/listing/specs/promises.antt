@@ -1,2 +1,3 @@
 -- What is promised of the listing.
 pub mod Demands
+pub mod Watching

@@ -1,4 +1,4 @@
--- The listing, as document 01 has it.
+-- The listing, as document 01 has it, and the watch.
 pub mod Text
 pub mod Listing
 pub mod Watch

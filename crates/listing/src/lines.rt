@@ -3,7 +3,7 @@ ghost use Prim.Native.Nat.{_+_, _≤_};
 ghost use lib.ListN.{length};
 ghost use Rattle.auction.specs.rules.Range.{rangeOf};
 ghost use Rattle.run.specs.rules.Run.{said};
-ghost use Rattle.listing.specs.rules.Listing.{refusedLine, rangeText, sideText, auctionLine, answerText, eventText, eventLine, watchedLine, endText, endLine, partyText, fillLine, totalLine};
+ghost use Rattle.listing.specs.rules.Listing.{refusedLine, rangeText, sideText, auctionLine, answerText, eventText, eventLine, eventLineWith, endText, endLine, partyText, fillLine, totalLine};
 ghost use Rattle.share.specs.rules.Fills.{fill};
 ghost use Rattle.listing.specs.inside.Code.{WroteBytes};
 use crate::text::put_field;
@@ -96,7 +96,7 @@ pub(crate) fn put_watched(
     offered: u32,
 ) -> usize
     requires { ⌜ at + 86 ≤ length (now out) ⌝ }
-    ensures { λ r. ⌜ WroteBytes (now (out .entry)) at (watchedLine (said sequence answer) offered) r (now (out .exit)) ⌝ }
+    ensures { λ r. ⌜ WroteBytes (now (out .entry)) at (eventLineWith (said sequence answer) offered) r (now (out .exit)) ⌝ }
 {
     let w = put_said(out, at, sequence, answer);
     let n = put_word(out, w, b" on offer ", offered);

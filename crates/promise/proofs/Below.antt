@@ -15,6 +15,7 @@ use Rattle.run.proofs.Mirrors.{mirrors}
 use Rattle.run.proofs.LentLaws.{in-place}
 use Rattle.run.proofs.Figures.{figures}
 use Rattle.listing.proofs.Theorems.{demands as listings}
+use Rattle.listing.proofs.WatchLaws.{watching}
 use Rattle.promise.specs.promises.Below.{Below}
 
 pub below : Below
@@ -40,4 +41,5 @@ below =
       in-place = in-place;
       figures = figures;
       listings = listings;
+      watching = watching;
     }

@@ -5,7 +5,7 @@ use Rattle.promise.specs.promises.Promise.{Promise}
 use Rattle.promise.proofs.Answered.{answered, roomed, filling, numbered, event-numbers, without-refused}
 use Rattle.promise.proofs.Resent.{same-records, resends, answered-alike}
 use Rattle.promise.proofs.Counted.{counted}
-use Rattle.promise.proofs.Offered.{offered}
+use Rattle.promise.proofs.Offered.{offered, mirrors-watch}
 use Rattle.promise.proofs.Tapes.{can-lack, can-mirror}
 use Rattle.promise.proofs.Carried.{accepted}
 use Rattle.promise.proofs.Opening.{opens}
@@ -34,5 +34,6 @@ promise =
       on-offer = offered;
       can-mirror = can-mirror;
       mirrors = mirrors;
+      mirrors-watch = λ o es h. mirrors-watch o es (accepted o h);
       below = below;
     }

@@ -214,7 +214,7 @@ module _ (o : Order) (es : List Event) (h : acceptOf o .answer ≡ Accepted) whe
 
   pub sent-fits : (r : Response) → In r live → r .price ≤ deal .initiating
   unfolding dealOf
-  sent-fits r i = every-in (Stands (atEnd o es .head .sequence) (atEnd o es .head .terms .initiating)) live r (sound .live) i .3
+  sent-fits r i = every-in (Stands (atEnd o es .head .sequence) (atEnd o es .head .terms .initiating)) live r (sound .live) i .4
 
   pub working-fits : (r : Response) → In r live → working deal r ≤ 999999
   working-fits r i = omega (arith, sent-fits r i, bound-fits, initiating-fits)

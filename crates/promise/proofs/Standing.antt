@@ -360,7 +360,7 @@ by-fold o es h =
     let a : Auction = atEnd o es in
     let s : Sound a = sound o es h in
     let prices : Every (λ r. r .price ≤ 1000000) (liveOf (a .board)) =
-    every-map (Stands (a .head .sequence) (a .head .terms .initiating)) (λ r. r .price ≤ 1000000) (liveOf (a .board)) (λ r k. omega (arith, k .3, s .price)) (s .live) in
+    every-map (Stands (a .head .sequence) (a .head .terms .initiating)) (λ r. r .price ≤ 1000000) (liveOf (a .board)) (λ r k. omega (arith, k .4, s .price)) (s .live) in
     let back : offers (a .board) ≡ map (sent (isSell o)) (standingOf o (takenRecords o es)) =
     ap inSequence (sym (sent-twice (isSell o) (liveOf (a .board)) prices)) ∙ sequence-sent (isSell o) (map (sent (isSell o)) (liveOf (a .board)))
     ∙ ap (map (sent (isSell o))) (ap inSequence (sym (there-is o es h)) ∙ stand o es h) in

@@ -3,13 +3,13 @@ use mathlib.Core.Path.{_≡_, refl, sym, ap, subst, _∙_}
 use mathlib.Core.Bool.{Bool, true, false, cond, _||_}
 use mathlib.Core.List.{List}
 use mathlib.Core.Logic.{_⊎_, inl, inr, ⊎-elim, _≢_}
-use Prim.Native.Nat.{ℕ, _<_, min}
+use Prim.Native.Nat.{ℕ, _+_, _<_, min}
 use native.Mathlib.Omega.{arith}
 use lib.Dec.{ltb, eqb}
 use borrow.Author.Tests.{eq-eqb, ne-eqb, eqb-true, eqb-false, le-ltb, lt-leb}
 use Rattle.words.specs.rules.Bits.{bitAt}
 use Rattle.words.proofs.BitLaws.{without-other}
-use Rattle.base.specs.Lists.{Every, Inserts}
+use Rattle.base.specs.Lists.{Every, Inserts, sum}
 use Rattle.base.specs.Lists.Inserts.{here, there}
 use Rattle.base.proofs.Bools.{by, no}
 use Rattle.base.proofs.ListLaws.{every-inserts}
@@ -19,11 +19,13 @@ use Rattle.board.specs.declared.Board.{Board}
 use Rattle.board.specs.declared.Response.{Response}
 use Rattle.board.proofs.BoardLaws.{amending, seated-good, clearing, cleared-good, find-gtx, gtx-found, no-gtx}
 use Rattle.tape.specs.declared.event.Event.{Event}
-use Rattle.tape.specs.rules.Fields.{nameOf}
+use Rattle.share.specs.rules.Fills.{sizes}
+use Rattle.tape.specs.rules.Fields.{nameOf, newSizeOf}
 use Rattle.mirror.specs.rules.Mirror.{buyEvent}
 use Rattle.mirror.proofs.EventLaws.{buy-sequence, buy-kind, amend-size}
 use Rattle.demand.specs.promises.Demands.{Absent, Distinct}
 use Rattle.auction.specs.declared.Auction.{Auction}
+use Rattle.auction.specs.rules.Offer.{onOffer, movedOffer}
 use Rattle.auction.specs.declared.Ending.the-variants.{Open}
 use Rattle.events.specs.declared.Answer.{Answer}
 use Rattle.events.specs.declared.Answer.the-variants.{Taken, Ended, Refused}
@@ -35,9 +37,11 @@ use Rattle.events.specs.declared.Stepped.{Stepped}
 use Rattle.decision.specs.rules.Decide.{isAmend, amendedBy, amendOutcome, cancelOutcome, outcomeOf}
 use Rattle.events.specs.rules.Step.{sightOf, eventRefusal, headAfter, carried, turnOf, seatedOn, stepBy}
 use Rattle.run.specs.rules.Run.{isTaken}
-use Rattle.run.specs.promises.Demands.{Stands, Sound, InTime, Names, namedPlace, isAbove, SeesNamed, NewFor, Amended, Amends}
+use Rattle.run.specs.promises.Demands.{Stands, Sound, Ordinary, InTime, Names, namedPlace, isAbove, SeesNamed, NewFor, Amended, Amends}
 use Rattle.run.proofs.StepLaws.{cases}
 use Rattle.run.proofs.Resend.{any-change}
+use Rattle.run.proofs.BoardSteps.{clear-sizes}
+use Rattle.run.proofs.SoundLaws.{new-size-of, sum-fits}
 
 -- ---- what is seen
 
@@ -196,7 +200,7 @@ does v a e s k6 sees =
         gtx = λ k _ _ _ _. absurd (omega (arith, is6, k));
         limit = λ _ k _ _ _ _. absurd (omega (arith, is6, k));
         clear = λ k _ _. absurd (omega (arith, is6, k));
-        amend = λ _ f _ _. amended (o .ordinary .newer) f;
+        amend = λ _ f _ _. amended (o .ordinary) f;
         quote = λ _ _ l _. no-other (l .no-amend);
         sell = λ k _ _. absurd (omega (arith, is6, k));
       };
@@ -218,8 +222,8 @@ does v a e s k6 sees =
     made-for : NewFor (a .head .terms) (responseAt (a .board .places) (namedPlace a e)) e r
     made-for = record { sequence = buy-sequence e sell; size = ap (λ (n : ℕ). min n (a .head .terms .size)) (amend-size e sell k6); price = refl; customer = refl; gtx = refl }
 
-    amended : a .head .sequence < e .sequence → v .found < 64 → Amended a e (seatedOn (a .board) (carried (a .head) e (Does (Seat (v .found) (amendedBy (a .head .terms) (v .old) (buyEvent sell e)) (v .old .size)) Open)) .auction)
-    amended newer f =
+    amended : Ordinary (a .head) e → v .found < 64 → Amended a e (seatedOn (a .board) (carried (a .head) e (Does (Seat (v .found) (amendedBy (a .head .terms) (v .old) (buyEvent sell e)) (v .old .size)) Open)) .auction)
+    amended o f =
         subst (λ (i : ℕ). Amended a e (seatedOn (a .board) (carried (a .head) e (Does (Seat i (amendedBy (a .head .terms) (v .old) (buyEvent sell e)) (v .old .size)) Open)) .auction)) (sym (sees .found))
         (subst (λ (x : Response). Amended a e (seatedOn (a .board) (carried (a .head) e (Does (Seat (namedPlace a e) (amendedBy (a .head .terms) x (buyEvent sell e)) (x .size)) Open)) .auction)) (sym (sees .old))
         (record {
@@ -228,6 +232,7 @@ does v a e s k6 sees =
           others = made a e s newer found r (made-for .sequence) refl .others;
           word = made a e s newer found r (made-for .sequence) refl .word;
           count = made a e s newer found r (made-for .sequence) refl .count;
+          offered = offered;
           gone = gone a e s newer found r (made-for .sequence) refl;
           found = new-found a e s newer found r (made-for .sequence) refl;
           terms = refl;
@@ -236,8 +241,17 @@ does v a e s k6 sees =
           ending = refl;
         }))
       where
+        newer : a .head .sequence < e .sequence
+        newer = o .newer
+
         found : namedPlace a e < 64
         found = omega (arith, f, sees .found)
+
+        old : ℕ
+        old = responseAt (a .board .places) (namedPlace a e) .size
+
+        offered : movedOffer (onOffer a) old (r .size) + old ≡ onOffer a + min (newSizeOf e) (a .head .terms .size)
+        offered = omega (arith, clear-sizes (a .board) (s .board) (namedPlace a e) (find-gtx (a .board) (nameOf e) (s .board) found .live), made-for .size, s .offered, sum-fits a s, new-size-of e k6 (o .formed) .1)
 
 pub amends : Amends
 amends =

@@ -187,7 +187,7 @@ steps-by : (s : Sight) (a : Auction) (e : Event) → (stepBy s (flipped a) (mirr
 steps-by s a e = seated-alike (a .board) (turnOf (flippedHead (a .head)) s (mirroredRecord e)) (turnOf (a .head) s e) (turns (a .head) s e)
 
 -- under the auction's own sight
-steps : (a : Auction) (e : Event) → (stepOf (flipped a) (mirroredRecord e) .answer ≡ stepOf a e .answer) × (stepOf (flipped a) (mirroredRecord e) .auction ≡ flipped (stepOf a e .auction))
+pub steps : (a : Auction) (e : Event) → (stepOf (flipped a) (mirroredRecord e) .answer ≡ stepOf a e .answer) × (stepOf (flipped a) (mirroredRecord e) .auction ≡ flipped (stepOf a e .auction))
 steps a e =
     subst (λ (v : Sight). (stepBy v (flipped a) (mirroredRecord e) .answer ≡ stepOf a e .answer) × (stepBy v (flipped a) (mirroredRecord e) .auction ≡ flipped (stepOf a e .auction)))
     (sym (record-sight (a .board) e)) (steps-by (sightOf (a .board) e) a e)
@@ -203,7 +203,7 @@ run-same [] a = refl
 run-same (e ∷ es) a = ap (λ (b : Auction). run b (mirroredRecords es)) (steps a e .1) ∙ run-same es (stepOf a e .auction)
 
 -- a mirrored record bears the sequence of the record
-same-name : (e : Event) → mirroredRecord e .sequence ≡ e .sequence
+pub same-name : (e : Event) → mirroredRecord e .sequence ≡ e .sequence
 same-name e = by (λ (x : Event). x .sequence ≡ e .sequence) (eventFormed e) _ _ (λ _. mirror-sequence e) (λ _. refl)
 
 heard-same : (es : List Event) (a : Auction) → heard (flipped a) (mirroredRecords es) ≡ heard a es

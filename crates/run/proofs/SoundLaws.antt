@@ -138,7 +138,7 @@ after-sound a e c g s bound good live distinct offered none apart =
 
 -- the sum of the sizes is far from the largest word
 pub sum-fits : (a : Auction) → Sound a → sum (sizes (liveOf (a .board))) ≤ 6400000
-sum-fits a s = live-sizes (a .board) (s .board) (every-map (Stands (a .head .sequence) (a .head .terms .initiating)) (λ r. r .size ≤ 100000) (liveOf (a .board)) (λ r h. h .4) (s .live))
+sum-fits a s = live-sizes (a .board) (s .board) (every-map (Stands (a .head .sequence) (a .head .terms .initiating)) (λ r. r .size ≤ 100000) (liveOf (a .board)) (λ r h. h .3) (s .live))
 
 -- what was found: its size is among those that add up
 pub old-size : (v : Sight) (a : Auction) → Fits (a .board) v → Sound a → v .found < 64 → sum (sizes (liveOf (a .board))) ≡ v .old .size + sum (sizes (liveOf (cleared (a .board) (v .found))))
@@ -165,11 +165,11 @@ module _ (v : Sight) (a : Auction) (e : Event) (fits : Fits (a .board) v) (s : S
       → (gone ≤ sum (sizes (liveOf (a .board)))) × (gone + sum (sizes (liveOf (seatedAt (a .board) i r))) ≡ r .size + sum (sizes (liveOf (a .board))))
       → Sound (after a e (Seat i r gone) g)
   seated-sound i r gone g q n p every distinct sums =
-      let live = every (Stands (e .sequence) (a .head .terms .initiating)) (omega (arith, q, o .ordinary .newer), omega (arith, q), n .0, p, n .1) stand in
+      let live = every (Stands (e .sequence) (a .head .terms .initiating)) (omega (arith, q, o .ordinary .newer), omega (arith, q), n .0, n .1, p) stand in
       let good = seated-good (a .board) i r (s .board) in
       after-sound a e (Seat i r gone) g s (s .bound-below) good live
       (distinct (fresh (r .sequence) q) (s .distinct))
-      (omega (arith, s .offered, sums .0, sums .1, live-sizes (seatedAt (a .board) i r) good (every-map (Stands (e .sequence) (a .head .terms .initiating)) (λ r. r .size ≤ 100000) (liveOf (seatedAt (a .board) i r)) (λ r h. h .4) live)))
+      (omega (arith, s .offered, sums .0, sums .1, live-sizes (seatedAt (a .board) i r) good (every-map (Stands (e .sequence) (a .head .terms .initiating)) (λ r. r .size ≤ 100000) (liveOf (seatedAt (a .board) i r)) (λ r h. h .3) live)))
       (λ _. no-size) no-more
 
   placed-sound : (r : Response) (g : Ending) → v .at < 64 → r .sequence ≡ e .sequence → Size (r .size) → r .price ≤ a .head .terms .initiating → Sound (after a e (Seat (v .at) r 0) g)
@@ -255,7 +255,7 @@ sound-deal a s =
     record {
       bound-below = omega (arith, bound-is a s, s .bound-below);
       stop-below = s .stop-below;
-      prices = every-map (Stands (a .head .sequence) (a .head .terms .initiating)) (λ r. r .price ≤ a .head .terms .initiating) (liveOf (a .board)) (λ r h. h .3) (s .live);
+      prices = every-map (Stands (a .head .sequence) (a .head .terms .initiating)) (λ r. r .price ≤ a .head .terms .initiating) (liveOf (a .board)) (λ r h. h .4) (s .live);
       mode = s .mode;
       parties = every-map (Stands (a .head .sequence) (a .head .terms .initiating)) (λ r. 0 < r .sequence) (liveOf (a .board)) (λ r h. h .0) (s .live);
       distinct = s .distinct;

@@ -8,6 +8,6 @@ use Rattle.auction.specs.declared.Head.{Head}
 abbrev pub onOffer : Auction → ℕ
 onOffer a = a .head .offered
 
--- n contracts, less a size that is gone, with a size that has come: never below 0, at most the largest word of 32 bits; in an auction that was opened it never comes to either
+-- n contracts, less a size that is gone, with a size that has come: never below 0, at most the largest word of 32 bits; in an auction that was opened neither limit takes effect
 abbrev pub movedOffer : ℕ → ℕ → ℕ → ℕ
 movedOffer n gone come = word (n - gone + come)

@@ -21,7 +21,7 @@ isOpen Improve = false
 abbrev pub boundBy : Terms → Quotes → ℕ
 boundBy t q = boundOf (t .size) (t .floor) (q .bb) (q .bidmark)
 
--- at most the largest word of 32 bits; the bound of an auction that was opened always is
+-- x, but at most the largest word of 32 bits; the bound and the contracts on offer of an auction that was opened are never above it
 abbrev pub word : ℕ → ℕ
 word x = min x 4294967295
 

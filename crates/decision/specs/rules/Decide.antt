@@ -1,4 +1,4 @@
--- What is decided of an event (document 01, "What an event does", and W-201 for amends), for a buy, on small values.
+-- What is decided of an event (document 01, "What an event does", W-201 for amends, and W-202 for the size that goes), for a buy, on small values.
 use mathlib.Core.Bool.{Bool, true, false, cond, not, _&&_, _||_}
 use Prim.Native.Nat.{ℕ, min, max}
 use lib.Dec.{leb, ltb, eqb}
@@ -48,6 +48,7 @@ gtxOutcome t s e =
     (cond (ltb (t .initiating) (priceOf e)) (Refuses 36)
     (places s (responseOf true (min (sizeOf e) (t .size)) e) Open))
 
+-- a cancel: the place that was found is freed, and its size is gone
 unfoldable pub cancelOutcome : Sight → Outcome
 cancelOutcome s = cond (ltb (s .found) 64) (Does (Free (s .found) (s .old .size)) Open) (Refuses 37)
 

@@ -1,4 +1,4 @@
--- What an event does (document 01): what it sees of the board, one turn by what is decided of it, and the step.
+-- What an event does (documents 01 and 02): what it sees of the board, one turn by what is decided of it, and the step.
 use mathlib.Core.Bool.{cond, not, _||_}
 use Prim.Native.Nat.{ℕ}
 use lib.Dec.{leb, ltb, eqb}
@@ -70,7 +70,7 @@ marketAfter m (Free i gone) = m
 marketAfter m (Quote n) = m
 marketAfter m (Sell n) = n
 
--- a response that is placed counts with the size that it has on the board, one that is cancelled or amended no more; a market order never does
+-- a response that is placed counts with the size that it has on the board; one that is cancelled, or that an amend replaces, counts no more; a market order never does
 abbrev pub offeredAfter : ℕ → Change → ℕ
 offeredAfter n Nothing = n
 offeredAfter n (Seat i r gone) = movedOffer n gone (r .size)

@@ -6,10 +6,8 @@ use lib.ListN.{length, drop}
 use Rattle.tape.specs.declared.order.Order.{Order}
 use Rattle.tape.specs.declared.event.Event.{Event}
 use Rattle.tape.specs.rules.Tape.{tapeOf}
-use Rattle.auction.specs.rules.Accept.{acceptOf}
 use Rattle.listing.specs.rules.Text.{text, decimal}
 use Rattle.listing.specs.rules.Listing.{listingOf, roomOf, lengthIn, listedOf, bytesOf}
-use Rattle.listing.specs.rules.Watch.{watchLines}
 
 -- ---- the example of document 01 (case c): an order, a response, and the same record again
 
@@ -48,10 +46,6 @@ exampleListing =
     ++ (text "FILL 1 105 3\n"
     ++ (text "FILL contra 109 4\n"
     ++ text "TOTAL 10\n"))))))
-
--- its EVENT lines on a watch
-abbrev pub exampleWatch : List ℕ
-exampleWatch = text "EVENT 1 taken on offer 3\n" ++ text "EVENT 1 refused 33 on offer 3\n"
 
 -- ---- a sell (case e), with a record out of form before its ending and one after it
 
@@ -107,8 +101,6 @@ pub record Demands : Type 0 where
   pub case-c : listingOf exampleTape ≡ exampleListing
   pub case-e : listingOf tapeE ≡ listingE
   pub no-bytes : listingOf [] ≡ text "REFUSED 21\n"
-  -- the first one's EVENT lines on a watch
-  pub watch-c : watchLines (acceptOf exampleOrder .auction) (exampleResponse ∷ exampleResponse ∷ []) ≡ exampleWatch
   -- every tape's listing fits the room
   pub fits : (s : List ℕ) → length (listingOf s) ≤ roomOf
   -- what is answered as written is within the lent bytes

@@ -55,9 +55,9 @@ eventText e = field "EVENT " (e .sequence) ++ answerText (e .answer)
 unfoldable pub eventLine : Said → List ℕ
 eventLine e = eventText e ++ newline
 
--- the same line of a watch: the contracts on offer after the event stand at its end
-unfoldable pub watchedLine : Said → ℕ → List ℕ
-watchedLine e offered = eventText e ++ (field " on offer " offered ++ newline)
+-- the same with the contracts on offer at its end, for a watch
+unfoldable pub eventLineWith : Said → ℕ → List ℕ
+eventLineWith e offered = eventText e ++ (field " on offer " offered ++ newline)
 
 -- why it ended (never `open`: an auction still open is closed by hand)
 unfoldable pub endText : Ending → List ℕ
@@ -105,6 +105,10 @@ listingOf s = linesOf (runOf s)
 
 -- ---- what `listing` answers, and the lent bytes after it
 
+-- a text at the start of lent bytes, every byte past it as it was; nothing changes where they are fewer than the room
+abbrev pub atStart : ℕ → List ℕ → List ℕ → List ℕ
+atStart room t out = cond (ltb (length out) room) out (t ++ drop (length t) out)
+
 -- the room that every listing fits
 abbrev pub roomOf : ℕ
 roomOf = 131072
@@ -123,6 +127,5 @@ lengthIn (Auctioned ending n) = n
 unfoldable pub listedOf : List ℕ → List ℕ → Listed
 listedOf s out = cond (ltb (length out) roomOf) (NoAuction 24 0) (answerOf (length (listingOf s)) (runOf s))
 
--- the listing at the start, every byte past it as it was; nothing changes where the room is too small
 unfoldable pub bytesOf : List ℕ → List ℕ → List ℕ
-bytesOf s out = cond (ltb (length out) roomOf) out (listingOf s ++ drop (length (listingOf s)) out)
+bytesOf s out = atStart roomOf (listingOf s) out

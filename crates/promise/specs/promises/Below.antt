@@ -14,6 +14,7 @@ use Rattle.run.specs.promises.Demands.{Keeps, Resend, Amends, OnOffer, Demanded
 use Rattle.run.specs.promises.InPlace.{InPlace}
 use Rattle.run.specs.promises.Figures.{Figures}
 use Rattle.listing.specs.promises.Demands.{Demands as Listings}
+use Rattle.listing.specs.promises.Watching.{Watching}
 
 pub record Below : Type 0 where
   -- bits of a word
@@ -40,6 +41,7 @@ pub record Below : Type 0 where
   pub demanded : Demanded
   pub mirrors : Mirrors
   pub in-place : InPlace
-  -- cases a to k, and the listing of document 01
+  -- cases a to k, the listing of document 01, and the watch
   pub figures : Figures
   pub listings : Listings
+  pub watching : Watching

@@ -209,16 +209,17 @@ module _ (o : Order) where
     -- after any records, refused ones among them, and at the end: the sum of the sizes over the live places
     pub sums : (es : List Event) → Accepts o → onOffer (auctionAfter o es) ≡ sum (sizes (responses (auctionAfter o es)))
     pub sums-end : (es : List Event) → Accepts o → onOffer (atEnd o es) ≡ sum (sizes (liveAtEnd o es))
-    -- which are those that the records taken leave standing: a GTX response with its size capped at the CUBE size, a limit order with its whole size
+    -- which are those that the records taken leave standing: a GTX response, and an amended one with its new size, capped at the CUBE size; a limit order with its whole size
     pub by-records : (es : List Event) → Accepts o → onOffer (auctionAfter o es) ≡ sum (sizes (standingOf o (takenRecords o es)))
-    -- a limit order that takes a place counts, whether or not it ends the auction; a market order does not
+    -- a limit order that takes a place counts, whether or not it ends the auction; one that takes none, quotes and a market order do not
     pub limit-counts : (es : List Event) (e : Event) → Accepts o → e .kind ≡ 3 → takesPlace o e ≡ true → isTaken (stepOf (auctionAfter o es) e .answer) ≡ true → onOffer (auctionAfter o (es ++ (e ∷ []))) ≡ onOffer (auctionAfter o es) + sizeOf e
-    pub market-not : (es : List Event) (e : Event) → e .kind ≡ 4 → onOffer (auctionAfter o (es ++ (e ∷ []))) ≡ onOffer (auctionAfter o es)
+    pub limit-not : (es : List Event) (e : Event) → Accepts o → e .kind ≡ 3 → takesPlace o e ≡ false → onOffer (auctionAfter o (es ++ (e ∷ []))) ≡ onOffer (auctionAfter o es)
+    pub market-not : (es : List Event) (e : Event) → (e .kind ≡ 4) ⊎ (e .kind ≡ 5) → onOffer (auctionAfter o (es ++ (e ∷ []))) ≡ onOffer (auctionAfter o es)
     -- a record that is refused, or late, leaves it
     pub leaves : (es : List Event) (e : Event) → isTaken (stepOf (auctionAfter o es) e .answer) ≡ false → onOffer (auctionAfter o (es ++ (e ∷ []))) ≡ onOffer (auctionAfter o es)
-    -- once the auction has ended it stands at its last value, whatever records come; closing by hand leaves it too
+    -- once the auction has ended it stands at its last value, whatever records come; closing by hand leaves it too, and what comes after that
     pub stands : (es fs : List Event) → isOpen (auctionAfter o es .head .ending) ≡ false → onOffer (auctionAfter o (es ++ fs)) ≡ onOffer (auctionAfter o es)
-    pub closing : (es : List Event) → onOffer (atEnd o es) ≡ onOffer (auctionAfter o es)
+    pub closing : (es fs : List Event) → onOffer (run (atEnd o es) fs) ≡ onOffer (auctionAfter o es)
     -- on a watch each EVENT line is the listing's, with the sum after that record at its end
     pub watched : (es : List Event) (e : Event) → Accepts o
         → watchLine (auctionAfter o es) e ≡ eventText (said (e .sequence) (stepOf (auctionAfter o es) e .answer)) ++ (field " on offer " (sum (sizes (standingOf o (takenRecords o (es ++ (e ∷ [])))))) ++ newline)

@@ -15,6 +15,7 @@ use Rattle.run.specs.rules.Run.{heard, runOf}
 use Rattle.run.specs.promises.Demands.{Keeps, mirroredRecords}
 use Rattle.roundtrip.specs.promises.Demands.{Demands}
 use Rattle.listing.specs.rules.Listing.{listingOf}
+use Rattle.listing.specs.rules.Watch.{watchLines}
 use Rattle.promise.specs.rules.Tapes.{Carries, SomeTape, endOf, notRefused, notRefusedSaid, WithResent, mirroredLines}
 use Rattle.promise.specs.rules.Answers.{Accepts}
 use Rattle.promise.specs.rules.Sides.{isSell, buyRange, sellRange}
@@ -48,5 +49,7 @@ pub record Promise : Type 0 where
   -- 6. Sells mirror buys: the tape whose order and records in form are mirrored (a record out of form stays as it is) has the mirrored listing
   pub can-mirror : (s : List ℕ) (o : Order) (es : List Event) → AllBytes s → Carries s o es → SomeTape (mirroredOrder o) (mirroredRecords es)
   pub mirrors : (s t : List ℕ) (o : Order) (es : List Event) → Carries s o es → Carries t (mirroredOrder o) (mirroredRecords es) → listingOf t ≡ mirroredLines (runOf s)
+  -- and the same EVENT lines on a watch
+  pub mirrors-watch : (o : Order) (es : List Event) → Accepts o → watchLines (acceptOf (mirroredOrder o) .auction) (mirroredRecords es) ≡ watchLines (acceptOf o .auction) es
   -- and the theorems below
   pub below : Below

@@ -3,7 +3,7 @@ use mathlib.Core.Path.{_≡_}
 use mathlib.Core.Bool.{Bool, true, false, cond, not, _&&_, _||_}
 use mathlib.Core.List.{List, [], _∷_}
 use mathlib.Core.Logic.{_⊎_}
-use Prim.Native.Nat.{ℕ, _+_, _≤_, _<_, min}
+use Prim.Native.Nat.{ℕ, _+_, _-_, _≤_, _<_, min}
 use lib.Dec.{leb, ltb, eqb}
 use Rattle.base.specs.Lists.{In, Every, sum}
 use Rattle.board.specs.rules.Board.{responseAt, isLive, liveCount, liveOf, findGtx}
@@ -20,7 +20,7 @@ use Rattle.demand.specs.promises.Demands.{Absent, Distinct, Demand3}
 use Rattle.base.specs.Price.{mirrored}
 use Rattle.mirror.specs.rules.Mirror.{mirroredOrder, mirroredEvent, buyEvent}
 use Rattle.auction.specs.rules.Accept.{acceptOf}
-use Rattle.auction.specs.rules.Range.{isOpen, boundBy, rangeOf}
+use Rattle.auction.specs.rules.Range.{isOpen, boundBy, rangeOf, word}
 use Rattle.auction.specs.rules.Offer.{onOffer}
 use Rattle.decision.specs.rules.Decide.{isCancel, isAmend}
 use Rattle.tape.specs.rules.Fields.{sizeOf, priceOf, nameOf, newSizeOf, newPriceOf}
@@ -121,9 +121,9 @@ pub record Resend : Type 0 where
 
 -- ---- demand 3
 
--- a live response has a sequence up to the highest taken, a size, and a price up to the initiating price; no size is above 100,000
+-- a live response has a sequence up to the highest taken, a size of 1 to 100,000, and a price up to the initiating price
 abbrev pub Stands : ℕ → ℕ → Response → Type 0
-Stands highest initiating r = (0 < r .sequence) × (r .sequence ≤ highest) × (1 ≤ r .size) × (r .price ≤ initiating) × (r .size ≤ 100000)
+Stands highest initiating r = (0 < r .sequence) × (r .sequence ≤ highest) × (1 ≤ r .size) × (r .size ≤ 100000) × (r .price ≤ initiating)
 
 -- what every auction that was opened has, and keeps
 pub record Sound (a : Auction) : Type 0 where
@@ -202,6 +202,8 @@ pub record Amended (a : Auction) (e : Event) (b : Auction) : Type 0 where
   pub others : (j : ℕ) → (j ≡ namedPlace a e → ⊥) → responseAt (b .board .places) j ≡ responseAt (a .board .places) j
   pub word : b .board .live ≡ a .board .live
   pub count : liveCount (b .board) ≡ liveCount (a .board)
+  -- of the contracts on offer the old size is gone, and the new one has come
+  pub offered : onOffer b + responseAt (a .board .places) (namedPlace a e) .size ≡ onOffer a + min (newSizeOf e) (a .head .terms .size)
   -- the old name is found no more, and the new one at that place
   pub gone : findGtx (b .board) (nameOf e) ≡ 64
   pub found : findGtx (b .board) (e .sequence) ≡ namedPlace a e
@@ -234,22 +236,27 @@ brings t e =
     (cond (isAmend e) (min (newSizeOf e) (t .size))
     0))
 
--- the size that it takes away: that of the GTX response that a cancel or an amend names
+-- the size that it takes away: for a cancel and an amend, that of the response that was found
 abbrev pub takesAway : Sight → Event → ℕ
 takesAway s e = cond (isCancel e || isAmend e) (s .old .size) 0
 
 pub record OnOffer : Type 0 where
+  -- it is kept, and not looked for on the board
+  pub kept : (h : Head) (b c : Board) → onOffer (record { head = h; board = b }) ≡ onOffer (record { head = h; board = c })
   -- of every accepted order, after every list of events, refused ones among them, and at the end: the sum of the sizes over the live places. A word of 32 bits holds it with room to spare
   pub sums : (o : Order) (es : List Event) → acceptOf o .answer ≡ Accepted → onOffer (run (acceptOf o .auction) es) ≡ sum (sizes (liveOf (run (acceptOf o .auction) es .board)))
   pub sums-end : (o : Order) (es : List Event) → acceptOf o .answer ≡ Accepted → onOffer (played o es) ≡ sum (sizes (liveOf (played o es .board)))
   pub fits : (o : Order) (es : List Event) → acceptOf o .answer ≡ Accepted → onOffer (run (acceptOf o .auction) es) ≤ 6400000
   -- an event that is taken, or ends the auction, moves it by what it brings and takes away
   pub moves : (s : Sight) (a : Auction) (e : Event) → Fits (a .board) s → Sound a → isTaken (stepBy s a e .answer) ≡ true → onOffer (stepBy s a e .auction) + takesAway s e ≡ onOffer a + brings (a .head .terms) e
+  -- of any auction, opened or not, and under any sight: never below 0, and at most the largest word of 32 bits
+  pub moves-any : (s : Sight) (a : Auction) (e : Event) → onOffer a ≤ 4294967295 → isTaken (stepBy s a e .answer) ≡ true → onOffer (stepBy s a e .auction) ≡ word (onOffer a - takesAway s e + brings (a .head .terms) e)
+  pub word-stays : (s : Sight) (a : Auction) (e : Event) → onOffer a ≤ 4294967295 → onOffer (stepBy s a e .auction) ≤ 4294967295
   -- every other event leaves it, whatever is seen: one that is refused, and one that is late; closing by hand does too
   pub leaves : (s : Sight) (a : Auction) (e : Event) → isTaken (stepBy s a e .answer) ≡ false → onOffer (stepBy s a e .auction) ≡ onOffer a
   pub closing : (a : Auction) → onOffer (closeOf a .auction) ≡ onOffer a
   -- a market order leaves it, of either side, and so do quotes, of any auction
-  pub market : (s : Sight) (a : Auction) (e : Event) → (e .kind ≡ 4) ⊎ (e .kind ≡ 5) → onOffer (stepBy s a e .auction) ≡ onOffer a
+  pub market-or-quotes : (s : Sight) (a : Auction) (e : Event) → (e .kind ≡ 4) ⊎ (e .kind ≡ 5) → onOffer (stepBy s a e .auction) ≡ onOffer a
   -- once the auction has ended it stands at its last value, whatever comes
   pub stands : (a : Auction) (es : List Event) → isOpen (a .head .ending) ≡ false → (onOffer (run a es) ≡ onOffer a) × (onOffer (closed (run a es)) ≡ onOffer a)
 

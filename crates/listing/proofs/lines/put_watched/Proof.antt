@@ -1,5 +1,5 @@
 use Rattle.listing.proofs.WroteLaws.{wrote-append}
-use Rattle.listing.specs.rules.Listing.{watchedLine}
+use Rattle.listing.specs.rules.Listing.{eventLineWith}
 use borrow.Author.Needs.{needs}
 use Rattle.listing.proofs.lines.put_watched.Statement.{statement}
 use Rattle.listing.proofs.lines.put_watched.Tie as tie
@@ -23,7 +23,7 @@ same-length : tie.Need-same-length
 same-length c = search needs
 
 returns : tie.Need-returns
-unfolding watchedLine
+unfolding eventLineWith
 returns c =
     wrote-append (c .before .before .before .before .before .before .before .before .before .before .before .before .put-said .ensures .0)
     (wrote-append (c .before .before .before .before .before .before .before .put-word .ensures .0) (c .before .before .put-text .ensures))

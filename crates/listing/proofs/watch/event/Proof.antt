@@ -5,7 +5,7 @@ use Rattle.auction.specs.rules.Offer.{onOffer}
 use Rattle.events.specs.declared.Stepped.{Stepped}
 use Rattle.events.specs.rules.Step.{stepOf}
 use Rattle.run.specs.rules.Run.{said}
-use Rattle.listing.specs.rules.Listing.{watchedLine}
+use Rattle.listing.specs.rules.Listing.{eventLineWith}
 use Rattle.listing.specs.rules.Watch.{watchLine}
 use Rattle.listing.proofs.LengthLaws.{watched-short}
 use Rattle.listing.proofs.WroteLaws.{wrote-same}
@@ -36,8 +36,8 @@ returns-2 c =
     let room = c .before .before .before .before .before .before .before .if1 .left in
     let w = shown (watchLine (a .a) (a .e)) (now (a .out)) room (omega (arith, watched-short (said (a .e .sequence) (stepOf (a .a) (a .e) .answer)) (onOffer (stepOf (a .a) (a .e) .auction))))
     (wrote-same (c .before .before .put-watched .ensures)
-    (ap (watchedLine (said (a .e .sequence) (s .result .answer))) (c .before .before .before .on-offer .ensures)
-    ∙ ap (λ (v : Stepped). watchedLine (said (a .e .sequence) (v .answer)) (onOffer (v .auction))) (s .ensures))) in
+    (ap (eventLineWith (said (a .e .sequence) (s .result .answer))) (c .before .before .before .on-offer .ensures)
+    ∙ ap (λ (v : Stepped). eventLineWith (said (a .e .sequence) (v .answer)) (onOffer (v .auction))) (s .ensures))) in
     (watched (a .a) (a .e) (now (a .out)) (s .result) _ room (s .ensures) (w .0), w .1)
 
 pub event-spec : {M : Type 1} → statement M
