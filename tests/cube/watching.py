@@ -281,7 +281,9 @@ class Live(Case):
         for n in (65, 95, 97, 127):
             made = cube("watch", "--live", given=sent[:n])
             self.ends(made, 1, joined(want[:1 + (n - 64) // 32]))
-            self.assertRegex(made.stderr.decode(), r"\Acube: standard input ended inside an event record.*\n\Z")
+            self.assertEqual(made.stderr, b"cube: standard input ended inside an event record; the auction was not closed\n")
+        ended = b"".join(records(tape_of(TEXT + "market sequence=2 time=30 side=buy size=1\n")))
+        self.ends(cube("watch", "--live", given=ended + b"x"), 1, stderr="cube: standard input ended inside an event record\n")
         self.ends(cube("watch", "--live", given=sent[:64]), 0, joined(want[:1]) + "END time range 101 to 109\nFILL contra 109 10\nTOTAL 10\n")
 
     def test_a_refused_order(self):

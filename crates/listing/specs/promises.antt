@@ -1,3 +1,3 @@
--- What is promised of the listing.
+-- What is promised of the listing and of the watch.
 pub mod Demands
 pub mod Watching
