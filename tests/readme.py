@@ -1,5 +1,5 @@
 #!/usr/bin/env python3
-"""The auction by hand that README.md shows: made from its text, listed and shown again by `cube`, it is what README.md says.
+"""The auction by hand that README.md shows: made from its text, listed, watched and shown again by `cube`, it is what README.md says.
 
     tests/readme.py
 
@@ -33,6 +33,9 @@ def main():
     for name, got, want in (("listing", cube([], tape).decode(), listing), ("text", cube(["show"], tape).decode(), text)):
         if got != want:
             sys.exit("the %s of README.md's auction is not\n%s" % (name, got))
+    offered = re.search(r"`(EVENT \d+ taken on offer \d+)`", readme).group(1)
+    if offered not in cube(["watch"], tape).decode().split("\n"):
+        sys.exit("the watch of README.md's auction has no line " + offered)
     wrong = subprocess.run(["./cube", "make"], input=text.replace("size=3", "size=three", 1).encode(), stdout=subprocess.PIPE, stderr=subprocess.PIPE)
     if wrong.returncode == 0 or wrong.stdout or not re.search(rb"line 2: ", wrong.stderr):
         sys.exit("a wrong line is not named, or something was written")

@@ -273,11 +273,11 @@ class Live(Case):
             self.ends(cube("watch", "--live", given=b"".join(records(tape_of(text)))), 0, joined(in_live_order(lines)))
 
     def test_cut_records(self):
-        """Inside the order record it is REFUSED 24. Inside an event record the auction is not closed, and that is said."""
+        """Inside the order record it is REFUSED 24. Inside an event record the auction is not closed. Either is said."""
         sent = b"".join(records(tape_of(TEXT)))
         want = watched(tape_of(TEXT))
         for n in (0, 1, 63):
-            self.ends(cube("watch", "--live", given=sent[:n]), 0, "REFUSED 24\n")
+            self.ends(cube("watch", "--live", given=sent[:n]), 1, "REFUSED 24\n", "cube: standard input ended inside the order record\n")
         for n in (65, 95, 97, 127):
             made = cube("watch", "--live", given=sent[:n])
             self.ends(made, 1, joined(want[:1 + (n - 64) // 32]))
@@ -293,7 +293,7 @@ class Live(Case):
     def test_usage(self):
         self.ends(cube("watch", "--live", "c.tape", cwd=self.folder), 2, b"", "usage: cube watch")
         self.ends(cube("watch", "c.tape", "--live", cwd=self.folder), 2, b"", "--live follows standard input, and takes no tape")
-        self.ends(cube("watch", "--live", "-", given=b""), 0, "REFUSED 24\n")
+        self.ends(cube("watch", "--live", "-", given=b""), 1, "REFUSED 24\n")
 
     def test_standard_output_that_can_not_be_written(self):
         sent = b"".join(records(tape_of(TEXT)))
@@ -309,11 +309,11 @@ class Live(Case):
         self.assertTrue(screen.is_alone())
 
     def test_interrupted(self):
-        """By a signal to cube alone, and to all of its group as a terminal does it: no process is left."""
-        for kill in (os.kill, os.killpg):
+        """By a signal to cube alone, and to all of its group as a terminal does it: no process is left to take a record of the next screen."""
+        for kill, number, status in ((os.kill, signal.SIGINT, 130), (os.killpg, signal.SIGINT, 130), (os.kill, signal.SIGTERM, 143)):
             screen = Screen(self)
             screen.send(records(tape_of(TEXT))[0])
             self.assertTrue(screen.line().startswith("AUCTION "))
-            kill(screen.process.pid, signal.SIGINT)
-            self.assertEqual((screen.process.wait(60), screen.process.stderr.read()), (130, b""))
+            kill(screen.process.pid, number)
+            self.assertEqual((screen.process.wait(60), screen.process.stderr.read()), (status, b""))
             self.assertTrue(screen.is_alone())

@@ -1,11 +1,12 @@
 """The command line: the commands, their options and their help."""
 import argparse
 import os
+import signal
 import sys
 import textwrap
 
 from . import cmd_draw, cmd_list, cmd_sweep, cmd_text, cmd_watch, cmd_why, files
-from .trouble import FINE, INTERRUPTED, TROUBLE, USAGE, Trouble, put_error, say
+from .trouble import FINE, INTERRUPTED, TERMINATED, TROUBLE, USAGE, Trouble, put_error, say
 
 COMMANDS = [cmd_list, cmd_watch, cmd_why, cmd_sweep, cmd_draw, cmd_text.Make, cmd_text.Show, cmd_text.Check]
 USAGE_LINES = ["cube [list] [OPTIONS] TAPE..", "cube < TAPE", "cube COMMAND [OPTIONS] ..", "cube COMMAND --help"]
@@ -87,6 +88,7 @@ def serve(words):
 def main():
     """Runs the command line; every failure is a sentence and a status, and none a traceback."""
     files.guard_standard_files()
+    signal.signal(signal.SIGTERM, lambda *_: sys.exit(TERMINATED))
     try:
         status = serve(sys.argv[1:])
     except Trouble as t:

@@ -66,7 +66,10 @@ def text_of(listed, headed, why):
     head = ["TAPE " + listed.name] if headed else []
     if isinstance(listed, listing.Listing) and not why:
         return "".join(h + "\n" for h in head).encode("utf-8", "surrogateescape") + listed.text
-    lines = head + list(listing.with_reasons(listed.lines()) if why else listed.lines())
+    lines = listed.lines()
+    if why:
+        lines = listing.with_reasons(lines, min(max(map(len, lines)), 40))
+    lines = head + list(lines)
     return ("\n".join(lines) + "\n").encode("utf-8", "surrogateescape")
 
 

@@ -8,11 +8,14 @@ SUMMARY = "the contracts on offer after each event, of a tape or live"
 DESCRIPTION = """\
 The listing of one tape, with the contracts on offer at the end of each EVENT line: the total size of the responses that stand after that event. With
 --live standard input is no tape but an order record (64 bytes) and then event records (32 bytes each), as they come, and each line is shown as soon
-as its record is there. The END, FILL and TOTAL lines come where an event ends the auction, else at the input's end, where an auction still open is
-closed by hand; a record after the ending is still answered. Where the input ends inside an event record the auction is not closed, and the status is
-1. All lines come from the proved program desk."""
+as its record is there. It follows one auction, up to the input's end: no clock runs, and time passes by the records' own. The END, FILL and TOTAL lines
+come where an event ends the auction, else at the input's end, where an auction still open is closed by hand; a record after the ending is still
+answered. Where the input ends inside a record, or before the order's is whole, that is said and the status is 1: inside the order record it is REFUSED
+24, inside an event record (a tape's trailer is such a piece) the auction is not closed. All lines come from the proved program desk."""
 EXAMPLES = [("cube watch c.tape", "what was on offer, event by event"),
-            ("tail -c +1 -f c.records | cube watch --live", "the same on a screen, of a file that is still being written")]
+            ("head -c -16 c.tape | cube watch --live", "the records of a tape, without its trailer, as if they came now"),
+            ("tail -c +1 -f FILE | cube watch --live", "a screen of a file of records that is still being written")]
+WIDEST = len("EVENT 4294967295 refused 33 on offer 6400000")
 
 
 def add(parser):
@@ -23,7 +26,7 @@ def add(parser):
 
 def show(lines, why):
     """Each line as it comes."""
-    for line in listing.with_reasons(lines) if why else lines:
+    for line in listing.with_reasons(lines, WIDEST) if why else lines:
         files.put_text(line + "\n")
 
 

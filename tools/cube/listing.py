@@ -112,10 +112,8 @@ def refusal(line):
     return None
 
 
-def with_reasons(lines):
-    """The lines as they come, each refusal with its condition beside it. The first line of a listing is its widest."""
-    width = 0
+def with_reasons(lines, width):
+    """The lines as they come, each refusal with its condition beside it, after so many characters."""
     for line in lines:
-        width = max(width, min(len(line), 40))
         number = None if line.startswith("UNREADABLE") else refusal(line)
         yield line if number is None else "%-*s  %s" % (width, line, reasons.condition(number))

@@ -1,6 +1,7 @@
 """Runs of the proved programs: one tape through `runner`, many through `evening`, a trace or a watch through `desk`."""
 import contextlib
 import errno
+import itertools
 import os
 import re
 import subprocess
@@ -18,6 +19,8 @@ PATH_MAX = 4096
 def ended(program, process, said):
     """Why a program did not do its work."""
     said = said.decode("utf-8", "replace").strip()
+    if said.startswith(program + ": "):
+        said = said[len(program) + 2:]
     if process.returncode < 0:
         return "%s was ended by signal %d%s" % (program, -process.returncode, ": " + said if said else "")
     return said or "%s ended with status %d and said nothing" % (program, process.returncode)
@@ -63,12 +66,12 @@ def desk(engine, word, tape):
 @contextlib.contextmanager
 def live(engine):
     """The lines of `desk live`, each as soon as it is written. Its standard input is that of cube."""
-    process = engine.start("desk", ["live"], stdin=0)
+    process, shown = engine.start("desk", ["live"], stdin=0), itertools.count()
     with ours(process):
-        yield (line.decode("ascii").rstrip("\n") for line in process.stdout)
+        yield (line.decode("ascii").rstrip("\n") for line, _ in zip(process.stdout, shown))
         _, said = process.communicate()
-    if said or process.returncode != 0:
-        raise Trouble(ended("desk", process, said.replace(b"desk: ", b"", 1)))
+    if said or process.returncode != 0 or next(shown) == 0:
+        raise Trouble(ended("desk", process, said))
 
 
 def fault(name):

@@ -1,7 +1,7 @@
 """What can go wrong, as one sentence and a status; and saying it."""
 import os
 
-FINE, TROUBLE, USAGE, INTERRUPTED = 0, 1, 2, 130
+FINE, TROUBLE, USAGE, INTERRUPTED, TERMINATED = 0, 1, 2, 130, 143
 
 
 class Trouble(Exception):

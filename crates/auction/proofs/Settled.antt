@@ -15,11 +15,11 @@ bound-now κs a = (tt, λ y z v w p q. (p ∙ sym q, refl))
 pub price-range : Settled contracts.bounds.price_range.ended contracts.bounds.price_range.Reads.Asked contracts.bounds.price_range.Reads.Learnt
 price-range κs a = (tt, λ y z v w p q. (p ∙ sym q, refl))
 
-pub accept : Settled contracts.orders.accept.ended contracts.orders.accept.Reads.Asked contracts.orders.accept.Reads.Learnt
-accept κs a = (tt, λ y z v w p q. (p ∙ sym q, refl))
-
 pub on-offer : Settled contracts.offer.on_offer.ended contracts.offer.on_offer.Reads.Asked contracts.offer.on_offer.Reads.Learnt
 on-offer κs a = (tt, λ y z v w p q. (p ∙ sym q, refl))
 
 pub moved-offer : Settled contracts.offer.moved_offer.ended contracts.offer.moved_offer.Reads.Asked contracts.offer.moved_offer.Reads.Learnt
 moved-offer κs a = (tt, λ y z v w p q. (p ∙ sym q, refl))
+
+pub accept : Settled contracts.orders.accept.ended contracts.orders.accept.Reads.Asked contracts.orders.accept.Reads.Learnt
+accept κs a = (tt, λ y z v w p q. (p ∙ sym q, refl))

@@ -60,9 +60,10 @@ pub struct Head {
     pub offered: u32,
 }
 
+// The board comes first: after the head it would stand behind a gap of four bytes, and each tape would copy it three times more.
 pub struct Auction {
-    pub head: Head,
     pub board: Board,
+    pub head: Head,
 }
 
 // Prices from low to high.

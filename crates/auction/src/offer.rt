@@ -14,6 +14,7 @@ pub fn on_offer(a: Auction) -> u32
     h.offered
 }
 
+// What is left of n; none where more is gone.
 fn less(n: u32, gone: u32) -> u32
     ensures { λ r. ⌜ r ≡ n - gone ⌝ }
 {

@@ -2,7 +2,7 @@
 ghost use mathlib.Core.Path.{_≡_};
 ghost use mathlib.Core.Bool.{cond};
 ghost use lib.Dec.{ltb};
-ghost use Rattle.decision.specs.rules.Decide.{seats, gtxOutcome, cancelOutcome, amendedBy, amendOutcome, sellLimitOutcome, bidQuotes, moves, buyLimitOutcome, limitOutcome, marketOutcome, newQuotes, quotesOutcome, outcomeOf, responseOf, isNonRoutable};
+ghost use Rattle.decision.specs.rules.Decide.{seats, places, gtxOutcome, cancelOutcome, amendedBy, amendOutcome, sellLimitOutcome, bidQuotes, moves, buyLimitOutcome, limitOutcome, marketOutcome, newQuotes, quotesOutcome, outcomeOf, responseOf, isNonRoutable};
 ghost use Rattle.auction.specs.rules.Range.{boundBy};
 use auction::Ending;
 use auction::Market;
@@ -61,6 +61,13 @@ fn seat(place: usize, r: Response, gone: u32, ending: Ending, number: u32) -> Ou
     Outcome::Refuses(number)
 }
 
+// A response has to be placed: at the lowest free place, and 38 where there is none.
+fn place(s: Sight, r: Response, ending: Ending) -> Outcome
+    ensures { λ o. ⌜ o ≡ places s r ending ⌝ }
+{
+    seat(s.at, r, 0, ending, 38)
+}
+
 fn gtx(t: Terms, s: Sight, e: Event) -> Outcome
     ensures { λ r. ⌜ r ≡ gtxOutcome t s e ⌝ }
 {
@@ -70,8 +77,7 @@ fn gtx(t: Terms, s: Sight, e: Event) -> Outcome
     if t.initiating < e.f16 {
         return Outcome::Refuses(36);
     }
-    let r = response(true, lower(e.f12, t.size), e);
-    seat(s.at, r, 0, Ending::Open, 38)
+    place(s, response(true, lower(e.f12, t.size), e), Ending::Open)
 }
 
 fn cancel(s: Sight) -> Outcome
@@ -131,7 +137,7 @@ fn sell_limit(t: Terms, q: Quotes, s: Sight, e: Event) -> Outcome
 {
     let ending = opposite_if(e.f16 <= market_price(e, q.bb, q.nbb));
     if e.f16 <= t.initiating {
-        return seat(s.at, response(false, e.f12, e), 0, ending, 38);
+        return place(s, response(false, e.f12, e), ending);
     }
     Outcome::Does(Change::Nothing, ending)
 }

@@ -10,15 +10,16 @@ use auction::Auction;
 use auction::Entry;
 use board::Board;
 use board::Response;
+use input::Contents;
 use input::MOST;
 use libc::STDERR_FILENO;
 use libc::STDIN_FILENO;
 use libc::STDOUT_FILENO;
 use listing::watch;
 use listing::watch::LINES;
-use tape::EVENT;
+use tape::EVENT_BYTES;
 use tape::Event;
-use tape::ORDER;
+use tape::ORDER_BYTES;
 use tape::Opened;
 use tape::Order;
 use tape::ReadOrder;
@@ -40,16 +41,29 @@ fn lines_buffer() -> [u8; LINES]
     [0; LINES]
 }
 
-fn order_buffer() -> [u8; ORDER]
+fn order_buffer() -> [u8; ORDER_BYTES]
     ensures { λ r. ⌜ 64 ≡ length r ⌝ }
 {
-    [0; ORDER]
+    [0; ORDER_BYTES]
 }
 
-fn event_buffer() -> [u8; EVENT]
+fn event_buffer() -> [u8; EVENT_BYTES]
     ensures { λ r. ⌜ 32 ≡ length r ⌝ }
 {
-    [0; EVENT]
+    [0; EVENT_BYTES]
+}
+
+// ---- reading
+
+// Bytes of standard input, as many as are lent, or all that there are; a read that fails is said.
+fn read_input(bytes: &mut [u8]) -> Contents
+    ensures { λ r. ⌜ Counts (r .length) (now (bytes .exit)) ⌝ }
+{
+    let c = input::read_tape(STDIN_FILENO, bytes);
+    if !c.whole {
+        os::fail(b"desk: standard input");
+    }
+    c
 }
 
 // ---- writing: whether all was written; where not, it is said
@@ -60,6 +74,11 @@ fn print(s: &[u8]) -> bool {
     }
     os::fail(b"desk: standard output");
     false
+}
+
+// On standard error.
+fn say(s: &[u8]) {
+    io::write_all(STDERR_FILENO, s);
 }
 
 fn print_number(n: u32) -> bool {
@@ -149,7 +168,7 @@ fn show_opened(a: Auction, out: &mut [u8]) -> bool {
     print_start(out, n)
 }
 
-// The auction after an event, and whether its line was written.
+// The auction after an event, and whether all went well: its lines were written, and live another record may follow.
 struct Shown {
     auction: Auction,
     well: bool,
@@ -250,9 +269,8 @@ fn serve_bytes(watches: bool, tape: &[u8], out: &mut [u8]) -> bool {
 // The tape on standard input.
 fn serve_tape(watches: bool, out: &mut [u8]) {
     let mut tape = tape_buffer();
-    let c = input::read_tape(STDIN_FILENO, &mut tape);
+    let c = read_input(&mut tape);
     if !c.whole {
-        os::fail(b"desk: standard input");
         return;
     }
     let n = c.length;
@@ -260,25 +278,6 @@ fn serve_tape(watches: bool, out: &mut [u8]) {
 }
 
 // ---- records as they come
-
-// What was read of a record: how many bytes, and whether the read went well; where not, it is said.
-struct Came {
-    length: usize,
-    well: bool,
-}
-
-fn read_record(bytes: &mut [u8]) -> Came
-    ensures { λ r. ⌜ Counts (r .length) (now (bytes .exit)) ⌝ }
-{
-    let c = input::read_tape(STDIN_FILENO, bytes);
-    if !c.whole {
-        os::fail(b"desk: standard input");
-    }
-    Came {
-        length: c.length,
-        well: c.whole,
-    }
-}
 
 fn is_open(a: Auction) -> bool {
     let h = a.head;
@@ -295,14 +294,11 @@ fn live_end(a: Auction, out: &mut [u8]) {
 
 // The input ended inside an event record: an auction still open is not closed, for what was to come is not known.
 fn live_cut(a: Auction) {
-    io::write_all(
-        STDERR_FILENO,
-        b"desk: standard input ended inside an event record",
-    );
+    say(b"desk: standard input ended inside an event record");
     if is_open(a) {
-        io::write_all(STDERR_FILENO, b"; the auction was not closed");
+        say(b"; the auction was not closed");
     }
-    io::write_all(STDERR_FILENO, b"\n");
+    say(b"\n");
 }
 
 // One event; the lines of the end at once where it ends the auction.
@@ -329,15 +325,15 @@ fn stopped(a: Auction) -> Shown {
 
 // The next event record: the auction after it, and whether one may follow.
 fn live_turn(a: Auction, bytes: &mut [u8], out: &mut [u8]) -> Shown {
-    let c = read_record(bytes);
-    if !c.well {
+    let c = read_input(bytes);
+    if !c.whole {
         return stopped(a);
     }
     if c.length == 0 {
         live_end(a, out);
         return stopped(a);
     }
-    if c.length < EVENT {
+    if c.length < EVENT_BYTES {
         live_cut(a);
         return stopped(a);
     }
@@ -378,11 +374,14 @@ fn live_order(o: Order, out: &mut [u8]) {
 
 fn live(out: &mut [u8]) {
     let mut order = order_buffer();
-    let c = read_record(&mut order);
-    if !c.well {
+    let c = read_input(&mut order);
+    if !c.whole {
         return;
     }
     let n = c.length;
+    if n < ORDER_BYTES {
+        say(b"desk: standard input ended inside the order record\n");
+    }
     match tape::read_order(&order[..n]) {
         ReadOrder::Order(o) => live_order(o, out),
         ReadOrder::Refused(number) => {
@@ -424,10 +423,7 @@ fn serve(word: &[u8]) {
         live(&mut out);
         return;
     }
-    io::write_all(
-        STDERR_FILENO,
-        b"desk: no such subcommand; there are: desk trace < TAPE, desk watch < TAPE, desk live\n",
-    );
+    say(b"desk: no such subcommand; there are: desk trace < TAPE, desk watch < TAPE, desk live\n");
 }
 
 fn main() {

@@ -1,4 +1,4 @@
--- Listings by computation.
+-- Listings and watches by computation.
 use mathlib.Core.Path.{_≡_, refl}
 use mathlib.Core.List.{List, [], _∷_}
 use Prim.Native.Nat.{ℕ}
@@ -15,30 +15,30 @@ use Rattle.listing.specs.promises.Demands.{exampleOrder, exampleResponse
 use Rattle.listing.specs.promises.Watching.{watchC, moved, watchMoved, watchE}
 
 -- a tape and its listing
-abbrev Shows : List ℕ → List ℕ → Type 0
+abbrev Lists : List ℕ → List ℕ → Type 0
 unfolding Computed wordAt orderWords orderOf orderSpare readOrder eventWords eventOf eventSpare recordAt trailerWords trailerOf readTrailer openTape orderIn recordIn recordsFrom recordsOf tapeOf runOf digits decimal refusedLine rangeText auctionLine answerText eventText eventLine eventLineWith endText endLine partyText fillLine totalLine endLines listingOf
-Shows tape t = listingOf tape ≡ t
+Lists tape t = listingOf tape ≡ t
 
 pub case-c : listingOf exampleTape ≡ exampleListing
-unfolding Shows
+unfolding Lists
 case-c = refl
 
 pub case-e : listingOf tapeE ≡ listingE
-unfolding Shows
+unfolding Lists
 case-e = refl
 
 pub watch-c : watchLines (acceptOf exampleOrder .auction) (exampleResponse ∷ exampleResponse ∷ []) ≡ watchC
-unfolding Shows
+unfolding Lists
 watch-c = refl
 
 pub watch-moved : watchLines (acceptOf exampleOrder .auction) moved ≡ watchMoved
-unfolding Shows
+unfolding Lists
 watch-moved = refl
 
 pub watch-e : watchLines (acceptOf orderE .auction) (noEvent 1 ∷ marketE ∷ noEvent 3 ∷ []) ≡ watchE
-unfolding Shows
+unfolding Lists
 watch-e = refl
 
 pub no-bytes : listingOf [] ≡ text "REFUSED 21\n"
-unfolding Shows
+unfolding Lists
 no-bytes = refl

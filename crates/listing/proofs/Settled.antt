@@ -15,8 +15,8 @@ refused κs a = (tt, λ y z v w p q. (p .0 ∙ sym (q .0), ap (λ x. (tt, (x, tt
 pub opened : Settled contracts.watch.opened.ended contracts.watch.opened.Reads.Asked contracts.watch.opened.Reads.Learnt
 opened κs a = (tt, λ y z v w p q. (p .0 ∙ sym (q .0), ap (λ x. (tt, (x, tt))) (p .1 .0 ∙ sym (q .1 .0))))
 
-pub ended : Settled contracts.watch.ended.ended contracts.watch.ended.Reads.Asked contracts.watch.ended.Reads.Learnt
-ended κs a = (tt, λ y z v w p q. (p .0 ∙ sym (q .0), ap (λ x. (tt, (x, tt))) (p .1 .0 ∙ sym (q .1 .0))))
-
 pub event : Settled contracts.watch.event.ended contracts.watch.event.Reads.Asked contracts.watch.event.Reads.Learnt
 event κs a = (tt, λ y z v w p q. (p .0 ∙ sym (q .0), ap (λ x. (tt, (tt, (x, tt)))) (p .1 .0 ∙ sym (q .1 .0))))
+
+pub ended : Settled contracts.watch.ended.ended contracts.watch.ended.Reads.Asked contracts.watch.ended.Reads.Learnt
+ended κs a = (tt, λ y z v w p q. (p .0 ∙ sym (q .0), ap (λ x. (tt, (x, tt))) (p .1 .0 ∙ sym (q .1 .0))))

@@ -47,7 +47,7 @@ use Rattle.events.specs.rules.Step.{sightOf, stepOf}
 use Rattle.fills.specs.rules.Fills.{dealOf}
 use Rattle.run.specs.rules.Run.{Run, refused, ended, run, closed, heard, runEntry, runOrder, runTape, runOf}
 use Rattle.run.proofs.Resend.{keeps}
-use Rattle.listing.specs.rules.Text.{text, newline}
+use Rattle.listing.specs.rules.Text.{text}
 use Rattle.listing.specs.rules.Listing.{field, answerText, endText, endLines, linesOf, listingOf, roomOf, listedOf, lengthIn, answerOf}
 use Rattle.listing.specs.declared.Listed.{Listed}
 use Rattle.listing.specs.declared.Listed.the-variants.{Refused as NoAuction}

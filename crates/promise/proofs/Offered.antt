@@ -1,16 +1,15 @@
 -- The contracts on offer, by the records: the sum of the sizes of what they leave standing; and their mirror. Assumes nothing.
 use mathlib.Core.Path.{_≡_, refl, sym, ap, ap₂, _∙_}
 use mathlib.Core.Bool.{Bool, true, false, cond, not, _&&_}
-use mathlib.Core.List.{List, [], _∷_, _++_, map}
+use mathlib.Core.List.{List, [], _∷_, _++_}
 use Prim.Native.Nat.{ℕ, _+_}
 use native.Mathlib.Omega.{arith}
 use lib.Dec.{leb, eqb}
 use borrow.Author.Tests.{eq-eqb, ne-eqb}
 use Rattle.base.specs.Lists.{sum}
-use Rattle.base.proofs.ListLaws.{shuffles-sum}
 use Rattle.board.specs.declared.Response.{Response}
 use Rattle.board.specs.rules.Board.{inSequence, liveOf}
-use Rattle.board.proofs.SequenceLaws.{sequence-shuffles}
+use Rattle.board.proofs.Theorems.{ordering}
 use Rattle.share.specs.rules.Fills.{sizes}
 use Rattle.tape.specs.declared.order.Order.{Order}
 use Rattle.tape.specs.declared.event.Event.{Event}
@@ -26,7 +25,7 @@ use Rattle.events.specs.rules.Step.{sightOf, stepOf}
 use Rattle.run.specs.rules.Run.{Said, said, run, isTaken}
 use Rattle.run.specs.promises.Demands.{Sound, brings, takesAway, flipped, mirroredRecords}
 use Rattle.run.proofs.Mirrors.{mirrors, same-name, steps}
-use Rattle.run.proofs.BoardSteps.{sees}
+use Rattle.run.proofs.BoardSteps.{sees, sum-map}
 use Rattle.run.proofs.Resend.{keeps}
 use Rattle.run.proofs.SoundLaws.{sound-opened, sound-run, closed-ended}
 use Rattle.run.proofs.OnOffer.{on-offer}
@@ -39,12 +38,8 @@ use Rattle.promise.proofs.RealLaws.{sizes-sent}
 use Rattle.promise.proofs.Standing.{by-records, takes-is, ours-after}
 
 -- the sum of the sizes, in whatever order
-sizes-map : (rs : List Response) → sizes rs ≡ map (λ (r : Response). r .size) rs
-sizes-map [] = refl
-sizes-map (r ∷ rs) = ap {B = List ℕ} (λ zs. r .size ∷ zs) (sizes-map rs)
-
 sizes-sequence : (rs : List Response) → sum (sizes (inSequence rs)) ≡ sum (sizes rs)
-sizes-sequence rs = ap sum (sizes-map (inSequence rs)) ∙ shuffles-sum (λ (r : Response). r .size) (sequence-shuffles rs) ∙ ap sum (sym (sizes-map rs))
+sizes-sequence rs = omega (arith, sum-map (inSequence rs), sum-map rs, ordering .sums-stay (λ r. r .size) rs)
 
 -- an auction's responses have the sizes that stand on its board
 sizes-are : (a : Auction) → sum (sizes (liveOf (a .board))) ≡ sum (sizes (responses a))
@@ -94,7 +89,7 @@ module _ (o : Order) where
         by-records = λ es h. stood es (accepted o h);
         limit-counts = λ es e h k t z. after es e ∙ limit-moves true es e (accepted o h) k t z;
         limit-not = λ es e h k t. after es e ∙ limit-not es e (accepted o h) k t;
-        market-not = λ es e k. after es e ∙ on-offer .market-or-quotes (sightOf (auctionAfter o es .board) e) (auctionAfter o es) e k;
+        market-or-quotes = λ es e k. after es e ∙ on-offer .market-or-quotes (sightOf (auctionAfter o es .board) e) (auctionAfter o es) e k;
         leaves = λ es e z. after es e ∙ on-offer .leaves (sightOf (auctionAfter o es .board) e) (auctionAfter o es) e z;
         stands = λ es fs z. ap onOffer (run-append es fs (acceptOf o .auction)) ∙ on-offer .stands (auctionAfter o es) fs z .0;
         closing = λ es fs. on-offer .stands (atEnd o es) fs (closed-ended (auctionAfter o es)) .0 ∙ on-offer .closing (auctionAfter o es);

@@ -9,7 +9,7 @@ use lib.Dec.{ltb, eqb}
 use borrow.Author.Tests.{eq-eqb, ne-eqb, eqb-true, eqb-false, le-ltb, lt-leb}
 use Rattle.words.specs.rules.Bits.{bitAt}
 use Rattle.words.proofs.BitLaws.{without-other}
-use Rattle.base.specs.Lists.{Every, Inserts, sum}
+use Rattle.base.specs.Lists.{Every, Inserts}
 use Rattle.base.specs.Lists.Inserts.{here, there}
 use Rattle.base.proofs.Bools.{by, no}
 use Rattle.base.proofs.ListLaws.{every-inserts}
@@ -19,7 +19,6 @@ use Rattle.board.specs.declared.Board.{Board}
 use Rattle.board.specs.declared.Response.{Response}
 use Rattle.board.proofs.BoardLaws.{amending, seated-good, clearing, cleared-good, find-gtx, gtx-found, no-gtx}
 use Rattle.tape.specs.declared.event.Event.{Event}
-use Rattle.share.specs.rules.Fills.{sizes}
 use Rattle.tape.specs.rules.Fields.{nameOf, newSizeOf}
 use Rattle.mirror.specs.rules.Mirror.{buyEvent}
 use Rattle.mirror.proofs.EventLaws.{buy-sequence, buy-kind, amend-size}

@@ -1,7 +1,7 @@
 -- What seating and clearing keep of the live responses, what becomes of the sum of their sizes, and what an event sees of a board. Assumes nothing.
-use mathlib.Core.Path.{_≡_, refl, sym, subst}
+use mathlib.Core.Path.{_≡_, refl, sym, ap, subst}
 use mathlib.Core.Bool.{Bool, true, false, _||_}
-use mathlib.Core.List.{List, [], _∷_}
+use mathlib.Core.List.{List, [], _∷_, map}
 use mathlib.Core.Logic.{_≢_}
 use Prim.Native.Nat.{ℕ, _+_, _*_, _≤_, _<_}
 use native.Mathlib.Omega.{arith}
@@ -74,10 +74,12 @@ module _ (b : Board) (g : Good b) where
 
 -- ---- the sum of the sizes
 
-sizes-more : {r : Response} {xs ys : List Response} → Inserts r xs ys → sum (sizes ys) ≡ r .size + sum (sizes xs)
-unfolding sum
-sizes-more here = refl
-sizes-more (there i) = omega (arith, sizes-more i)
+pub sizes-map : (rs : List Response) → sizes rs ≡ map (λ (r : Response). r .size) rs
+sizes-map [] = refl
+sizes-map (r ∷ rs) = ap {B = List ℕ} (λ zs. r .size ∷ zs) (sizes-map rs)
+
+pub sum-map : (rs : List Response) → sum (sizes rs) ≡ sum (map (λ (r : Response). r .size) rs)
+sum-map rs = ap sum (sizes-map rs)
 
 sizes-few : (rs : List Response) → Every (λ r. r .size ≤ 100000) rs → sum (sizes rs) ≤ 100000 * length rs
 unfolding sum
@@ -86,13 +88,13 @@ sizes-few (r ∷ rs) h = omega (arith, h .0, sizes-few rs (h .1))
 
 module _ (b : Board) (g : Good b) where
   pub seat-sizes : (i : ℕ) (r : Response) → i < 64 → isLive b i ≡ false → sum (sizes (liveOf (seatedAt b i r))) ≡ r .size + sum (sizes (liveOf b))
-  seat-sizes i r l z = sizes-more (seating b i r g l z .adds)
+  seat-sizes i r l z = omega (arith, sum-map (liveOf (seatedAt b i r)), sum-map (liveOf b), seating b i r g l z .sums (λ r. r .size))
 
   pub clear-sizes : (i : ℕ) → isLive b i ≡ true → sum (sizes (liveOf b)) ≡ responseAt (b .places) i .size + sum (sizes (liveOf (cleared b i)))
-  clear-sizes i z = sizes-more (clearing b i g z .takes)
+  clear-sizes i z = omega (arith, sum-map (liveOf b), sum-map (liveOf (cleared b i)), clearing b i g z .sums (λ r. r .size))
 
   pub amend-sizes : (i : ℕ) (r : Response) → isLive b i ≡ true → responseAt (b .places) i .size + sum (sizes (liveOf (seatedAt b i r))) ≡ r .size + sum (sizes (liveOf b))
-  amend-sizes i r z = let m = amending b i r g z in omega (arith, sizes-more (m .takes), sizes-more (m .adds))
+  amend-sizes i r z = omega (arith, sum-map (liveOf b), sum-map (liveOf (seatedAt b i r)), amending b i r g z .sums (λ r. r .size))
 
   -- 64 places, of 100,000 each at most
   pub live-sizes : Every (λ r. r .size ≤ 100000) (liveOf b) → sum (sizes (liveOf b)) ≤ 6400000

@@ -1,22 +1,17 @@
 -- The contracts on offer: the sum of the sizes over the live places, moved by what an event brings and takes away. Assumes nothing.
 use mathlib.Core.Path.{_≡_, refl, sym, ap, ap₂, _∙_}
-use mathlib.Core.Bool.{Bool, true, false, cond, not, _&&_, _||_}
-use mathlib.Core.List.{List, [], _∷_}
+use mathlib.Core.Bool.{Bool, true, false, cond, not, _&&_}
 use mathlib.Core.Logic.{_⊎_, inl, inr}
 use Prim.Native.Nat.{ℕ, _+_, _-_, _≤_, _<_, min}
 use native.Mathlib.Omega.{arith}
 use lib.Dec.{leb, eqb}
-use borrow.Author.Tests.{eq-eqb, ne-eqb, le-leb, eqb-true}
-use Rattle.base.specs.Lists.{sum}
+use borrow.Author.Tests.{eq-eqb, ne-eqb, le-leb}
 use Rattle.base.proofs.Bools.{by, no}
-use Rattle.board.specs.rules.Board.{liveOf}
-use Rattle.share.specs.rules.Fills.{sizes}
 use Rattle.tape.specs.declared.event.Event.{Event}
 use Rattle.tape.specs.rules.Fields.{sizeOf, priceOf, newSizeOf}
 use Rattle.mirror.specs.rules.Mirror.{buyEvent}
 use Rattle.mirror.proofs.EventLaws.{buy-kind, mirror-one, mirror-three, priced-size, amend-size}
 use Rattle.auction.specs.declared.Auction.{Auction}
-use Rattle.auction.specs.declared.Ending.{Ending}
 use Rattle.auction.specs.rules.Accept.{acceptOf}
 use Rattle.auction.specs.rules.Range.{isOpen, word}
 use Rattle.auction.specs.rules.Offer.{onOffer, movedOffer}
@@ -24,13 +19,13 @@ use Rattle.decision.specs.declared.Sight.{Sight}
 use Rattle.decision.specs.declared.Change.{Change}
 use Rattle.decision.specs.declared.Change.the-variants.{Nothing, Seat, Free, Quote, Sell}
 use Rattle.events.specs.declared.Answer.the-variants.{Taken, Ended}
-use Rattle.events.specs.declared.Stepped.{Stepped}
 use Rattle.events.specs.declared.Turn.{Turn}
-use Rattle.events.specs.rules.Step.{carried, offeredAfter, headAfter, endedByTime, closeTurn, stepBy, stepOf, closeOf}
+use Rattle.events.specs.rules.Step.{carried, offeredAfter, headAfter, endedByTime, closeTurn, stepBy, closeOf}
 use Rattle.run.specs.rules.Run.{run, isTaken}
 use Rattle.run.specs.promises.Demands.{InTime, Fits, Sound, brings, takesAway, OnOffer}
 use Rattle.run.proofs.StepLaws.{Leaves, Outcomes, cases}
-use Rattle.run.proofs.Resend.{any-change, keeps}
+use Rattle.run.proofs.Resend.{any-change}
+use Rattle.run.proofs.MarketFrom.{ended-run}
 use Rattle.run.proofs.SoundLaws.{sound-opened, sound-run, sound-close, sum-fits, old-size, size-of, new-size-of}
 
 -- ---- what leaves it
@@ -110,7 +105,7 @@ module _ (s : Sight) (a : Auction) (e : Event) where
       placed false z = refl
 
   -- of what a turn that is taken makes n: what any auction has, and what a sound one has
-  pub record Moved (n : ℕ) : Type 0 where
+  record Moved (n : ℕ) : Type 0 where
     any : onOffer a ≤ 4294967295 → n ≡ word (onOffer a - takesAway s e + brings (a .head .terms) e)
     away-fits : Fits (a .board) s → Sound a → takesAway s e ≤ onOffer a
     brings-size : brings (a .head .terms) e ≤ 100000
@@ -181,12 +176,6 @@ word-stays s a e h =
       does = λ _. any-change (a .head .terms) (a .head .quotes) s (buyEvent (a .head .terms .sell) e) (λ o. carried (a .head) e o .head .offered ≤ 4294967295) (λ _ _. h) (λ c _. change-word (onOffer a) c h);
     })
 
--- ---- once ended
-
-stays : (es : List Event) (a : Auction) → isOpen (a .head .ending) ≡ false → run a es ≡ a
-stays [] a z = refl
-stays (e ∷ es) a z = ap (λ (p : Stepped). run (p .auction) es) (keeps .ended _ a e z) ∙ stays es a z
-
 pub on-offer : OnOffer
 on-offer =
     record {
@@ -200,5 +189,5 @@ on-offer =
       leaves = leaves;
       closing = closing;
       market-or-quotes = market-or-quotes;
-      stands = λ a es z. (ap onOffer (stays es a z), closing (run a es) ∙ ap onOffer (stays es a z));
+      stands = λ a es z. (ap onOffer (ended-run es a z), closing (run a es) ∙ ap onOffer (ended-run es a z));
     }

@@ -3,11 +3,11 @@ use mathlib.Core.Path.{refl, sym, _∙_, ap}
 use Rattle.base.specs.Settled.{Settled}
 use Rattle.tape.proofs as contracts
 
-pub read-event : Settled contracts.event.read_event.ended contracts.event.read_event.Reads.Asked contracts.event.read_event.Reads.Learnt
-read-event κs a = (tt, λ y z v w p q. (p ∙ sym q, refl))
-
 pub record-at : Settled contracts.event.record_at.ended contracts.event.record_at.Reads.Asked contracts.event.record_at.Reads.Learnt
 record-at κs a = (tt, λ y z v w p q. (p ∙ sym q, refl))
+
+pub read-event : Settled contracts.event.read_event.ended contracts.event.read_event.Reads.Asked contracts.event.read_event.Reads.Learnt
+read-event κs a = (tt, λ y z v w p q. (p ∙ sym q, refl))
 
 pub write-event : Settled contracts.event.write_event.ended contracts.event.write_event.Reads.Asked contracts.event.write_event.Reads.Learnt
 write-event κs a = (tt, λ y z v w p q. (p .0 ∙ sym (q .0), ap (λ x. (tt, (x, tt))) (p .1 ∙ sym (q .1))))

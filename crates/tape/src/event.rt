@@ -3,6 +3,7 @@ ghost use mathlib.Core.Path.{_≡_};
 ghost use Prim.Native.Nat.{_≤_};
 ghost use lib.ListN.{length};
 ghost use Rattle.tape.specs.rules.Records.{eventOf, eventSpare, ofNoKind, recordAt, readEvent, eventAnswer, eventWrote};
+use crate::EVENT_BYTES;
 use crate::Written;
 use crate::form::event_form;
 use words::bytes::join;
@@ -75,7 +76,7 @@ pub(crate) fn of_no_kind(sequence: u32) -> Event
 pub fn record_at(s: &[u8]) -> Event
     ensures { λ r. ⌜ r ≡ recordAt (now (s .entry)) ⌝ }
 {
-    if s.len() < 32 {
+    if s.len() < EVENT_BYTES {
         return of_no_kind(read_word(s, 0));
     }
     if event_spare(s) {
@@ -88,7 +89,7 @@ pub fn record_at(s: &[u8]) -> Event
 pub fn read_event(s: &[u8]) -> ReadEvent
     ensures { λ r. ⌜ r ≡ readEvent (now (s .entry)) ⌝ }
 {
-    if s.len() < 32 {
+    if s.len() < EVENT_BYTES {
         return ReadEvent::Refused(24);
     }
     let e = event_of(s);
@@ -107,7 +108,7 @@ pub fn write_event(e: Event, out: &mut [u8]) -> Written
     if !event_form(e) {
         return Written::Refused(32);
     }
-    if out.len() < 32 {
+    if out.len() < EVENT_BYTES {
         return Written::Refused(24);
     }
     let words = [

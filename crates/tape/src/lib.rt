@@ -26,9 +26,9 @@ pub use trailer::read_trailer;
 pub use trailer::write_trailer;
 
 // How many bytes an order's record has, and an event's.
-pub const ORDER: usize = 64;
+pub const ORDER_BYTES: usize = 64;
 
-pub const EVENT: usize = 32;
+pub const EVENT_BYTES: usize = 32;
 
 // A writer's answer: done, or the number of the refusal.
 pub enum Written {

@@ -3,6 +3,7 @@ ghost use mathlib.Core.Path.{_≡_};
 ghost use Prim.Native.Nat.{_≤_};
 ghost use lib.ListN.{length};
 ghost use Rattle.tape.specs.rules.Records.{orderOf, orderSpare, readOrder, orderAnswer, orderWrote};
+use crate::ORDER_BYTES;
 use crate::Written;
 use crate::form::order_form;
 use words::bytes::join;
@@ -72,7 +73,7 @@ fn order_of(s: &[u8]) -> Order
 pub fn read_order(s: &[u8]) -> ReadOrder
     ensures { λ r. ⌜ r ≡ readOrder (now (s .entry)) ⌝ }
 {
-    if s.len() < 64 {
+    if s.len() < ORDER_BYTES {
         return ReadOrder::Refused(24);
     }
     let o = order_of(s);
@@ -91,7 +92,7 @@ pub fn write_order(o: Order, out: &mut [u8]) -> Written
     if !order_form(o) {
         return Written::Refused(1);
     }
-    if out.len() < 64 {
+    if out.len() < ORDER_BYTES {
         return Written::Refused(24);
     }
     let words = [

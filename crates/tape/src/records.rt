@@ -1,6 +1,8 @@
 // A tape's records one by one, where its trailer says that they stand. No other crate knows those places.
 ghost use mathlib.Core.Path.{_≡_};
 ghost use Rattle.tape.specs.rules.Tape.{orderIn, recordIn};
+use crate::EVENT_BYTES;
+use crate::ORDER_BYTES;
 use crate::event::Event;
 use crate::event::of_no_kind;
 use crate::event::record_at;
@@ -24,13 +26,13 @@ pub fn record_in(s: &[u8], t: Trailer, k: usize) -> Event
     ensures { λ r. ⌜ r ≡ recordIn (now (s .entry)) t k ⌝ }
 {
     let n = s.len();
-    let first = (t.order as usize) + 64;
+    let first = (t.order as usize) + ORDER_BYTES;
     if n < first {
         return of_no_kind(0);
     }
-    if (n - first) / 32 < k {
+    if (n - first) / EVENT_BYTES < k {
         return of_no_kind(0);
     }
-    let place = first + k * 32;
+    let place = first + k * EVENT_BYTES;
     record_at(&s[place..])
 }

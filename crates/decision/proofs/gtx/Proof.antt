@@ -18,12 +18,12 @@ lower-requires c κs = search needs
 response-requires : tie.Need-response-requires
 response-requires c κs = search needs
 
-seat-requires : tie.Need-seat-requires
-seat-requires c κs = search needs
+place-requires : tie.Need-place-requires
+place-requires c κs = search needs
 
 returns-3 : tie.Need-returns-3
 unfolding gtxOutcome
-returns-3 c = simp ((ne-eqb _ _ (c .before .before .before .before .before .before .if1 .left)), (le-ltb _ _ (c .before .before .before .if2 .left)), c .seat .ensures, c .before .response .ensures, c .before .before .lower .ensures)
+returns-3 c = simp ((ne-eqb _ _ (c .before .before .before .before .before .before .if1 .left)), (le-ltb _ _ (c .before .before .before .if2 .left)), c .place .ensures, c .before .response .ensures, c .before .before .lower .ensures)
 
 pub gtx-spec : {M : Type 1} → statement M
-gtx-spec = tie.close (tie.spec returns returns-2 lower-requires response-requires seat-requires returns-3)
+gtx-spec = tie.close (tie.spec returns returns-2 lower-requires response-requires place-requires returns-3)

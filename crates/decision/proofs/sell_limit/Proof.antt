@@ -13,8 +13,8 @@ opposite-if-requires c κs = search needs
 response-requires : tie.Need-response-requires
 response-requires c κs = search needs
 
-seat-requires : tie.Need-seat-requires
-seat-requires c κs = search needs
+place-requires : tie.Need-place-requires
+place-requires c κs = search needs
 
 returns : tie.Need-returns
 unfolding sellLimitOutcome
@@ -27,4 +27,4 @@ returns-2 c = simp ((lt-leb _ _ (c .if1 .left))) (cc)
 pub sell-limit-spec : {M : Type 1} → statement M
 sell-limit-spec =
     tie.close
-    (tie.spec market-price-requires opposite-if-requires response-requires seat-requires returns returns-2)
+    (tie.spec market-price-requires opposite-if-requires response-requires place-requires returns returns-2)

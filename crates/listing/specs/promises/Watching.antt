@@ -10,6 +10,7 @@ use Rattle.auction.specs.declared.Head.{Head}
 use Rattle.auction.specs.rules.Accept.{acceptOf}
 use Rattle.events.specs.rules.Step.{stepOf}
 use Rattle.run.specs.rules.Run.{run}
+use Rattle.run.specs.promises.Figures.{event, gtx}
 use Rattle.listing.specs.rules.Text.{text}
 use Rattle.listing.specs.rules.Listing.{refusedLine, auctionLine, endLines}
 use Rattle.listing.specs.rules.Watch.{watchLine, watchLines, linesRoom, shownBytes, watchedOf}
@@ -23,11 +24,11 @@ abbrev pub watchC : List ℕ
 watchC = text "EVENT 1 taken on offer 3\n" ++ text "EVENT 1 refused 33 on offer 3\n"
 
 -- its order, with a response that is capped, amended and cancelled, and a limit order that ends the auction and counts whole
-abbrev pub event : ℕ → ℕ → ℕ → ℕ → ℕ → ℕ → Event
-event sequence kind side f12 f16 f20 = record { sequence = sequence; time = 20; kind = kind; marks = 0; side = side; f12 = f12; f16 = f16; f20 = f20; f24 = 0 }
+abbrev pub amend : ℕ → ℕ → ℕ → ℕ → Event
+amend sequence named size price = record { sequence = sequence; time = 20; kind = 6; marks = 0; side = 0; f12 = named; f16 = size; f20 = price; f24 = 0 }
 
 abbrev pub moved : List Event
-moved = event 1 1 2 30 105 0 ∷ event 2 6 0 1 4 104 ∷ event 3 2 0 2 0 0 ∷ event 4 3 2 25 100 0 ∷ noEvent 5 ∷ []
+moved = gtx 1 30 105 ∷ amend 2 1 4 104 ∷ event 2 3 0 2 0 ∷ event 3 4 2 25 100 ∷ noEvent 5 ∷ []
 
 abbrev pub watchMoved : List ℕ
 watchMoved =

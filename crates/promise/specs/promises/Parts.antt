@@ -214,7 +214,7 @@ module _ (o : Order) where
     -- a limit order that takes a place counts, whether or not it ends the auction; one that takes none, quotes and a market order do not
     pub limit-counts : (es : List Event) (e : Event) → Accepts o → e .kind ≡ 3 → takesPlace o e ≡ true → isTaken (stepOf (auctionAfter o es) e .answer) ≡ true → onOffer (auctionAfter o (es ++ (e ∷ []))) ≡ onOffer (auctionAfter o es) + sizeOf e
     pub limit-not : (es : List Event) (e : Event) → Accepts o → e .kind ≡ 3 → takesPlace o e ≡ false → onOffer (auctionAfter o (es ++ (e ∷ []))) ≡ onOffer (auctionAfter o es)
-    pub market-not : (es : List Event) (e : Event) → (e .kind ≡ 4) ⊎ (e .kind ≡ 5) → onOffer (auctionAfter o (es ++ (e ∷ []))) ≡ onOffer (auctionAfter o es)
+    pub market-or-quotes : (es : List Event) (e : Event) → (e .kind ≡ 4) ⊎ (e .kind ≡ 5) → onOffer (auctionAfter o (es ++ (e ∷ []))) ≡ onOffer (auctionAfter o es)
     -- a record that is refused, or late, leaves it
     pub leaves : (es : List Event) (e : Event) → isTaken (stepOf (auctionAfter o es) e .answer) ≡ false → onOffer (auctionAfter o (es ++ (e ∷ []))) ≡ onOffer (auctionAfter o es)
     -- once the auction has ended it stands at its last value, whatever records come; closing by hand leaves it too, and what comes after that
