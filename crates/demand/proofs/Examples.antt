@@ -46,11 +46,11 @@ figures =
       board = board (gtx 1 30 105 ∷ gtx 2 60 108 ∷ gtx 3 40 108 ∷ []);
       want = 1 ∷ 105 ∷ 30 ∷ 0 ∷ 108 ∷ 40 ∷ 2 ∷ 108 ∷ 18 ∷ 3 ∷ 108 ∷ 12 ∷ [];
     }
-    -- b
+    -- b, as W-203 has it
     ∷ record {
       deal = deal false 100 1 110 100 108;
       board = board (gtx 1 31 108 ∷ gtx 2 30 108 ∷ gtx 3 30 108 ∷ []);
-      want = 0 ∷ 108 ∷ 40 ∷ 1 ∷ 108 ∷ 21 ∷ 2 ∷ 108 ∷ 20 ∷ 3 ∷ 108 ∷ 19 ∷ [];
+      want = 0 ∷ 108 ∷ 40 ∷ 1 ∷ 108 ∷ 20 ∷ 2 ∷ 108 ∷ 20 ∷ 3 ∷ 108 ∷ 20 ∷ [];
     }
     -- c
     ∷ record { deal = deal false 10 2 109 101 0; board = board (gtx 1 3 105 ∷ []); want = 0 ∷ 105 ∷ 3 ∷ 1 ∷ 105 ∷ 3 ∷ 0 ∷ 109 ∷ 4 ∷ [] }

@@ -1,17 +1,19 @@
 -- The laws of pro rata, over any list of sizes, and any rule for the leftovers that gives one each to distinct members.
-use mathlib.Core.Path.{_≡_, refl, sym, ap}
+use mathlib.Core.Path.{_≡_, refl, sym, ap, _∙_}
 use mathlib.Core.Bool.{Bool, true, false, cond}
 use mathlib.Core.List.{List, [], _∷_}
 use mathlib.Core.Logic.{_⊎_, inl, inr}
-use Prim.Native.Nat.{ℕ, zero, suc, _+_, _-_, _*_, _/_, _≤_, _<_, min}
-use native.Mathlib.Nat.{div-mul-le-self, lt-div-mul-add, div-lt-iff-lt-mul, mul-add, add-mul, mul-comm, mul-zero, zero-div, mul-lt-mul-of-pos-right, le-of-mul-le-mul-right}
+use Prim.Native.Nat.{ℕ, zero, suc, _+_, _-_, _*_, _/_, _%_, _≤_, _<_, min}
+use native.Mathlib.Nat.{div-mul-le-self, mod-add-div', mod-lt, zero-mod, div-lt-iff-lt-mul, mul-add, add-mul, mul-comm, mul-zero, suc-mul, zero-div, mul-lt-mul-of-pos-right, le-of-mul-le-mul-right}
 use native.Mathlib.Omega.{arith}
-use borrow.Author.Tests.{leb-true, leb-false, lt-leb, le-leb}
-use lib.Dec.{leb}
+use borrow.Author.Tests.{leb-true, leb-false, lt-leb, le-leb, lt-ltb, le-ltb}
+use lib.Dec.{leb, ltb}
 use lib.ListN.{length}
-use Rattle.base.specs.Lists.{sum}
-use Rattle.share.specs.rules.Share.{floors, plus, leftover, firsts, sharesBy, shares, inTurn}
-use Rattle.share.specs.promises.Share.{Each, Mark, Marks, Near, Fair, ProRata}
+use Rattle.base.specs.Lists.{filter, sum}
+use Rattle.share.specs.rules.Share.{floors, fractions, plus, leftover, howMany, leftovers, sharesBy, shares, inTurn}
+use Rattle.share.specs.inside.Cut.{Cuts}
+use Rattle.share.specs.promises.Share.{Each, Mark, Marks, Near, Fair, ByFraction, ProRata}
+use Rattle.share.proofs.CutLaws.{many-pass, many-fail, Ones, ones}
 
 -- ---- the whole parts
 
@@ -25,28 +27,46 @@ floors-below R T (s ∷ ss) =
 pub floors-at-most : (R : ℕ) (ss : List ℕ) → 0 < sum ss → sum (floors R (sum ss) ss) ≤ R
 floors-at-most R ss h = le-of-mul-le-mul-right (floors-below R (sum ss) ss) h
 
--- how many members have a size
-abbrev present : List ℕ → ℕ
-present [] = 0
-present (s ∷ ss) = min s 1 + present ss
+-- ---- the fractions
 
--- one member: what its whole part leaves is less than T, and nothing where it has no size
-one-left : (R T s : ℕ) → 0 < T → R * s ≤ R * s / T * T + min s 1 * T
-one-left R T zero h = simp mul-zero (omega arith)
-one-left R T (suc s) h =
-    let e : min (suc s) 1 ≡ 1 = omega arith in
-    rw e (omega (arith, lt-div-mul-add {a = R * suc s} h))
-
-floors-above : (R T : ℕ) (ss : List ℕ) → 0 < T → R * sum ss ≤ (sum (floors R T ss) + present ss) * T
+-- with the whole parts they are all of R
+parts-all : (R T : ℕ) (ss : List ℕ) → sum (fractions R T ss) + sum (floors R T ss) * T ≡ R * sum ss
 unfolding sum
-floors-above R T [] h = simp mul-zero (omega arith)
-floors-above R T (s ∷ ss) h =
-    simp (mul-add, add-mul) (omega (arith, one-left R T s h, simp add-mul at (floors-above R T ss h)))
+parts-all R T [] = simp mul-zero (omega arith)
+parts-all R T (s ∷ ss) =
+    simp (mul-add, add-mul) (omega (arith, mod-add-div' (R * s) T, parts-all R T ss))
 
-left-at-most : (R : ℕ) (ss : List ℕ) → 0 < sum ss → leftover R ss ≤ present ss
-left-at-most R ss h =
-    let e : R ≤ sum (floors R (sum ss) ss) + present ss = le-of-mul-le-mul-right (floors-above R (sum ss) ss h) h in
-    omega arith
+-- they come to as many wholes as there are leftovers
+pub wholes : (R : ℕ) (ss : List ℕ) → 0 < sum ss → sum (fractions R (sum ss) ss) ≡ leftover R ss * sum ss
+wholes R ss h =
+    let F = sum (floors R (sum ss) ss) in
+    let e : R ≡ F + leftover R ss = omega (arith, floors-at-most R ss h) in
+    let f : R * sum ss ≡ F * sum ss + leftover R ss * sum ss = ap (λ (n : ℕ). n * sum ss) e ∙ add-mul F (leftover R ss) (sum ss) in
+    omega (arith, parts-all R (sum ss) ss)
+
+-- each is less than a whole, so that there are as many that are not 0 as leftovers
+below-whole : (R T : ℕ) (ss : List ℕ) → 0 < T → sum (fractions R T ss) ≤ howMany (ltb 0) (fractions R T ss) * T
+unfolding sum filter
+below-whole R T [] h = omega arith
+below-whole R T (s ∷ ss) h = go (R * s % T) (mod-lt (R * s) h) (below-whole R T ss h)
+  where
+    go : (x : ℕ) → x < T → sum (fractions R T ss) ≤ howMany (ltb 0) (fractions R T ss) * T → x + sum (fractions R T ss) ≤ howMany (ltb 0) (x ∷ fractions R T ss) * T
+    go zero l i = omega (arith, ap (λ (n : ℕ). n * T) (many-fail (ltb 0) 0 (fractions R T ss) refl))
+    go (suc x) l i =
+        let e = ap (λ (n : ℕ). n * T) (many-pass (ltb 0) (suc x) (fractions R T ss) (lt-ltb 0 (suc x) (omega arith))) in
+        omega (arith, e, suc-mul (howMany (ltb 0) (fractions R T ss)) T)
+
+-- nor is one above a whole: where there is no leftover, the cut is there
+pub cut-whole : (R T : ℕ) (ss : List ℕ) → 0 < T → Cuts 0 (fractions R T ss) T 0
+unfolding filter
+cut-whole R T ss h = record { counted = omega (arith, none-above ss); enough = omega arith }
+  where
+    none-above : (xs : List ℕ) → howMany (ltb T) (fractions R T xs) ≡ 0
+    none-above [] = refl
+    none-above (x ∷ xs) = many-fail (ltb T) (R * x % T) (fractions R T xs) (le-ltb T (R * x % T) (omega (arith, mod-lt (R * x) h))) ∙ none-above xs
+
+pub left-at-most : (R : ℕ) (ss : List ℕ) → 0 < sum ss → leftover R ss ≤ howMany (ltb 0) (fractions R (sum ss) ss)
+left-at-most R ss h = le-of-mul-le-mul-right (omega (arith, wholes R ss h, below-whole R (sum ss) ss h)) h
 
 -- one member's whole part leaves room for one more, where it has a size and R is short of T
 pub room : (R T s : ℕ) → R < T → 0 < s → R * s / T < s
@@ -120,33 +140,38 @@ module _ (R : ℕ) (ss ms : List ℕ) (right : R < sum ss → Marks R ss ms) whe
   by-fair : Fair R ss (sharesBy ms R ss)
   by-fair = record { adds-up = by-sum; fits = by-fits; all = λ h. rw (le-leb (sum ss) R h); near = by-near }
 
--- ---- the rule: first come first
+-- ---- the rule: the largest fractions
 
-firsts-each : (k : ℕ) (ss : List ℕ) → Each Mark ss (firsts k ss)
-firsts-each k [] = tt
-firsts-each k (s ∷ ss) = ((omega arith, omega arith), firsts-each (k - min k (min s 1)) ss)
+-- one with a fraction has a size
+one-sized : (R T s m : ℕ) → Mark (R * s % T) m → Mark s m
+one-sized R T zero m k = (k .0, omega (arith, simp (mul-zero, zero-mod) at (k .1)))
+one-sized R T (suc s) m k = (k .0, omega arith)
 
-firsts-sum : (k : ℕ) (ss : List ℕ) → k ≤ present ss → sum (firsts k ss) ≡ k
-unfolding sum
-firsts-sum k [] h = omega arith
-firsts-sum k (s ∷ ss) h =
-    omega (arith, firsts-sum (k - min k (min s 1)) ss (omega arith))
+all-sized : (R T : ℕ) (ss ms : List ℕ) → Each Mark (fractions R T ss) ms → Each Mark ss ms
+all-sized R T [] [] e = tt
+all-sized R T [] (m ∷ ms) e = absurd e
+all-sized R T (s ∷ ss) [] e = absurd e
+all-sized R T (s ∷ ss) (m ∷ ms) e = (one-sized R T s m (e .0), all-sized R T ss ms (e .1))
 
-firsts-right : (R : ℕ) (ss : List ℕ) → R < sum ss → Marks R ss (firsts (leftover R ss) ss)
-firsts-right R ss h =
+by-fraction : (R : ℕ) (ss : List ℕ) → R < sum ss → ByFraction R ss
+by-fraction R ss h =
+    let p : 0 < sum ss = omega arith in
+    let o = ones (leftover R ss) (fractions R (sum ss) ss) (left-at-most R ss p) in
     record {
-      each = firsts-each (leftover R ss) ss;
-      total = firsts-sum (leftover R ss) ss (left-at-most R ss (omega arith));
+      marks = record { each = all-sized R (sum ss) ss (leftovers R ss) (o .each); total = o .total };
+      in-rank = o .in-rank;
+      parted = o .each;
+      wholes = wholes R ss p;
     }
 
 -- ---- the laws of `shares`
 
 fair-shares : (R : ℕ) (ss : List ℕ) → Fair R ss (shares R ss)
 unfolding shares
-fair-shares R ss = by-fair R ss (firsts (leftover R ss) ss) (firsts-right R ss)
+fair-shares R ss = by-fair R ss (leftovers R ss) (λ h. by-fraction R ss h .marks)
 
 pub pro-rata : ProRata
-pro-rata = record { by-rule = by-fair; in-order = firsts-right; fair = fair-shares }
+pro-rata = record { by-rule = by-fair; by-fraction = by-fraction; fair = fair-shares }
 
 pub shares-sum : (R : ℕ) (ss : List ℕ) → sum (shares R ss) ≡ min R (sum ss)
 shares-sum R ss = fair-shares R ss .adds-up

@@ -1,2 +1,3 @@
 -- What private functions of the crates above give.
 pub mod Fills
+pub mod Cut

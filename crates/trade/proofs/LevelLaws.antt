@@ -135,8 +135,8 @@ module _ (d : Deal) (ps : List Response) (G : ℕ) (s : Walked) (e : length ps �
         price-is = p;
         customers-are = rw (← p) sc;
         others-are = rw (← p) so;
-        customers-known = record { one-is = lc ∙ k .customer ∙ ap (lastSequence 0) (customers-word (l .price) ∙ sym cs); total-is = c };
-        others-known = record { one-is = lo ∙ k .other ∙ ap (lastSequence 0) (others-word (l .price) ∙ sym ot); total-is = t };
+        customers-known = record { one-is = lc ∙ k .customer ∙ ap (lastSequence 0) (customers-word (l .price) ∙ sym cs); total-is = c; small = omega arith };
+        others-known = record { one-is = lo ∙ k .other ∙ ap (lastSequence 0) (others-word (l .price) ∙ sym ot); total-is = t; small = omega arith };
         want-is = rw (← p) W;
         last-is = rw (← p) F;
         gone = gone;
@@ -191,9 +191,9 @@ module _ (d : Deal) (ps : List Response) (G : ℕ) (s : Walked) (l : Price) (k :
       }
 
 pub place-length : (p left : ℕ) (cs : List Response) (c R : ℕ) (os : List Response)
-    → length (placeFills p left cs c R os) ≡ length (eachFills p true 0 0 left cs) + (length (fillOf 0 p c) + length (shareFills p R os))
+    → length (placeFills p left cs c R os) ≡ length (eachFills p true 0 0 0 left cs) + (length (fillOf 0 p c) + length (shareFills p R os))
 unfolding placeFills
-place-length p left cs c R os = length-append (eachFills p true 0 0 left cs) (fillOf 0 p c ++ shareFills p R os) ∙ ap (λ (n : ℕ). length (eachFills p true 0 0 left cs) + n) (length-append (fillOf 0 p c) (shareFills p R os))
+place-length p left cs c R os = length-append (eachFills p true 0 0 0 left cs) (fillOf 0 p c ++ shareFills p R os) ∙ ap (λ (n : ℕ). length (eachFills p true 0 0 0 left cs) + n) (length-append (fillOf 0 p c) (shareFills p R os))
 
 -- ---- the loop of the walk
 

@@ -3,6 +3,7 @@ pub mod PlanLaws
 pub mod CodeLaws
 pub mod FoundLaws
 pub mod WriteLaws
+pub mod NarrowLaws
 pub mod StepLaws
 pub mod LevelLaws
 pub mod WholeLaws

@@ -2,11 +2,11 @@
 use mathlib.Core.Path.{_≡_, refl, sym, ap, ap₂, _∙_}
 use mathlib.Core.Bool.{Bool, true, false, cond, _&&_, true≢false, false≢true}
 use mathlib.Core.List.{List, [], _∷_, _++_, append-nil}
-use Prim.Native.Nat.{ℕ, zero, suc, _+_, _-_, _*_, _/_, _^_, _≤_, _<_, min}
+use Prim.Native.Nat.{ℕ, zero, suc, _+_, _-_, _*_, _/_, _%_, _^_, _≤_, _<_, min, max}
 use native.Mathlib.Nat.{mul-zero, zero-div}
 use native.Mathlib.Omega.{arith}
 use borrow.Author.Tests.{leb-true, le-leb, lt-leb, lt-ltb}
-use lib.Dec.{leb, ltb}
+use lib.Dec.{leb, ltb, eqb}
 use lib.ListN.{length, getD}
 use lib.Pow.{pow-pos}
 use Rattle.words.specs.rules.Bits.{bitAt, withoutBit, trailingZeros, withoutLowest}
@@ -22,9 +22,11 @@ use Rattle.base.proofs.ListLaws.{every-inserts}
 use Rattle.board.proofs.LiveLaws.{none-live, less-live}
 use Rattle.board.proofs.SequenceLaws.{From, rising-from, sequence-shuffles}
 use Rattle.board.proofs.FirstLaws.{some-first, first-earliest, earliest-sequence, Best, best-start, best-step, best-end}
-use Rattle.share.specs.rules.Share.{floors, leftover, shares, inTurn}
+use Rattle.share.specs.rules.Share.{floors, fractions, leftover, howMany, oneEach, shares, inTurn}
 use Rattle.share.specs.rules.Fills.{fillOf, sizes}
+use Rattle.share.specs.inside.Cut.{oneBy, spareBy, byCut, Cuts}
 use Rattle.share.proofs.ShareLaws.{room, floors-at-most, shares-sum, shares-length}
+use Rattle.share.proofs.CutLaws.{many-cons, one-each-cut, one-by-le}
 use Rattle.trade.specs.inside.Code.{eachFills, dealt, shareFills, isRising, lastSequence, Summed, Gives}
 use Rattle.trade.specs.declared.Given.{Given}
 use Rattle.trade.proofs.CodeLaws.{Turn, turn-of}
@@ -53,26 +55,26 @@ none-left ps = rw (none-live ps)
 
 -- ---- what is left to write
 
-pub each-pick : (p : ℕ) (turns : Bool) (R T k : ℕ) (ps : List Response) (rest i : ℕ) (g : Given) → Pick ps rest i → Gives turns R T k (getD ps i noResponse .size) g
-    → eachFills p turns R T k (inSequence (liveIn rest ps)) ≡ fillOf (getD ps i noResponse .sequence) p (g .quantity) ++ eachFills p turns R T (g .left) (inSequence (liveIn (withoutBit rest i) ps))
+pub each-pick : (p : ℕ) (turns : Bool) (R T c k : ℕ) (ps : List Response) (rest i : ℕ) (g : Given) → Pick ps rest i → Gives turns R T c k (getD ps i noResponse .size) g
+    → eachFills p turns R T c k (inSequence (liveIn rest ps)) ≡ fillOf (getD ps i noResponse .sequence) p (g .quantity) ++ eachFills p turns R T c (g .left) (inSequence (liveIn (withoutBit rest i) ps))
 unfolding eachFills dealt
-each-pick p true R T k ps rest i g t e =
+each-pick p true R T c k ps rest i g t e =
     let s = getD ps i noResponse .size in
     let f : k - s ≡ g .left = omega (arith, e .left) in
     rw (t .cons, e .quantity, f)
-each-pick p false R T k ps rest i g t e = rw (t .cons, e .quantity, e .left)
+each-pick p false R T c k ps rest i g t e = rw (t .cons, e .quantity, e .left)
 
-pub each-none : (p : ℕ) (turns : Bool) (R T k : ℕ) (ps : List Response) → eachFills p turns R T k (inSequence (liveIn 0 ps)) ≡ []
+pub each-none : (p : ℕ) (turns : Bool) (R T c k : ℕ) (ps : List Response) → eachFills p turns R T c k (inSequence (liveIn 0 ps)) ≡ []
 unfolding eachFills
-each-none p turns R T k ps = rw (none-left ps)
+each-none p turns R T c k ps = rw (none-left ps)
 
 pub fill-some : (k p q : ℕ) → 0 < q → length (fillOf k p q) ≡ 1
 fill-some k p q h = rw (lt-ltb 0 q h)
 
--- one member's part, and one more where it has a size, is at most its size
-pub part-fits : (R T s k : ℕ) → R < T → R * s / T + min k (min s 1) ≤ s
-part-fits R T zero k h = simp (mul-zero, zero-div) (omega arith)
-part-fits R T (suc s) k h = omega (arith, room R T (suc s) h (omega arith))
+-- one member's part, and one more, is at most its size, and at most one where it has none
+pub part-fits : (R T s c k x : ℕ) → R < T → R * s / T + oneBy c k x ≤ max s 1
+part-fits R T zero c k x h = simp (mul-zero, zero-div) (omega (arith, one-by-le c k x))
+part-fits R T (suc s) c k x h = omega (arith, room R T (suc s) h (omega arith), one-by-le c k x)
 
 -- ---- sums do not go by order
 
@@ -98,6 +100,10 @@ pub parts-sequence : (R T : ℕ) (xs : List Response) → sum (floors R T (sizes
 unfolding sum
 parts-sequence R T = fold-sequence (λ rs. sum (floors R T (sizes rs))) (λ r n. R * r .size / T + n) (λ r rs. refl) (λ x y n. omega arith)
 
+many-sequence : (R T : ℕ) (t : ℕ → Bool) (xs : List Response) → howMany t (fractions R T (sizes (inSequence xs))) ≡ howMany t (fractions R T (sizes xs))
+many-sequence R T t =
+    fold-sequence (λ rs. howMany t (fractions R T (sizes rs))) (λ r n. cond (t (R * r .size % T)) 1 0 + n) (λ r rs. many-cons t (R * r .size % T) (fractions R T (sizes rs))) (λ x y n. omega arith)
+
 -- ---- pro rata: R over responses whose sizes come to T
 
 turns-all : (n : ℕ) (ss : List ℕ) → sum ss ≤ n → inTurn n ss ≡ ss
@@ -107,18 +113,24 @@ turns-all n (s ∷ ss) h =
     let e : min n s ≡ s = omega arith in
     rw (e, turns-all (n - s) ss (omega arith))
 
-pub shares-all : (p R T : ℕ) (xs : List Response) → T ≡ sum (sizes xs) → T ≤ R → shareFills p R (inSequence xs) ≡ eachFills p true R T R (inSequence xs)
+pub shares-all : (p R T : ℕ) (xs : List Response) → T ≡ sum (sizes xs) → T ≤ R → shareFills p R (inSequence xs) ≡ eachFills p true R T 0 R (inSequence xs)
 unfolding shareFills eachFills dealt shares
 shares-all p R T xs e h =
     let l : sum (sizes (inSequence xs)) ≤ R = omega (arith, sizes-sequence xs) in
     rw (le-leb (sum (sizes (inSequence xs))) R l, turns-all R (sizes (inSequence xs)) l)
 
-pub shares-parts : (p R T k : ℕ) (xs : List Response) → T ≡ sum (sizes xs) → R < T → k ≡ R - sum (floors R T (sizes xs)) → shareFills p R (inSequence xs) ≡ eachFills p false R T k (inSequence xs)
+-- the cut of the fractions is that of the fractions by sequence
+cuts-sequence : (R T k c s : ℕ) (xs : List Response) → Cuts k (fractions R T (sizes xs)) c s → Cuts k (fractions R T (sizes (inSequence xs))) c s
+cuts-sequence R T k c s xs h = record { counted = omega (arith, h .counted, many-sequence R T (ltb c) xs); enough = omega (arith, h .enough, many-sequence R T (eqb c) xs) }
+
+pub shares-parts : (p R T k c s : ℕ) (xs : List Response) → T ≡ sum (sizes xs) → R < T → k ≡ R - sum (floors R T (sizes xs)) → Cuts k (fractions R T (sizes xs)) c s
+    → shareFills p R (inSequence xs) ≡ eachFills p false R T c s (inSequence xs)
 unfolding shareFills eachFills dealt shares
-shares-parts p R T k xs e h f =
+shares-parts p R T k c s xs e h f cuts =
     let z : sum (sizes (inSequence xs)) ≡ T = sizes-sequence xs ∙ sym e in
     let y : leftover R (sizes (inSequence xs)) ≡ k = rw (z, parts-sequence R T xs) (sym f) in
-    rw (lt-leb (sum (sizes (inSequence xs))) R (omega arith), y, z)
+    let o : oneEach k [] (fractions R T (sizes (inSequence xs))) ≡ byCut c s (fractions R T (sizes (inSequence xs))) = one-each-cut k (fractions R T (sizes (inSequence xs))) c s (cuts-sequence R T k c s xs cuts) in
+    rw (lt-leb (sum (sizes (inSequence xs))) R (omega arith), y, z, o)
 
 pub shares-none : (p R : ℕ) (ps : List Response) → shareFills p R (inSequence (liveIn 0 ps)) ≡ []
 unfolding shareFills
@@ -152,7 +164,7 @@ module _ (ps : List Response) (word one total : ℕ) (e : length ps ≡ 64) (p :
   its-size = k .total-is ∙ ap (λ (rs : List Response). sum (sizes rs)) it-alone ∙ omega arith
 
   -- it gets what there is, up to its size
-  pub turns-one : (price n : ℕ) → eachFills price true 0 0 n (inSequence (liveIn word ps)) ≡ fillOf one price (min n total)
+  pub turns-one : (price n : ℕ) → eachFills price true 0 0 0 n (inSequence (liveIn word ps)) ≡ fillOf one price (min n total)
   unfolding eachFills dealt inSequence inserted
   turns-one price n = rw (it-alone, its-sequence, its-size) (append-nil (fillOf (it .sequence) price (min n (it .size))))
 
@@ -240,12 +252,18 @@ module _ (ps : List Response) (e : length ps ≡ 64) where
 
 -- ---- what one is given
 
-pub gives-turns : (R T k s q : ℕ) → q ≡ min k s → k ≤ 4294967295 → Gives true R T k s (record { quantity = q; left = k - q })
-gives-turns R T k s q e h = record { quantity = e; left = ap (λ (n : ℕ). k - n) e; small = omega arith }
+pub gives-turns : (R T c k s q : ℕ) → q ≡ min k s → k ≤ 4294967295 → Gives true R T c k s (record { quantity = q; left = k - q })
+gives-turns R T c k s q e h = record { quantity = e; left = ap (λ (n : ℕ). k - n) e; small = omega arith }
 
-pub gives-parts : (R T k s part one : ℕ) → R < T → s ≤ 4294967295 → part ≡ R * s / T → one ≡ min k (min s 1) → Gives false R T k s (record { quantity = part + one; left = k - one })
-gives-parts R T k s part one h l e f =
-    record { quantity = ap₂ (λ (x y : ℕ). x + y) e f; left = ap (λ (n : ℕ). k - n) f; small = omega (arith, part-fits R T s k h) }
+pub gives-parts : (R T c k s part x : ℕ) (one : Given) → R < T → s ≤ 4294967295 → part ≡ R * s / T → x ≡ R * s % T → one .quantity ≡ oneBy c k x → one .left ≡ spareBy c k x
+    → Gives false R T c k s (record { quantity = part + one .quantity; left = one .left })
+gives-parts R T c k s part x one h l e f q r =
+    record {
+      quantity = ap₂ (λ (y z : ℕ). y + z) e (q ∙ ap (oneBy c k) f);
+      left = r ∙ ap (spareBy c k) f;
+      small = omega (arith, part-fits R T s c k x h, q, e);
+    }
 
-pub gives-left : (turns : Bool) (R T k s : ℕ) (g : Given) → Gives turns R T k s g → g .left ≤ k
-gives-left turns R T k s g e = omega (arith, e .left)
+pub gives-left : (turns : Bool) (R T c k s : ℕ) (g : Given) → Gives turns R T c k s g → g .left ≤ k
+gives-left true R T c k s g e = omega (arith, e .left)
+gives-left false R T c k s g e = omega (arith, e .left)

@@ -10,6 +10,7 @@ ghost use Rattle.trade.specs.rules.Write.{reportedPrice, reported, fills
 ghost use Rattle.trade.specs.inside.Code.{sharedOf, placeFills, levelOf, Summed, Looks, WalkedOn, walkFrom};
 use board::Board;
 
+mod leftovers;
 mod numbers;
 mod scan;
 mod write;
@@ -63,6 +64,26 @@ struct Found {
 struct Given {
     quantity: u64,
     left: u64,
+}
+
+// Who gets a leftover: one for each fraction above this one, and for the first that are at it, as many as are spare.
+struct Cut {
+    fraction: u64,
+    spare: u64,
+}
+
+// Places among which the cut is looked for: the sum of their fractions, how many of them get a leftover, and the mean of the fractions, rounded up.
+struct Among {
+    word: u64,
+    sum: u64,
+    served: u64,
+    mean: u64,
+}
+
+// Of these places, those whose fraction is at least the mean, and the sum of these.
+struct Upper {
+    word: u64,
+    sum: u64,
 }
 
 // Where the walk stands: the lowest price to come, the places not yet walked, the size left, what the Contra Order holds, and the next word.

@@ -1,6 +1,6 @@
 // Looks over the places of a word, from the lowest up.
 ghost use mathlib.Core.Path.{_≡_};
-ghost use Prim.Native.Nat.{_+_, _*_, _/_, _≤_, _<_};
+ghost use Prim.Native.Nat.{_+_, _*_, _/_, _%_, _≤_, _<_};
 ghost use Rattle.board.specs.rules.Board.{liveIn, liveOf};
 ghost use Rattle.base.specs.Lists.{sum};
 ghost use Rattle.share.specs.rules.Share.{floors};
@@ -105,6 +105,14 @@ pub(crate) fn part_of(amount: u64, total: u64, size: u32) -> u64
     ensures { λ r. ⌜ (r ≡ amount * size / total) × (r ≤ size) × (size ≤ 4294967295) ⌝ }
 {
     amount * base::wide(size) / total
+}
+
+// What that leaves over, in parts of the total.
+pub(crate) fn fraction_of(amount: u64, total: u64, size: u32) -> u64
+    requires { ⌜ (amount ≤ 4294967295) × (amount < total) ⌝ }
+    ensures { λ r. ⌜ (r ≡ amount * size % total) × (r < total) ⌝ }
+{
+    amount * base::wide(size) % total
 }
 
 // The whole parts, summed.

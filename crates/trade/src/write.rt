@@ -1,15 +1,17 @@
 // Writes fills into lent words.
 ghost use mathlib.Core.Path.{_≡_};
 ghost use mathlib.Core.Bool.{true, false, cond};
-ghost use Prim.Native.Nat.{_+_, _*_, _≤_, _<_, min};
+ghost use Prim.Native.Nat.{_+_, _*_, _≤_, _<_};
 ghost use lib.Dec.{eqb};
 ghost use lib.ListN.{length};
 ghost use Rattle.words.specs.rules.Bits.{withoutLowest};
 ghost use Rattle.board.specs.rules.Board.{liveIn, inSequence};
 ghost use Rattle.share.specs.rules.Fills.{fillOf};
 ghost use Rattle.share.specs.inside.Fills.{WroteFills};
+ghost use Rattle.share.specs.inside.Cut.{oneBy, spareBy};
 ghost use Rattle.trade.specs.inside.Code.{eachFills, shareFills, isRising, Summed, Gives};
 use crate::Given;
+use crate::leftovers;
 use crate::scan;
 use board::Board;
 use words::bits;
@@ -30,23 +32,33 @@ pub(crate) fn put_fill(out: &mut [u32], at: usize, party: u32, price: u32, quant
     }
 }
 
-// What a member of the size s is given of k leftovers: one, if there is one and it has a size.
-fn one_of(k: u64, s: u32) -> u64
-    ensures { λ r. ⌜ r ≡ min k (min s 1) ⌝ }
+// What one with this fraction is given of the leftovers: one above the cut, and at it one of those that are spare.
+fn one_of(cut: u64, spare: u64, fraction: u64) -> Given
+    ensures { λ g. ⌜ (g .quantity ≡ oneBy cut spare fraction) × (g .left ≡ spareBy cut spare fraction) ⌝ }
 {
-    if k == 0 {
-        return 0;
+    if cut < fraction {
+        return Given {
+            quantity: 1,
+            left: spare,
+        };
     }
-    if s == 0 {
-        return 0;
+    if fraction < cut {
+        return Given {
+            quantity: 0,
+            left: spare,
+        };
     }
-    1
+    let one = base::lesser(spare, 1);
+    Given {
+        quantity: one,
+        left: spare - one,
+    }
 }
 
-// What one of this size gets of k, first come first, or the whole part of its share and one of k leftovers.
-fn given(turns: bool, amount: u64, total: u64, k: u64, size: u32) -> Given
+// What one of this size gets of k, first come first, or the whole part of its share and one leftover by the cut, k being spare there.
+fn given(turns: bool, amount: u64, total: u64, cut: u64, k: u64, size: u32) -> Given
     requires { ⌜ (amount ≤ 4294967295) × (k ≤ 4294967295) × (turns ≡ false → amount < total) ⌝ }
-    ensures { λ g. ⌜ Gives turns amount total k size g ⌝ }
+    ensures { λ g. ⌜ Gives turns amount total cut k size g ⌝ }
 {
     if turns {
         let q = base::lesser(k, base::wide(size));
@@ -55,11 +67,11 @@ fn given(turns: bool, amount: u64, total: u64, k: u64, size: u32) -> Given
             left: k - q,
         };
     }
-    let one = one_of(k, size);
+    let one = one_of(cut, k, scan::fraction_of(amount, total, size));
     let part = scan::part_of(amount, total, size);
     Given {
-        quantity: part + one,
-        left: k - one,
+        quantity: part + one.quantity,
+        left: one.left,
     }
 }
 
@@ -98,13 +110,14 @@ pub(crate) fn write_each(
     turns: bool,
     amount: u64,
     total: u64,
+    cut: u64,
     k: u64,
     out: &mut [u32],
     at: usize,
 ) -> usize
     requires { ⌜ (amount ≤ 4294967295) × (k ≤ 4294967295) × (turns ≡ false → amount < total) ⌝ }
-    requires { ⌜ at + 3 * length (eachFills price turns amount total k (inSequence (liveIn word (b .places)))) ≤ length (now out) ⌝ }
-    ensures { λ r. ⌜ WroteFills (now (out .entry)) at (eachFills price turns amount total k (inSequence (liveIn word (b .places)))) r (now (out .exit)) ⌝ }
+    requires { ⌜ at + 3 * length (eachFills price turns amount total cut k (inSequence (liveIn word (b .places)))) ≤ length (now out) ⌝ }
+    ensures { λ r. ⌜ WroteFills (now (out .entry)) at (eachFills price turns amount total cut k (inSequence (liveIn word (b .places)))) r (now (out .exit)) ⌝ }
 {
     let mut w = at;
     let mut left = k;
@@ -120,7 +133,7 @@ pub(crate) fn write_each(
             continue;
         }
         let r = b.places[best];
-        let g = given(turns, amount, total, left, r.size);
+        let g = given(turns, amount, total, cut, left, r.size);
         w = put_fill(out, w, r.sequence, price, g.quantity);
         left = g.left;
         rest = bits::without_bit(rest, best);
@@ -149,8 +162,8 @@ pub(crate) fn write_turns(
     at: usize,
 ) -> usize
     requires { ⌜ (k ≤ 4294967295) × Summed (b .places) word one total ⌝ }
-    requires { ⌜ at + 3 * length (eachFills price true 0 0 k (inSequence (liveIn word (b .places)))) ≤ length (now out) ⌝ }
-    ensures { λ r. ⌜ WroteFills (now (out .entry)) at (eachFills price true 0 0 k (inSequence (liveIn word (b .places)))) r (now (out .exit)) ⌝ }
+    requires { ⌜ at + 3 * length (eachFills price true 0 0 0 k (inSequence (liveIn word (b .places)))) ≤ length (now out) ⌝ }
+    ensures { λ r. ⌜ WroteFills (now (out .entry)) at (eachFills price true 0 0 0 k (inSequence (liveIn word (b .places)))) r (now (out .exit)) ⌝ }
 {
     if word == 0 {
         return at;
@@ -158,7 +171,7 @@ pub(crate) fn write_turns(
     if alone(word) {
         return put_fill(out, at, one, price, base::lesser(k, total));
     }
-    write_each(b, word, price, true, 0, 0, k, out, at)
+    write_each(b, word, price, true, 0, 0, 0, k, out, at)
 }
 
 // The amount over the responses of the word, pro rata: one and total as for those in turn.
@@ -183,8 +196,9 @@ pub(crate) fn write_shares(
         return put_fill(out, at, one, price, base::lesser(amount, total));
     }
     if total <= amount {
-        return write_each(b, word, price, true, amount, total, amount, out, at);
+        return write_each(b, word, price, true, amount, total, 0, amount, out, at);
     }
     let leftover = amount - scan::parts_of(b, word, amount, total);
-    write_each(b, word, price, false, amount, total, leftover, out, at)
+    let c = leftovers::cut_of(b, word, amount, total, leftover);
+    write_each(b, word, price, false, amount, total, c.fraction, c.spare, out, at)
 }

@@ -1,4 +1,4 @@
--- Cases a to k of document 01, as one table: an order, its events, and what must come of them.
+-- Cases a to k of document 01, with b as W-203 of document 02 has it, and others of W-203, as one table: an order, its events, and what must come of them.
 use mathlib.Core.Bool.{Bool, true, false, cond}
 use mathlib.Core.List.{List, [], _∷_, map}
 use mathlib.Core.Path.{_≡_}
@@ -72,6 +72,14 @@ event kind sequence side size price = record { sequence = sequence; time = 20; k
 abbrev pub gtx : ℕ → ℕ → ℕ → Event
 gtx sequence size price = event 1 sequence 2 size price
 
+-- a response to a sell
+abbrev pub gtxBuy : ℕ → ℕ → ℕ → Event
+gtxBuy sequence size price = event 1 sequence 1 size price
+
+-- a response, by its name, has another size and price from here on
+abbrev pub amend : ℕ → ℕ → ℕ → ℕ → Event
+amend sequence name size price = record { sequence = sequence; time = 20; kind = 6; marks = 0; side = 0; f12 = name; f16 = size; f20 = price; f24 = 0 }
+
 abbrev pub bid : ℕ → ℕ → ℕ → Event
 bid sequence size price = event 3 sequence 1 size price
 
@@ -92,8 +100,8 @@ unfoldable pub cases : List Case
 cases =
     -- a. 30 at 105, then at 108 Contra 40, 18, 12
     case (order 1 1 100 110 108) (gtx 1 30 105 ∷ gtx 2 60 108 ∷ gtx 3 40 108 ∷ []) true (ended Time 100 110 (fill 1 105 30 ∷ contra 108 40 ∷ fill 2 108 18 ∷ fill 3 108 12 ∷ []))
-    -- b. Contra 40, then 21, 20, 19
-    ∷ case (order 1 1 100 110 108) (gtx 1 31 108 ∷ gtx 2 30 108 ∷ gtx 3 30 108 ∷ []) true (ended Time 100 110 (contra 108 40 ∷ fill 1 108 21 ∷ fill 2 108 20 ∷ fill 3 108 19 ∷ []))
+    -- b. Contra 40, then 20, 20, 20
+    ∷ case (order 1 1 100 110 108) (gtx 1 31 108 ∷ gtx 2 30 108 ∷ gtx 3 30 108 ∷ []) true (ended Time 100 110 (contra 108 40 ∷ fill 1 108 20 ∷ fill 2 108 20 ∷ fill 3 108 20 ∷ []))
     -- c. the listing: the record is sent twice
     ∷ case orderC (gtx 1 3 105 ∷ gtx 1 3 105 ∷ []) true (ended Time 101 109 (contra 105 3 ∷ fill 1 105 3 ∷ contra 109 4 ∷ []))
     -- d. 4 at 105, Contra 6 at 108
@@ -116,6 +124,18 @@ cases =
     -- k. close at 5,000: time 3,999 passes, 4,000 gives 5
     ∷ case (timed 3999 5000 orderC) [] false (standing 101 109)
     ∷ case (timed 4000 5000 orderC) [] false (refusal 5)
+    -- W-203, 60 contracts after the guarantee, on both sides. b of a sell
+    ∷ case (order 2 1 100 100 102) (gtxBuy 1 31 102 ∷ gtxBuy 2 30 102 ∷ gtxBuy 3 30 102 ∷ []) true (ended Time 100 110 (contra 102 40 ∷ fill 1 102 20 ∷ fill 2 102 20 ∷ fill 3 102 20 ∷ []))
+    -- over 35, 35, 20, 20 and 20, fractions 20, 20, 30, 30 and 30 of 130, one is left over: to the first of those that tie
+    ∷ case (order 1 1 100 110 108) (gtx 1 35 108 ∷ gtx 2 35 108 ∷ gtx 3 20 108 ∷ gtx 4 20 108 ∷ gtx 5 20 108 ∷ []) true
+    (ended Time 100 110 (contra 108 40 ∷ fill 1 108 16 ∷ fill 2 108 16 ∷ fill 3 108 10 ∷ fill 4 108 9 ∷ fill 5 108 9 ∷ []))
+    ∷ case (order 2 1 100 100 102) (gtxBuy 1 35 102 ∷ gtxBuy 2 35 102 ∷ gtxBuy 3 20 102 ∷ gtxBuy 4 20 102 ∷ gtxBuy 5 20 102 ∷ []) true
+    (ended Time 100 110 (contra 102 40 ∷ fill 1 102 16 ∷ fill 2 102 16 ∷ fill 3 102 10 ∷ fill 4 102 9 ∷ fill 5 102 9 ∷ []))
+    -- over 40, 41 and 39, fractions 0, 60 and 60 of 120, one is left over: not to the first, which has no fraction
+    ∷ case (order 1 1 100 110 108) (gtx 1 40 108 ∷ gtx 2 41 108 ∷ gtx 3 39 108 ∷ []) true (ended Time 100 110 (contra 108 40 ∷ fill 1 108 20 ∷ fill 2 108 21 ∷ fill 3 108 19 ∷ []))
+    ∷ case (order 2 1 100 100 102) (gtxBuy 1 40 102 ∷ gtxBuy 2 41 102 ∷ gtxBuy 3 39 102 ∷ []) true (ended Time 100 110 (contra 102 40 ∷ fill 1 102 20 ∷ fill 2 102 21 ∷ fill 3 102 19 ∷ []))
+    -- the 41 is amended, stands at the first place with the last sequence, and comes after the 39 that it ties with
+    ∷ case (order 1 1 100 110 108) (gtx 1 30 108 ∷ gtx 2 39 108 ∷ gtx 3 40 108 ∷ amend 4 1 41 108 ∷ []) true (ended Time 100 110 (contra 108 40 ∷ fill 2 108 20 ∷ fill 3 108 20 ∷ fill 4 108 20 ∷ []))
     ∷ []
 
 -- the table is what the definitions that the contracts cite give

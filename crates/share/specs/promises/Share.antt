@@ -4,7 +4,7 @@ use mathlib.Core.List.{List, [], _∷_}
 use mathlib.Core.Logic.{_⊎_}
 use Prim.Native.Nat.{ℕ, _+_, _*_, _/_, _≤_, _<_, min}
 use Rattle.base.specs.Lists.{sum}
-use Rattle.share.specs.rules.Share.{leftover, firsts, sharesBy, shares}
+use Rattle.share.specs.rules.Share.{fractions, leftover, leftovers, sharesBy, shares}
 
 -- ---- the words of the laws
 
@@ -41,10 +41,32 @@ pub record Fair (R : ℕ) (ss qs : List ℕ) : Type 0 where
   -- else each is the whole part of R * s / T, or one more
   pub near : R < sum ss → Each (Near R (sum ss)) ss qs
 
+-- of two members the one ahead is not passed over: one with the fraction x gets m, and a later one with the fraction y gets n
+abbrev pub NotPassed : ℕ → ℕ → ℕ → ℕ → Type 0
+NotPassed x m y n = (y ≤ x → n ≤ m) × (x < y → m ≤ n)
+
+-- so it is for any two of a list
+abbrev pub InRank : List ℕ → List ℕ → Type 0
+InRank [] [] = Unit {0}
+InRank [] (m ∷ ms) = ⊥
+InRank (x ∷ xs) [] = ⊥
+InRank (x ∷ xs) (m ∷ ms) = Each (NotPassed x m) xs ms × InRank xs ms
+
+-- what the rule for the leftovers gives, where R is short of all the sizes
+pub record ByFraction (R : ℕ) (ss : List ℕ) : Type 0 where
+  -- one each to distinct members
+  pub marks : Marks R ss (leftovers R ss)
+  -- the largest fractions first, and of equal ones the earlier
+  pub in-rank : InRank (fractions R (sum ss) ss) (leftovers R ss)
+  -- none to a member with no fraction
+  pub parted : Each Mark (fractions R (sum ss) ss) (leftovers R ss)
+  -- the fractions come to as many wholes as there are leftovers
+  pub wholes : sum (fractions R (sum ss) ss) ≡ leftover R ss * sum ss
+
 pub record ProRata : Type 0 where
   -- for any rule that gives the leftovers one each to distinct members
   pub by-rule : (R : ℕ) (ss ms : List ℕ) → (R < sum ss → Marks R ss ms) → Fair R ss (sharesBy ms R ss)
-  -- one each in the order of the list is such a rule
-  pub in-order : (R : ℕ) (ss : List ℕ) → R < sum ss → Marks R ss (firsts (leftover R ss) ss)
+  -- the largest fraction first is such a rule
+  pub by-fraction : (R : ℕ) (ss : List ℕ) → R < sum ss → ByFraction R ss
   -- so the shares are fair
   pub fair : (R : ℕ) (ss : List ℕ) → Fair R ss (shares R ss)

@@ -1,14 +1,20 @@
--- Pro rata: R contracts over a list of sizes.
-use mathlib.Core.Bool.{cond}
+-- Pro rata: R contracts over a list of sizes, in rising order of sequence (document 01, "Who trades"; document 02, W-203).
+use mathlib.Core.Bool.{Bool, cond}
 use mathlib.Core.List.{List, [], _∷_}
-use Prim.Native.Nat.{ℕ, _+_, _-_, _*_, _/_, min}
-use lib.Dec.{leb}
-use Rattle.base.specs.Lists.{sum}
+use Prim.Native.Nat.{ℕ, _+_, _-_, _*_, _/_, _%_, min}
+use lib.Dec.{leb, ltb}
+use lib.ListN.{length}
+use Rattle.base.specs.Lists.{filter, sum}
 
 -- the whole part of R * s / T, at each size
 abbrev pub floors : ℕ → ℕ → List ℕ → List ℕ
 floors R T [] = []
 floors R T (s ∷ ss) = (R * s / T) ∷ floors R T ss
+
+-- the fractional part of R * s / T, in parts of T, at each size
+abbrev pub fractions : ℕ → ℕ → List ℕ → List ℕ
+fractions R T [] = []
+fractions R T (s ∷ ss) = (R * s % T) ∷ fractions R T ss
 
 -- place by place
 abbrev pub plus : List ℕ → List ℕ → List ℕ
@@ -20,17 +26,25 @@ plus (x ∷ xs) (m ∷ ms) = (x + m) ∷ plus xs ms
 abbrev pub leftover : ℕ → List ℕ → ℕ
 leftover R ss = R - sum (floors R (sum ss) ss)
 
--- the rule for the leftovers: one each to the first k members that have a size, in the order of the list
-abbrev pub firsts : ℕ → List ℕ → List ℕ
-firsts k [] = []
-firsts k (s ∷ ss) = min k (min s 1) ∷ firsts (k - min k (min s 1)) ss
+-- how many of a list pass a test
+abbrev pub howMany : (ℕ → Bool) → List ℕ → ℕ
+howMany t xs = length (filter t xs)
+
+-- the rule for k leftovers, by the fractions: one to each member that fewer than k are ahead of. Ahead are those with a larger fraction, and those with an equal one and a lower sequence; earlier has the fractions of the lower sequences
+abbrev pub oneEach : ℕ → List ℕ → List ℕ → List ℕ
+oneEach k earlier [] = []
+oneEach k earlier (x ∷ xs) = cond (ltb (howMany (leb x) earlier + howMany (ltb x) xs) k) 1 0 ∷ oneEach k (x ∷ earlier) xs
+
+-- the leftovers: one each to the largest fractions, and among equal ones to the lower sequence
+abbrev pub leftovers : ℕ → List ℕ → List ℕ
+leftovers R ss = oneEach (leftover R ss) [] (fractions R (sum ss) ss)
 
 -- the shares, by any rule ms for the leftovers: all are filled where R covers them
 abbrev pub sharesBy : List ℕ → ℕ → List ℕ → List ℕ
 sharesBy ms R ss = cond (leb (sum ss) R) ss (plus (floors R (sum ss) ss) ms)
 
 unfoldable pub shares : ℕ → List ℕ → List ℕ
-shares R ss = sharesBy (firsts (leftover R ss) ss) R ss
+shares R ss = sharesBy (leftovers R ss) R ss
 
 -- first come, first served: each as far as what is left goes
 abbrev pub inTurn : ℕ → List ℕ → List ℕ

@@ -14,7 +14,7 @@ use Rattle.trade.proofs.write_level.Tie as tie
 
 sized : (c : tie.Start)
     → length (placeFills (c .args .price) (c .args .left) (inSequence (liveIn (c .args .l .customers) (c .args .b .places))) (c .args .contra) (sharedOf (c .args .left) (c .args .l .served) (c .args .l .want)) (inSequence (liveIn (c .args .l .others) (c .args .b .places))))
-    ≡ length (eachFills (c .args .price) true 0 0 (c .args .left) (inSequence (liveIn (c .args .l .customers) (c .args .b .places))))
+    ≡ length (eachFills (c .args .price) true 0 0 0 (c .args .left) (inSequence (liveIn (c .args .l .customers) (c .args .b .places))))
     + (length (fillOf 0 (c .args .price) (c .args .contra)) + length (shareFills (c .args .price) (sharedOf (c .args .left) (c .args .l .served) (c .args .l .want)) (inSequence (liveIn (c .args .l .others) (c .args .b .places)))))
 sized c = place-length (c .args .price) (c .args .left) _ (c .args .contra) _ _
 

@@ -2,19 +2,22 @@
 use mathlib.Core.Path.{_≡_}
 use mathlib.Core.Bool.{Bool, true, false, cond, not, _&&_, _||_}
 use mathlib.Core.List.{List, [], _∷_, _++_}
-use Prim.Native.Nat.{ℕ, suc, _+_, _-_, _*_, _/_, _≤_, min, max}
+use Prim.Native.Nat.{ℕ, suc, _+_, _-_, _*_, _/_, _%_, _≤_, _<_, min, max}
 use lib.Dec.{leb, ltb, eqb}
-use Rattle.words.specs.rules.Bits.{withBit}
+use Rattle.words.specs.rules.Bits.{withBit, onesIn}
 use Rattle.board.specs.declared.Response.{Response}
 use Rattle.base.specs.Lists.{filter, sum}
 use Rattle.board.specs.rules.Board.{liveIn, inSequence}
 use Rattle.board.specs.inside.Places.{wordOf}
-use Rattle.share.specs.rules.Share.{floors, plus, firsts, shares, inTurn}
+use Rattle.share.specs.rules.Share.{floors, fractions, plus, shares, inTurn}
 use Rattle.share.specs.rules.Fills.{Fill, fillOf, fillsBy, sizes}
+use Rattle.share.specs.inside.Cut.{oneBy, spareBy, byCut}
+use Rattle.trade.specs.declared.Among.{Among}
 use Rattle.trade.specs.declared.Deal.{Deal}
 use Rattle.trade.specs.declared.Found.{Found}
 use Rattle.trade.specs.declared.Given.{Given}
 use Rattle.trade.specs.declared.Price.{Price}
+use Rattle.trade.specs.declared.Upper.{Upper}
 use Rattle.trade.specs.declared.Walked.{Walked}
 use Rattle.trade.specs.rules.Plan.{Plan}
 use Rattle.trade.specs.rules.Trade.{Level, customers, others, contra, levelFills, traded, top, entry, walk}
@@ -69,6 +72,7 @@ lastSequence m (r ∷ rs) = lastSequence (r .sequence) rs
 pub record Summed (places : List Response) (word one total : ℕ) : Type 0 where
   pub one-is : one ≡ lastSequence 0 (liveIn word places)
   pub total-is : total ≡ sum (sizes (liveIn word places))
+  pub small : total ≤ 1099511627520
 
 -- what a response at place i adds to what was found at the price p
 pub record Adds (bound p : ℕ) (r : Response) (i : ℕ) (f n : Found) : Type 0 where
@@ -106,13 +110,13 @@ leastOf bound last (r ∷ rs) = min (max (r .price) bound) (leastOf bound last r
 
 -- ---- the fills of some responses at a price
 
--- the quantities: first come first out of k, or the whole parts of R * s / T and one more to the first k
-unfoldable pub dealt : Bool → ℕ → ℕ → ℕ → List ℕ → List ℕ
-dealt true R T k ss = inTurn k ss
-dealt false R T k ss = plus (floors R T ss) (firsts k ss)
+-- the quantities: first come first out of k, or the whole parts of R * s / T and the leftovers by the cut c, k being spare there
+unfoldable pub dealt : Bool → ℕ → ℕ → ℕ → ℕ → List ℕ → List ℕ
+dealt true R T c k ss = inTurn k ss
+dealt false R T c k ss = plus (floors R T ss) (byCut c k (fractions R T ss))
 
-unfoldable pub eachFills : ℕ → Bool → ℕ → ℕ → ℕ → List Response → List Fill
-eachFills p turns R T k rs = fillsBy p rs (dealt turns R T k (sizes rs))
+unfoldable pub eachFills : ℕ → Bool → ℕ → ℕ → ℕ → ℕ → List Response → List Fill
+eachFills p turns R T c k rs = fillsBy p rs (dealt turns R T c k (sizes rs))
 
 -- whether sequences rise, from m on
 unfoldable pub isRising : ℕ → List Response → Bool
@@ -120,10 +124,37 @@ isRising m [] = true
 isRising m (r ∷ rs) = leb m (r .sequence) && isRising (r .sequence) rs
 
 -- what one of the size s gets, and what is left of k
-pub record Gives (turns : Bool) (R T k s : ℕ) (g : Given) : Type 0 where
-  pub quantity : g .quantity ≡ cond turns (min k s) (R * s / T + min k (min s 1))
-  pub left : g .left ≡ k - cond turns (min k s) (min k (min s 1))
+pub record Gives (turns : Bool) (R T c k s : ℕ) (g : Given) : Type 0 where
+  pub quantity : g .quantity ≡ cond turns (min k s) (R * s / T + oneBy c k (R * s % T))
+  pub left : g .left ≡ cond turns (k - min k s) (spareBy c k (R * s % T))
   pub small : g .quantity ≤ 4294967295
+
+-- ---- the cut
+
+-- the fractions of the responses of a word
+abbrev pub fractionsIn : ℕ → ℕ → List Response → ℕ → List ℕ
+fractionsIn R T places word = fractions R T (sizes (liveIn word places))
+
+-- R is short of the sizes of the responses of a word, which come to T, and their whole parts leave k
+pub record Leaves (places : List Response) (word R T k : ℕ) : Type 0 where
+  pub short : R < T
+  pub low : R ≤ 4294967295
+  pub small : T ≤ 1099511627520
+  pub total-is : T ≡ sum (sizes (liveIn word places))
+  pub left-is : k ≡ R - sum (floors R T (sizes (liveIn word places)))
+
+-- the mean of n numbers, rounded up
+unfoldable pub meanOf : ℕ → ℕ → ℕ
+meanOf total n = (total + n - 1) / n
+
+unfoldable pub amongOf : ℕ → ℕ → ℕ → Among
+amongOf word total served = record { word = word; sum = total; served = served; mean = meanOf total (onesIn 64 word) }
+
+-- the upper ones where they are enough, else the others
+unfoldable pub narrowedOf : Among → Upper → Among
+narrowedOf a u =
+    let n = onesIn 64 (u .word) in
+    cond (leb (a .served) n) (amongOf (u .word) (u .sum) (a .served)) (amongOf (a .word - u .word) (a .sum - u .sum) (a .served - n))
 
 -- pro rata
 unfoldable pub shareFills : ℕ → ℕ → List Response → List Fill
@@ -131,7 +162,7 @@ shareFills p R rs = fillsBy p rs (shares R (sizes rs))
 
 -- Customers in turn, the Contra Order, the others pro rata
 unfoldable pub placeFills : ℕ → ℕ → List Response → ℕ → ℕ → List Response → List Fill
-placeFills p left cs contra R os = eachFills p true 0 0 left cs ++ (fillOf 0 p contra ++ shareFills p R os)
+placeFills p left cs contra R os = eachFills p true 0 0 0 left cs ++ (fillOf 0 p contra ++ shareFills p R os)
 
 -- ---- the walk over the places of a word
 

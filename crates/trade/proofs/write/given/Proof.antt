@@ -12,35 +12,39 @@ wide-requires c κs = search needs
 lesser-requires : tie.Need-lesser-requires
 lesser-requires c κs = search needs
 
-sub-t10 : tie.Need-sub-t10
-sub-t10 c = search needs
+sub-t11 : tie.Need-sub-t11
+sub-t11 c = search needs
 
 returns : tie.Need-returns
 returns c =
     let s = c .before .before .before in
     let a = s .args in
-    rw (c .before .before .if1 .taken) (gives-turns (a .amount) (a .total) (a .k) (a .size) _ (c .lesser .ensures ∙ ap (λ (n : ℕ). min (a .k) n) (c .before .wide .ensures .0)) (s .pre .1))
+    rw (c .before .before .if1 .taken) (gives-turns (a .amount) (a .total) (a .cut) (a .k) (a .size) _ (c .lesser .ensures ∙ ap (λ (n : ℕ). min (a .k) n) (c .before .wide .ensures .0)) (s .pre .1))
+
+fraction-of-requires : tie.Need-fraction-of-requires
+fraction-of-requires c κs = let s = c .before in (s .pre .0, s .pre .2 (c .if1 .left))
 
 one-of-requires : tie.Need-one-of-requires
 one-of-requires c κs = search needs
 
 part-of-requires : tie.Need-part-of-requires
-part-of-requires c κs = let s = c .before .before in (s .pre .0, s .pre .2 (c .before .if1 .left))
+part-of-requires c κs = let s = c .before .before .before in (s .pre .0, s .pre .2 (c .before .before .if1 .left))
 
-add-t11 : tie.Need-add-t11
-add-t11 c =
-    let s = c .before .before .before in
+add-t12 : tie.Need-add-t12
+add-t12 c =
+    let s = c .before .before .before .before .before in
     let a = s .args in
-    omega (arith, c .part-of .ensures .0, c .part-of .ensures .2, c .before .one-of .ensures, part-fits (a .amount) (a .total) (a .size) (a .k) (s .pre .2 (c .before .before .if1 .left)))
-
-sub-t12 : tie.Need-sub-t12
-sub-t12 c = omega (arith, c .before .one-of .ensures)
+    let p = c .before .part-of .ensures in
+    omega (arith, p .0, p .2, c .before .before .one-of .ensures .0, part-fits (a .amount) (a .total) (a .size) (a .cut) (a .k) (c .before .before .before .fraction-of .result) (s .pre .2 (c .before .before .before .before .if1 .left)))
 
 returns-2 : tie.Need-returns-2
 returns-2 c =
-    let s = c .before .before .before in
+    let s = c .before .before .before .before .before in
     let a = s .args in
-    rw (c .before .before .if1 .left) (gives-parts (a .amount) (a .total) (a .k) (a .size) _ _ (s .pre .2 (c .before .before .if1 .left)) (c .part-of .ensures .2) (c .part-of .ensures .0) (c .before .one-of .ensures))
+    let short = c .before .before .before .before .if1 .left in
+    let p = c .before .part-of .ensures in
+    let o = c .before .before .one-of in
+    rw short (gives-parts (a .amount) (a .total) (a .cut) (a .k) (a .size) _ _ (o .result) (s .pre .2 short) (p .2) (p .0) (c .before .before .before .fraction-of .ensures .0) (o .ensures .0) (o .ensures .1))
 
 pub given-spec : {M : Type 1} → statement M
 given-spec =
@@ -48,10 +52,10 @@ given-spec =
     (tie.spec
     wide-requires
     lesser-requires
-    sub-t10
+    sub-t11
     returns
+    fraction-of-requires
     one-of-requires
     part-of-requires
-    add-t11
-    sub-t12
+    add-t12
     returns-2)

@@ -23,18 +23,18 @@ use Rattle.trade.proofs.write.write_each.Statement.{statement}
 use Rattle.trade.proofs.write.write_each.Tie as tie
 
 abbrev Inv-loop : tie.InvT-loop
-Inv-loop word price turns amount total k out₀ at b w₀ left₀ rest₀ sorted best₀ unseen₀ out w left rest best unseen =
+Inv-loop word price turns amount total cut k out₀ at b w₀ left₀ rest₀ sorted best₀ unseen₀ out w left rest best unseen =
     (rest < 2 ^ 64)
     × (unseen < 2 ^ 64)
     × (left ≤ 4294967295)
     × (length out ≡ length out₀)
     × (0 < rest → Best (b .places) rest best unseen)
     × (sorted ≡ true → RisingFrom 0 (liveIn rest (b .places)))
-    × LeftFills out₀ at (eachFills price turns amount total k (inSequence (liveIn word (b .places)))) out w (eachFills price turns amount total left (inSequence (liveIn rest (b .places))))
+    × LeftFills out₀ at (eachFills price turns amount total cut k (inSequence (liveIn word (b .places)))) out w (eachFills price turns amount total cut left (inSequence (liveIn rest (b .places))))
     × (best < 64 → 0 < rest)
 
 abbrev μ-loop : tie.MeasureT-loop
-μ-loop word price turns amount total k out₀ at b w₀ left₀ rest₀ sorted best₀ unseen₀ out w left rest best unseen =
+μ-loop word price turns amount total cut k out₀ at b w₀ left₀ rest₀ sorted best₀ unseen₀ out w left rest best unseen =
     rest * 18446744073709551616 + unseen
 
 first-set-requires : tie.Need-first-set-requires Inv-loop μ-loop
@@ -65,15 +65,15 @@ pick c =
 
 -- what is still to be written: this response's fill, and the others'
 step : (c : tie.After-given Inv-loop μ-loop)
-    → eachFills (c .before .before .before .before .before .before .before .before .before .args .price) (c .before .before .before .before .before .before .before .before .before .args .turns) (c .before .before .before .before .before .before .before .before .before .args .amount) (c .before .before .before .before .before .before .before .before .before .args .total) (c .before .before .before .before .loop .left)
+    → eachFills (c .before .before .before .before .before .before .before .before .before .args .price) (c .before .before .before .before .before .before .before .before .before .args .turns) (c .before .before .before .before .before .before .before .before .before .args .amount) (c .before .before .before .before .before .before .before .before .before .args .total) (c .before .before .before .before .before .before .before .before .before .args .cut) (c .before .before .before .before .loop .left)
     (inSequence (liveIn (c .before .before .before .before .loop .rest) (c .before .before .before .before .before .before .before .before .before .args .t1 .places)))
     ≡ fillOf (getD (c .before .before .before .before .before .before .before .before .before .args .t1 .places) (c .before .before .before .before .loop .best) noResponse .sequence) (c .before .before .before .before .before .before .before .before .before .args .price) (c .given .result .quantity)
-    ++ eachFills (c .before .before .before .before .before .before .before .before .before .args .price) (c .before .before .before .before .before .before .before .before .before .args .turns) (c .before .before .before .before .before .before .before .before .before .args .amount) (c .before .before .before .before .before .before .before .before .before .args .total) (c .given .result .left)
+    ++ eachFills (c .before .before .before .before .before .before .before .before .before .args .price) (c .before .before .before .before .before .before .before .before .before .args .turns) (c .before .before .before .before .before .before .before .before .before .args .amount) (c .before .before .before .before .before .before .before .before .before .args .total) (c .before .before .before .before .before .before .before .before .before .args .cut) (c .given .result .left)
     (inSequence (liveIn (withoutBit (c .before .before .before .before .loop .rest) (c .before .before .before .before .loop .best)) (c .before .before .before .before .before .before .before .before .before .args .t1 .places)))
 step c =
     let l = c .before .before .before .before in
     let a = c .before .before .before .before .before .before .before .before .before .args in
-    each-pick (a .price) (a .turns) (a .amount) (a .total) (l .loop .left) (a .t1 .places) (l .loop .rest) (l .loop .best) (c .given .result) (pick (c .before .before)) (c .given .ensures)
+    each-pick (a .price) (a .turns) (a .amount) (a .total) (a .cut) (l .loop .left) (a .t1 .places) (l .loop .rest) (l .loop .best) (c .given .result) (pick (c .before .before)) (c .given .ensures)
 
 loop-holds : tie.Need-loop-holds Inv-loop μ-loop
 loop-holds c =
@@ -193,7 +193,7 @@ loop-again-2 c =
     let rises : o ≡ true → RisingFrom 0 (liveIn (r .result) (a .t1 .places)) = rw (r .ensures) (λ t. rising-without (a .t1 .places) (l .loop .rest) (l .loop .best) (best .place) (best .set) (l .loop .inv .5 t)) in (
       small,
       rw e (omega (arith, unseen-le o (r .result))),
-      omega (arith, gives-left (a .turns) (a .amount) (a .total) (l .loop .left) _ (g .given .result) (g .given .ensures), l .loop .inv .2),
+      omega (arith, gives-left (a .turns) (a .amount) (a .total) (a .cut) (l .loop .left) _ (g .given .result) (g .given .ensures), l .loop .inv .2),
       omega (arith, f .kept .0, l .loop .inv .3),
       λ p. rw e (hunt-start (a .t1 .places) (len s) o (r .result) _ p small (c .before .first-set3 .ensures) rises),
       rises,

@@ -1,5 +1,5 @@
 use mathlib.Core.Path.{_≡_, sym, ap, _∙_}
-use mathlib.Core.Bool.{true≢false}
+use mathlib.Core.Bool.{false, true≢false}
 use Prim.Native.Nat.{ℕ, _-_, _^_, _<_, min}
 use native.Mathlib.Omega.{arith}
 use borrow.Author.Tests.{eqb-true}
@@ -7,7 +7,7 @@ use lib.ListN.{length}
 use Rattle.board.specs.rules.Board.{liveIn, inSequence}
 use Rattle.share.specs.rules.Fills.{fillOf}
 use Rattle.share.proofs.FillsLaws.{left-start, left-done}
-use Rattle.trade.specs.inside.Code.{shareFills}
+use Rattle.trade.specs.inside.Code.{eachFills, shareFills, Leaves}
 use Rattle.trade.proofs.WriteLaws.{shares-all, shares-parts, shares-none, shares-one, parts-le}
 use borrow.Author.Needs.{needs}
 use Rattle.base.proofs.ListLaws.{length-mapped}
@@ -73,22 +73,36 @@ sub-leftover c =
     let a = s .args in
     omega (arith, c .parts-of .ensures, parts-le (a .amount) (a .total) (liveIn (a .word) (a .b .places)) (s .pre .0 .1 .total-is) (omega arith))
 
+-- what the whole parts leave
+leaves : (c : tie.After-parts-of)
+    → Leaves (c .before .before .before .before .before .before .args .b .places) (c .before .before .before .before .before .before .args .word) (c .before .before .before .before .before .before .args .amount) (c .before .before .before .before .before .before .args .total) (c .before .before .before .before .before .before .args .amount - c .parts-of .result)
+leaves c =
+    let s = c .before .before .before .before .before .before in
+    record { short = omega (arith, c .before .if3 .left); low = s .pre .0 .0; small = s .pre .0 .1 .small; total-is = s .pre .0 .1 .total-is; left-is = ap (λ (n : ℕ). s .args .amount - n) (c .parts-of .ensures) }
+
+cut-of-requires : tie.Need-cut-of-requires
+cut-of-requires c κs = leaves c
+
+-- the fills, by the cut
+fills : (c : tie.After-cut-of)
+    → shareFills (c .before .before .before .before .before .before .before .args .price) (c .before .before .before .before .before .before .before .args .amount) (inSequence (liveIn (c .before .before .before .before .before .before .before .args .word) (c .before .before .before .before .before .before .before .args .b .places)))
+    ≡ eachFills (c .before .before .before .before .before .before .before .args .price) false (c .before .before .before .before .before .before .before .args .amount) (c .before .before .before .before .before .before .before .args .total) (c .cut-of .result .fraction) (c .cut-of .result .spare) (inSequence (liveIn (c .before .before .before .before .before .before .before .args .word) (c .before .before .before .before .before .before .before .args .b .places)))
+fills c =
+    let a = c .before .before .before .before .before .before .before .args in
+    let l = leaves (c .before) in
+    shares-parts (a .price) (a .amount) (a .total) _ (c .cut-of .result .fraction) (c .cut-of .result .spare) (liveIn (a .word) (a .b .places)) (l .total-is) (l .short) (l .left-is) (c .cut-of .ensures)
+
 write-each-requires-2 : tie.Need-write-each-requires-2
 write-each-requires-2 c κs =
-    let s = c .before .before .before .before .before .before .before in
-    let a = s .args in (
-      (s .pre .0 .0, omega (arith, s .pre .0 .0), λ e. omega arith),
-      rw (shares-parts (a .price) (a .amount) (a .total) _ (liveIn (a .word) (a .b .places)) (s .pre .0 .1 .total-is) (omega arith) (ap (λ (n : ℕ). a .amount - n) (c .before .parts-of .ensures))) at (s .pre .1),
-    )
+    let d = c .before in
+    let l = leaves (d .before) in
+    ((l .low, omega (arith, l .low, d .cut-of .ensures .counted), λ e. l .short), rw (fills d) at (d .before .before .before .before .before .before .before .pre .1))
 
 same-length-3 : tie.Need-same-length-3
 same-length-3 c = search needs
 
 returns-4 : tie.Need-returns-4
-returns-4 c =
-    let s = c .before .before .before .before .before .before .before .before .before .before in
-    let a = s .args in
-    rw (shares-parts (a .price) (a .amount) (a .total) _ (liveIn (a .word) (a .b .places)) (s .pre .0 .1 .total-is) (omega arith) (ap (λ (n : ℕ). a .amount - n) (c .before .before .before .before .parts-of .ensures))) (c .before .before .write-each2 .ensures)
+returns-4 c = rw (fills (c .before .before .before .before)) (c .before .before .write-each2 .ensures)
 
 pub write-shares-spec : {M : Type 1} → statement M
 write-shares-spec =
@@ -105,6 +119,7 @@ write-shares-spec =
     returns-3
     parts-of-requires
     sub-leftover
+    cut-of-requires
     write-each-requires-2
     same-length-3
     returns-4)

@@ -28,7 +28,7 @@ alone-requires c κs = search needs
 
 -- the fill of one alone
 fill : (c : tie.Then2)
-    → eachFills (c .before .before .before .before .args .price) true 0 0 (c .before .before .before .before .args .k) (inSequence (liveIn (c .before .before .before .before .args .word) (c .before .before .before .before .args .b .places)))
+    → eachFills (c .before .before .before .before .args .price) true 0 0 0 (c .before .before .before .before .args .k) (inSequence (liveIn (c .before .before .before .before .args .word) (c .before .before .before .before .args .b .places)))
     ≡ fillOf (c .before .before .before .before .args .one) (c .before .before .before .before .args .price) (min (c .before .before .before .before .args .k) (c .before .before .before .before .args .total))
 fill c =
     let s = c .before .before .before .before in

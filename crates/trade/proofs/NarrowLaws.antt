@@ -1,0 +1,266 @@
+-- The search for the cut through the fractions: places that are narrowed down by the mean.
+use mathlib.Core.Path.{_≡_, refl, sym, ap, subst, _∙_}
+use mathlib.Core.Bool.{Bool, true, false, cond, not}
+use mathlib.Core.List.{List, [], _∷_}
+use mathlib.Core.Logic.{⊎-elim}
+use Prim.Native.Nat.{ℕ, _+_, _-_, _*_, _/_, _%_, _^_, _≤_, _<_}
+use native.Mathlib.Nat.{div-add-mod', mod-lt, mul-le-mul}
+use native.Mathlib.Omega.{arith}
+use borrow.Author.Tests.{le-leb, lt-leb}
+use lib.Dec.{leb, ltb}
+use lib.ListN.{length, getD}
+use Rattle.words.specs.rules.Bits.{withBit, withoutBit, onesIn}
+use Rattle.base.specs.Lists.{keep, filter, sum}
+use Rattle.base.proofs.Numbers.{le-or-lt}
+use Rattle.base.proofs.ListLaws.{filter-length}
+use Rattle.board.specs.declared.Response.{Response}
+use Rattle.board.specs.rules.Board.{noResponse, liveIn}
+use Rattle.board.specs.inside.Places.{wordOf}
+use Rattle.board.proofs.LiveLaws.{none-live, count-live, word-filters, Sifted, sift-start, sift-step, sift-end}
+use Rattle.share.specs.rules.Share.{floors, fractions, leftover, howMany}
+use Rattle.share.specs.rules.Fills.{sizes}
+use Rattle.share.specs.inside.Cut.{Cuts}
+use Rattle.share.proofs.ShareLaws.{wholes, left-at-most}
+use Rattle.share.proofs.CutLaws.{cut-upper, cut-lower, cut-level, some-upper, upper-lower}
+use Rattle.trade.specs.declared.Among.{Among}
+use Rattle.trade.specs.declared.Upper.{Upper}
+use Rattle.trade.specs.inside.Code.{fractionsIn, Leaves, meanOf, amongOf, narrowedOf}
+use Rattle.trade.proofs.CodeLaws.{Turn, live-short}
+use Rattle.trade.proofs.StepLaws.{word-le, word-rest}
+
+-- ---- the mean of n numbers, rounded up
+
+mean-enough : (total n : ℕ) → 0 < n → total ≤ meanOf total n * n
+unfolding meanOf
+mean-enough total n h = omega (arith, div-add-mod' (total + n - 1) n, mod-lt (total + n - 1) h)
+
+mean-least : (total n : ℕ) → 0 < n → meanOf total n * n < total + n
+unfolding meanOf
+mean-least total n h = omega (arith, div-add-mod' (total + n - 1) n)
+
+-- ---- the half that has the cut
+
+pub narrowed-upper : (a : Among) (u : Upper) → a .served ≤ onesIn 64 (u .word) → amongOf (u .word) (u .sum) (a .served) ≡ narrowedOf a u
+unfolding narrowedOf
+narrowed-upper a u h = rw (le-leb (a .served) (onesIn 64 (u .word)) h)
+
+pub narrowed-lower : (a : Among) (u : Upper) → onesIn 64 (u .word) < a .served → amongOf (a .word - u .word) (a .sum - u .sum) (a .served - onesIn 64 (u .word)) ≡ narrowedOf a u
+unfolding narrowedOf
+narrowed-lower a u h = rw (lt-leb (a .served) (onesIn 64 (u .word)) h)
+
+pub among-word : (word total served : ℕ) → amongOf word total served .word ≡ word
+unfolding amongOf
+among-word word total served = refl
+
+-- ---- sums by a test
+
+sum-split : (t : ℕ → Bool) (xs : List ℕ) → sum (filter t xs) + sum (filter (λ x. not (t x)) xs) ≡ sum xs
+unfolding sum filter
+sum-split t [] = omega arith
+sum-split t (x ∷ xs) = go (t x) (sum-split t xs)
+  where
+    go : (b : Bool) → sum (filter t xs) + sum (filter (λ y. not (t y)) xs) ≡ sum xs → sum (keep b x (filter t xs)) + sum (keep (not b) x (filter (λ y. not (t y)) xs)) ≡ x + sum xs
+    go true i = omega arith
+    go false i = omega arith
+
+sum-cons : (t : ℕ → Bool) (x : ℕ) (xs : List ℕ) → sum (filter t (x ∷ xs)) ≡ cond (t x) x 0 + sum (filter t xs)
+unfolding sum filter
+sum-cons t x xs = go (t x)
+  where
+    go : (b : Bool) → sum (keep b x (filter t xs)) ≡ cond b x 0 + sum (filter t xs)
+    go true = refl
+    go false = omega arith
+
+-- ---- R over the places ps, where T is the sum of the sizes
+
+module _ (R T : ℕ) (ps : List Response) where
+  abbrev fs : ℕ → List ℕ
+  fs w = fractionsIn R T ps w
+
+  abbrev isUpper : ℕ → Response → Bool
+  isUpper mean r = leb mean (R * r .size % T)
+
+  -- places among which the cut of k over the word is looked for
+  pub record Seeks (word k : ℕ) (a : Among) : Type 0 where
+    pub fit : a .word < 2 ^ 64
+    pub sum-is : a .sum ≡ sum (fs (a .word))
+    pub low : a .sum ≤ 70368744161280
+    pub some : 0 < a .served
+    pub enough : a .served ≤ onesIn 64 (a .word)
+    pub mean-is : a .mean ≡ meanOf (a .sum) (onesIn 64 (a .word))
+    -- a cut among them is the one
+    pub leads : (c s : ℕ) → 0 < s → Cuts (a .served) (fs (a .word)) c s → Cuts k (fs word) c s
+
+  -- of these, u has the upper ones, but for those of rest, which are still to be looked at
+  pub record Looked (a : Among) (u : Upper) (rest : ℕ) : Type 0 where
+    pub fit : rest < 2 ^ 64
+    pub sifted : Sifted (isUpper (a .mean)) ps (a .word) (u .word) rest
+    pub upper : sum (filter (leb (a .mean)) (fs (a .word))) ≡ u .sum + sum (filter (leb (a .mean)) (fs rest))
+
+  -- the upper ones and the others are some each, and the half that has the cut is less than all
+  pub record Halves (word k : ℕ) (a : Among) (u : Upper) : Type 0 where
+    pub upper-in : u .word ≤ a .word
+    pub upper-low : u .sum ≤ a .sum
+    pub upper-some : 0 < onesIn 64 (u .word)
+    pub others-some : onesIn 64 (u .word) < a .served → 0 < onesIn 64 (a .word - u .word)
+    pub seeks : Seeks word k (narrowedOf a u)
+    pub less : narrowedOf a u .word < a .word
+
+module _ (R T : ℕ) (ps : List Response) (e : length ps ≡ 64) where
+  fractions-filter : (t : ℕ → Bool) (rs : List Response) → fractions R T (sizes (filter (λ r. t (R * r .size % T)) rs)) ≡ filter t (fractions R T (sizes rs))
+  unfolding filter
+  fractions-filter t [] = refl
+  fractions-filter t (r ∷ rs) = go (t (R * r .size % T)) (fractions-filter t rs)
+    where
+      go : (b : Bool) → fractions R T (sizes (filter (λ y. t (R * y .size % T)) rs)) ≡ filter t (fractions R T (sizes rs))
+          → fractions R T (sizes (keep b r (filter (λ y. t (R * y .size % T)) rs))) ≡ keep b (R * r .size % T) (filter t (fractions R T (sizes rs)))
+      go true i = ap {B = List ℕ} (λ xs. (R * r .size % T) ∷ xs) i
+      go false i = i
+
+  fractions-length : (rs : List Response) → length (fractions R T (sizes rs)) ≡ length rs
+  fractions-length [] = refl
+  fractions-length (r ∷ rs) = omega (arith, fractions-length rs)
+
+  many : (w : ℕ) → length (fs R T ps w) ≡ onesIn 64 w
+  many w = fractions-length (liveIn w ps) ∙ sym (ap (λ (n : ℕ). onesIn n w) (sym e) ∙ count-live w ps)
+
+  seeks-of : (word k w total served : ℕ) → w < 2 ^ 64 → total ≡ sum (fs R T ps w) → total ≤ 70368744161280 → 0 < served → served ≤ onesIn 64 w
+      → ((c s : ℕ) → 0 < s → Cuts served (fs R T ps w) c s → Cuts k (fs R T ps word) c s) → Seeks R T ps word k (amongOf w total served)
+  unfolding amongOf
+  seeks-of word k w total served f s l p n g = record { fit = f; sum-is = s; low = l; some = p; enough = n; mean-is = refl; leads = g }
+
+  -- all of the word, at the start
+  module _ (word k : ℕ) (p : 0 < k) (v : Leaves ps word R T k) where
+    abbrev ss : List ℕ
+    ss = sizes (liveIn word ps)
+
+    left : k ≡ leftover R ss
+    left = rw (← v .total-is) (v .left-is)
+
+    positive : 0 < sum ss
+    positive = omega (arith, v .total-is, v .short)
+
+    start-many : k ≤ onesIn 64 word
+    start-many =
+        let m : k ≤ howMany (ltb 0) (fs R T ps word) = rw (left, v .total-is) (left-at-most R ss positive) in
+        omega (arith, m, filter-length (ltb 0) (fs R T ps word), many word)
+
+    pub start-some : 0 < onesIn 64 word
+    start-some = omega (arith, start-many)
+
+    pub start-low : k * T ≤ 70368744161280
+    start-low = mul-le-mul {n₁ = k} {m₁ = T} {n₂ = 64} {m₂ = 1099511627520} (omega (arith, start-many, many word, fractions-length (liveIn word ps), live-short word ps)) (v .small)
+
+    pub seeks-start : word < 2 ^ 64 → Seeks R T ps word k (amongOf word (k * T) k)
+    seeks-start h = seeks-of word k word (k * T) k h (rw (left, v .total-is) (sym (wholes R ss positive))) start-low p start-many (λ c s _ g. g)
+
+  pub looked-start : (a : Among) (rest : ℕ) → rest ≡ a .word → rest < 2 ^ 64 → Looked R T ps a (record { word = 0; sum = 0 }) rest
+  looked-start a rest q h = rw q (record { fit = rw q at h; sifted = sift-start (isUpper R T ps (a .mean)) ps (a .word); upper = omega arith })
+
+  pub looked-step : (a : Among) (u v : Upper) (rest i x : ℕ) → Turn ps rest i → x ≡ R * getD ps i noResponse .size % T
+      → v .word ≡ cond (leb (a .mean) x) (withBit (u .word) i) (u .word) → v .sum ≡ u .sum + cond (leb (a .mean) x) x 0 → withoutBit rest i < 2 ^ 64
+      → Looked R T ps a u rest → Looked R T ps a v (withoutBit rest i)
+  looked-step a u v rest i x t q w s f l =
+      let c : fs R T ps rest ≡ x ∷ fs R T ps (withoutBit rest i) = rw q (ap (λ (rs : List Response). fractions R T (sizes rs)) (t .cons)) in
+      record {
+        fit = f;
+        sifted = rw (w, q) (sift-step (isUpper R T ps (a .mean)) ps (a .word) (u .word) rest i noResponse (omega (arith, t .low)) (t .low) (t .set) (l .sifted));
+        upper = omega (arith, l .upper, s, ap (λ (xs : List ℕ). sum (filter (leb (a .mean)) xs)) c ∙ sum-cons (leb (a .mean)) x (fs R T ps (withoutBit rest i)));
+      }
+
+  module _ (word k : ℕ) (a : Among) (seeks : Seeks R T ps word k a) where
+    mean-at-least : a .sum ≤ a .mean * length (fs R T ps (a .word))
+    mean-at-least = rw (seeks .mean-is, many (a .word)) (mean-enough (a .sum) (onesIn 64 (a .word)) (omega (arith, seeks .some, seeks .enough)))
+
+    mean-at-most : a .mean * length (fs R T ps (a .word)) < sum (fs R T ps (a .word)) + length (fs R T ps (a .word))
+    mean-at-most = rw (seeks .mean-is, many (a .word), ← seeks .sum-is) (mean-least (a .sum) (onesIn 64 (a .word)) (omega (arith, seeks .some, seeks .enough)))
+
+    -- what is upper comes to no more than all
+    pub upper-low : (u : Upper) (rest : ℕ) → Looked R T ps a u rest → u .sum ≤ a .sum
+    upper-low u rest l = omega (arith, l .upper, seeks .sum-is, sum-split (leb (a .mean)) (fs R T ps (a .word)))
+
+    all-fit : a .word < 2 ^ length ps
+    all-fit = rw e (seeks .fit)
+
+    -- where all are upper, all are at the mean, and that is the cut
+    pub cut-found : (u : Upper) (rest : ℕ) → Looked R T ps a u rest → u .word ≡ a .word → Cuts k (fs R T ps word) (a .mean) (a .served)
+    cut-found u rest l q =
+        let w : wordOf (isUpper R T ps (a .mean)) (a .word) ps ≡ a .word = omega (arith, l .sifted .total, word-le (isUpper R T ps (a .mean)) (a .word) ps all-fit) in
+        let f : filter (leb (a .mean)) (fs R T ps (a .word)) ≡ fs R T ps (a .word) =
+        sym (fractions-filter (leb (a .mean)) (liveIn (a .word) ps)) ∙ ap (λ (rs : List Response). fractions R T (sizes rs)) (sym (word-filters (isUpper R T ps (a .mean)) (a .word) ps)) ∙ ap (fs R T ps) w in
+        seeks .leads (a .mean) (a .served) (seeks .some)
+        (cut-level (a .mean) (a .served) (fs R T ps (a .word)) (ap length f) (omega (arith, mean-at-least, seeks .sum-is)) (omega (arith, many (a .word), seeks .enough)))
+
+    -- else it is in one of the halves
+    module _ (u : Upper) (l : Looked R T ps a u 0) (q : u .word ≡ a .word → ⊥) where
+      upper-word : u .word ≡ wordOf (isUpper R T ps (a .mean)) (a .word) ps
+      upper-word = sift-end (isUpper R T ps (a .mean)) ps (a .word) (u .word) (l .sifted)
+
+      uppers : fs R T ps (u .word) ≡ filter (leb (a .mean)) (fs R T ps (a .word))
+      uppers =
+          ap (fs R T ps) upper-word
+          ∙ ap (λ (rs : List Response). fractions R T (sizes rs)) (word-filters (isUpper R T ps (a .mean)) (a .word) ps)
+          ∙ fractions-filter (leb (a .mean)) (liveIn (a .word) ps)
+
+      upper-in : u .word ≤ a .word
+      upper-in = rw upper-word (word-le (isUpper R T ps (a .mean)) (a .word) ps all-fit)
+
+      others : fs R T ps (a .word - u .word) ≡ filter (λ x. not (leb (a .mean) x)) (fs R T ps (a .word))
+      others =
+          ap (λ (rs : List Response). fractions R T (sizes rs)) (word-rest (isUpper R T ps (a .mean)) (a .word) (a .word - u .word) ps all-fit (omega (arith, upper-word, upper-in)))
+          ∙ fractions-filter (λ x. not (leb (a .mean) x)) (liveIn (a .word) ps)
+
+      upper-many : onesIn 64 (u .word) ≡ howMany (leb (a .mean)) (fs R T ps (a .word))
+      upper-many = sym (many (u .word)) ∙ ap length uppers
+
+      upper-some : 0 < onesIn 64 (u .word)
+      upper-some = rw upper-many (some-upper (a .mean) (fs R T ps (a .word)) mean-at-most)
+
+      -- together they are all
+      both-many : onesIn 64 (u .word) + onesIn 64 (a .word - u .word) ≡ onesIn 64 (a .word)
+      both-many = omega (arith, upper-many, many (a .word - u .word), ap length others, upper-lower (a .mean) (fs R T ps (a .word)), many (a .word))
+
+      others-some : onesIn 64 (u .word) < a .served → 0 < onesIn 64 (a .word - u .word)
+      others-some h = omega (arith, both-many, seeks .enough)
+
+      upper-sum : u .sum ≡ sum (fs R T ps (u .word))
+      unfolding sum filter
+      upper-sum = omega (arith, l .upper, ap (λ (rs : List Response). sum (filter (leb (a .mean)) (fractions R T (sizes rs)))) (none-live ps), ap sum uppers)
+
+      others-sum : a .sum - u .sum ≡ sum (fs R T ps (a .word - u .word))
+      others-sum = omega (arith, upper-sum, ap sum uppers, ap sum others, sum-split (leb (a .mean)) (fs R T ps (a .word)), seeks .sum-is)
+
+      -- what is taken is a part of the places, and the cut is there
+      narrowed-seeks : Seeks R T ps word k (narrowedOf a u)
+      narrowed-seeks =
+          ⊎-elim
+          (λ h. rw (← narrowed-upper a u h)
+          (seeks-of word k (u .word) (u .sum) (a .served) (omega (arith, upper-in, seeks .fit)) upper-sum (omega (arith, upper-low u 0 l, seeks .low)) (seeks .some) h
+          (λ c s p g. seeks .leads c s p (cut-upper (a .mean) (a .served) c s (fs R T ps (a .word)) p (rw (← uppers) g)))))
+          (λ h. rw (← narrowed-lower a u h)
+          (seeks-of word k (a .word - u .word) (a .sum - u .sum) (a .served - onesIn 64 (u .word)) (omega (arith, seeks .fit)) others-sum (omega (arith, seeks .low)) (omega arith) (omega (arith, both-many, seeks .enough))
+          (λ c s p g. seeks .leads c s p (lower h c s p g))))
+          (le-or-lt (a .served) (onesIn 64 (u .word)))
+        where
+          lower : onesIn 64 (u .word) < a .served → (c s : ℕ) → 0 < s → Cuts (a .served - onesIn 64 (u .word)) (fs R T ps (a .word - u .word)) c s → Cuts (a .served) (fs R T ps (a .word)) c s
+          lower h c s p g =
+              let n : howMany (leb (a .mean)) (fs R T ps (a .word)) + (a .served - onesIn 64 (u .word)) ≡ a .served = omega (arith, upper-many) in
+              subst (λ (m : ℕ). Cuts m (fs R T ps (a .word)) c s) n (cut-lower (a .mean) (a .served - onesIn 64 (u .word)) c s (fs R T ps (a .word)) p (rw (← others) g))
+
+      narrowed-less : narrowedOf a u .word < a .word
+      unfolding amongOf
+      narrowed-less =
+          ⊎-elim
+          (λ h. rw (← narrowed-upper a u h) (⊎-elim (λ g. absurd (q (omega (arith, upper-in)))) (λ g. g) (le-or-lt (a .word) (u .word))))
+          (λ h. rw (← narrowed-lower a u h) (omega (arith, upper-in, not-empty)))
+          (le-or-lt (a .served) (onesIn 64 (u .word)))
+        where
+          none : (w : ℕ) → w ≡ 0 → length (liveIn w ps) ≡ 0
+          none w z = ap (λ (n : ℕ). length (liveIn n ps)) z ∙ ap length (none-live ps)
+
+          not-empty : 0 < u .word
+          not-empty =
+              ⊎-elim (λ g. g) (λ g. absurd (omega (arith, upper-some, many (u .word), fractions-length (liveIn (u .word) ps), none (u .word) (omega arith)))) (le-or-lt 1 (u .word))
+
+      pub halves : Halves R T ps word k a u
+      halves = record { upper-in = upper-in; upper-low = upper-low u 0 l; upper-some = upper-some; others-some = others-some; seeks = narrowed-seeks; less = narrowed-less }

@@ -1,0 +1,87 @@
+// Who gets the leftovers of a pro rata: the cut through the fractions of R * s / T, found by looks over the board.
+ghost use mathlib.Core.Path.{_≡_};
+ghost use mathlib.Core.Bool.{cond};
+ghost use Prim.Native.Nat.{_+_, _-_, _≤_, _<_};
+ghost use lib.Dec.{leb};
+ghost use Rattle.words.specs.rules.Bits.{onesIn, withBit};
+ghost use Rattle.share.specs.inside.Cut.{Cuts};
+ghost use Rattle.trade.specs.inside.Code.{fractionsIn, Leaves, amongOf, narrowedOf};
+use crate::Among;
+use crate::Cut;
+use crate::Upper;
+use crate::scan;
+use board::Board;
+use words::bits;
+
+// The places of the word, whose fractions come to the sum; so many of them get a leftover.
+fn among(word: u64, sum: u64, served: u64) -> Among
+    requires { ⌜ (0 < onesIn 64 word) × (sum ≤ 70368744161280) ⌝ }
+    ensures { λ r. ⌜ r ≡ amongOf word sum served ⌝ }
+{
+    let n = base::wide(bits::ones(word));
+    Among {
+        word,
+        sum,
+        served,
+        mean: (sum + n - 1) / n,
+    }
+}
+
+// With place i, which has this fraction.
+fn upper(u: Upper, mean: u64, i: usize, fraction: u64) -> Upper
+    requires { ⌜ u .sum + fraction < 18446744073709551616 ⌝ }
+    ensures { λ r. ⌜ (r .word ≡ cond (leb mean fraction) (withBit (u .word) i) (u .word)) × (r .sum ≡ u .sum + cond (leb mean fraction) fraction 0) ⌝ }
+{
+    if mean <= fraction {
+        return Upper {
+            word: bits::with_bit(u.word, i),
+            sum: u.sum + fraction,
+        };
+    }
+    u
+}
+
+// Where the cut is: among the upper ones, or among the others, where they do not do.
+fn narrowed(a: Among, u: Upper) -> Among
+    requires { ⌜ (a .sum ≤ 70368744161280) × (u .sum ≤ a .sum) × (u .word ≤ a .word) ⌝ }
+    requires { ⌜ (0 < onesIn 64 (u .word)) × (onesIn 64 (u .word) < a .served → 0 < onesIn 64 (a .word - u .word)) ⌝ }
+    ensures { λ r. ⌜ r ≡ narrowedOf a u ⌝ }
+{
+    let n = base::wide(bits::ones(u.word));
+    if a.served <= n {
+        return among(u.word, u.sum, a.served);
+    }
+    among(a.word - u.word, a.sum - u.sum, a.served - n)
+}
+
+// The cut of k leftovers over the responses of the word. A turn looks at one more place, or takes the half that has the cut; where all that are left have one fraction, that is it. All the fractions together come to k * total.
+pub(crate) fn cut_of(b: Board, word: u64, amount: u64, total: u64, k: u64) -> Cut
+    requires { ⌜ Leaves (b .places) word amount total k ⌝ }
+    ensures { λ r. ⌜ Cuts k (fractionsIn amount total (b .places) word) (r .fraction) (r .spare) ⌝ }
+{
+    if k == 0 {
+        return Cut {
+            fraction: total,
+            spare: 0,
+        };
+    }
+    let mut a = among(word, k * total, k);
+    let mut u = Upper { word: 0, sum: 0 };
+    let mut rest = word;
+    while u.word != a.word {
+        if rest != 0 {
+            let i = bits::first_set(rest) as usize;
+            let fraction = scan::fraction_of(amount, total, b.places[i].size);
+            u = upper(u, a.mean, i, fraction);
+            rest = bits::without_lowest(rest);
+            continue;
+        }
+        a = narrowed(a, u);
+        u = Upper { word: 0, sum: 0 };
+        rest = a.word;
+    }
+    Cut {
+        fraction: a.mean,
+        spare: a.served,
+    }
+}
