@@ -64,6 +64,7 @@ static int place_of(const struct peer_run *r, uint32_t seq)
  * away, 6 takes one away and adds one. */
 struct fold {
     struct peer_response live[PEER_PLACES];
+    int place[PEER_PLACES];                 /* the place that each has */
     int n;
 };
 
@@ -91,9 +92,21 @@ static int needs_place(const struct peer_auction *start, const struct peer_event
            as_buy(start, price_of(e)) <= start->init;
 }
 
+/* The lowest place that no live one has. */
+static int free_place(const struct fold *f)
+{
+    int taken[PEER_PLACES + 1] = { 0 }, k;
+
+    for (k = 0; k < f->n; k++)
+        taken[f->place[k]] = 1;
+    for (k = 0; taken[k]; k++)
+        ;
+    return k;
+}
+
 static void fold_record(struct fold *f, const struct peer_auction *start, const struct peer_event *e, int answer)
 {
-    int customer = (e->marks & PEER_CUSTOMER) != 0;
+    int customer = (e->marks & PEER_CUSTOMER) != 0, place = 0;
     struct peer_response *r;
 
     if (!applied(answer))
@@ -104,11 +117,14 @@ static void fold_record(struct fold *f, const struct peer_auction *start, const 
         if (k < 0)
             return;
         customer = f->live[k].customer;
+        place = f->place[k];
         f->n--;
         memmove(&f->live[k], &f->live[k + 1], (size_t)(f->n - k) * sizeof f->live[0]);
+        memmove(&f->place[k], &f->place[k + 1], (size_t)(f->n - k) * sizeof f->place[0]);
     }
     if ((e->kind != PEER_AMEND && !needs_place(start, e)) || f->n == PEER_PLACES)
         return;
+    f->place[f->n] = e->kind == PEER_AMEND ? place : free_place(f);
     r = &f->live[f->n++];
     r->seq = e->seq;
     r->size = size_of(e);
@@ -128,6 +144,95 @@ static uint64_t fold_total(const struct fold *f)
     for (i = 0; i < f->n; i++)
         total += f->live[i].size;
     return total;
+}
+
+static uint32_t working(const struct peer_response *r, uint32_t bound) { return r->price > bound ? r->price : bound; }
+
+/* The others at one price: how they share R contracts over their sizes, T in
+ * all. R is what they have by the fills, and is below T where they share. */
+struct shares {
+    uint32_t price;
+    struct peer_response of[PEER_PLACES];
+    int place[PEER_PLACES];
+    uint64_t got[PEER_PLACES];
+    int n;
+    uint64_t r, t, over;                    /* over: the leftovers */
+    int customers;                          /* how many stand there too */
+};
+
+static uint64_t whole_part(const struct shares *s, int i) { return s->r * s->of[i].size / s->t; }
+static uint64_t fraction(const struct shares *s, int i) { return s->r * s->of[i].size % s->t; }
+
+static struct shares shares_at(const struct peer_run *r, const struct fold *f, uint32_t price)
+{
+    struct shares s = { .price = price };
+    int i, k;
+
+    for (k = 0; k < f->n; k++) {
+        if (working(&f->live[k], peer_bound(&r->end)) != price)
+            continue;
+        if (f->live[k].customer) {
+            s.customers++;
+            continue;
+        }
+        s.of[s.n] = f->live[k];
+        s.place[s.n] = f->place[k];
+        s.t += f->live[k].size;
+        for (i = 0; i < r->n_fills; i++)
+            if (r->fill[i].party == f->live[k].seq)
+                s.got[s.n] += r->fill[i].quantity;
+        s.r += s.got[s.n++];
+    }
+    s.over = s.r;
+    for (i = 0; i < s.n; i++)
+        s.over -= whole_part(&s, i);
+    return s;
+}
+
+/* The next price of some response after a price, or 0. */
+static uint32_t next_price(const struct peer_run *r, const struct fold *f, uint32_t after)
+{
+    uint32_t next = 0;
+    int k;
+
+    for (k = 0; k < f->n; k++) {
+        uint32_t w = working(&f->live[k], peer_bound(&r->end));
+
+        if (w > after && (next == 0 || w < next))
+            next = w;
+    }
+    return next;
+}
+
+/* How many have a larger part than one of them, or an equal one and a lower sequence. */
+static uint64_t ahead_of(const struct shares *s, int i)
+{
+    uint64_t own = fraction(s, i), n = 0;
+    int j;
+
+    for (j = 0; j < s->n; j++)
+        n += fraction(s, j) > own || (fraction(s, j) == own && s->of[j].seq < s->of[i].seq);
+    return n;
+}
+
+/* What Contra has at prices below one. */
+static uint64_t contra_below(const struct peer_run *r, uint32_t price)
+{
+    uint64_t sum = 0;
+    int i;
+
+    for (i = 0; i < r->n_fills; i++)
+        if (r->fill[i].party == 0 && as_buy(&r->end, r->fill[i].price) < price)
+            sum += r->fill[i].quantity;
+    return sum;
+}
+
+/* G, apart from the engine's. */
+static uint32_t guarantee_of(uint32_t size, int n_live)
+{
+    uint32_t g = size * (n_live == 1 ? 5 : 4) / 10;
+
+    return g > 0 ? g : 1;
 }
 
 /* ------------------------------------------------------------------ */
@@ -329,6 +434,112 @@ static void count_watches(long cell[WATCHES][COLUMNS], int column, const struct 
     cell[WATCH_GREATEST][column] += greatest;
 }
 
+/* What comes up where others share fewer contracts than their sizes. The last
+ * two can't come up in every mode. */
+enum share {
+    SHARE_LEFT, SHARE_EVEN, SHARE_ALONE, SHARE_LATER, SHARE_SMALLER, SHARE_CUT, SHARE_CUT_SIZES, SHARE_CUT_AMENDED,
+    SHARE_CUT_AGAIN, SHARE_ZERO, SHARE_ZERO_FIRST, SHARE_SHORT, SHARE_FEW, SHARE_MANY, SHARE_WHOLE, SHARE_CUSTOMERS,
+    SHARE_PAST, SHARE_UNDER, SHARE_MARKET, SHARE_ENDS, SHARE_CONTRA, SHARE_BELOW, SHARE_HELD, SHARES
+};
+
+static const char *const share_name[SHARES] = {
+    "leftovers", "shares, no leftovers", "one shares alone", "leftover, later one", "leftover, smaller size",
+    "equal parts cut", "cut, unequal sizes", "cut, amended in place", "cut, place taken again", "part of 0",
+    "part of 0, earlier", "T is R + 1", "R below the members", "40 members or more", "member above CUBE size",
+    "Customers beside", "R x s past 32 bits", "member under the bound", "after a market order", "member that ends it",
+    "leftovers with Contra", "leftovers below stop", "leftovers, G held"
+};
+
+/* Counts two members of whom only the first has a leftover. The equal parts
+ * are cut between them if theirs are equal; then the second may stand before
+ * the first, since it was amended or came to a place that was free again. */
+static void see_pair(int *seen, const struct peer_run *r, const unsigned char *events, const struct shares *s,
+                     int i, int j)
+{
+    const struct peer_response *with = &s->of[i], *without = &s->of[j];
+    uint64_t earlier = 0;
+    int k;
+
+    seen[SHARE_LATER] |= with->seq > without->seq;
+    seen[SHARE_SMALLER] |= with->size < without->size;
+    if (fraction(s, j) == 0) {
+        for (k = 0; k < s->n; k++)
+            earlier += s->of[k].seq < without->seq;
+        seen[SHARE_ZERO] = 1;
+        seen[SHARE_ZERO_FIRST] |= earlier < s->over;
+    }
+    if (fraction(s, i) != fraction(s, j))
+        return;
+    seen[SHARE_CUT] = 1;
+    seen[SHARE_CUT_SIZES] |= with->size != without->size;
+    if (s->place[j] < s->place[i]) {
+        int amended = record(events, place_of(r, without->seq)).kind == PEER_AMEND;
+
+        seen[amended ? SHARE_CUT_AMENDED : SHARE_CUT_AGAIN] = 1;
+    }
+}
+
+static void see_member(int *seen, const struct peer_run *r, const struct shares *s, int i)
+{
+    const struct peer_response *m = &s->of[i];
+
+    seen[SHARE_WHOLE] |= m->size > r->end.order.size;
+    seen[SHARE_PAST] |= s->r * m->size > UINT32_MAX;
+    seen[SHARE_UNDER] |= m->price < s->price;
+    seen[SHARE_ENDS] |= r->event[place_of(r, m->seq)].answer == PEER_ENDED;
+}
+
+static void see_share(int *seen, const struct peer_run *r, const unsigned char *events, const struct shares *s,
+                      int n_live)
+{
+    uint64_t held = contra_below(r, s->price);
+    int more[PEER_PLACES], i, j;
+
+    seen[SHARE_ALONE] = s->n == 1;
+    seen[SHARE_EVEN] = s->n > 1 && s->over == 0;
+    if (s->over == 0)
+        return;
+    for (i = 0; i < s->n; i++)
+        more[i] = s->got[i] > whole_part(s, i);
+    for (i = 0; i < s->n; i++) {
+        see_member(seen, r, s, i);
+        for (j = 0; j < s->n; j++)
+            if (more[i] && !more[j])
+                see_pair(seen, r, events, s, i, j);
+    }
+    seen[SHARE_LEFT] = 1;
+    seen[SHARE_SHORT] = s->r + 1 == s->t;
+    seen[SHARE_FEW] = s->r < (uint64_t)s->n;
+    seen[SHARE_MANY] = s->n >= 40;
+    seen[SHARE_CUSTOMERS] = s->customers > 0;
+    seen[SHARE_MARKET] = r->end.market_size > 0;
+    seen[SHARE_CONTRA] = contra_below(r, s->price + 1) > held;
+    seen[SHARE_BELOW] = s->price < r->end.order.stop;
+    seen[SHARE_HELD] = held >= guarantee_of(r->end.order.size, n_live);
+}
+
+static void count_shares(long cell[SHARES][COLUMNS], int column, const struct peer_run *r, const unsigned char *events)
+{
+    struct fold f = { .n = 0 };
+    uint32_t price = 0;
+    int i;
+
+    for (i = 0; i < r->n_events; i++) {
+        struct peer_event e = record(events, i);
+
+        fold_record(&f, &r->start, &e, r->event[i].answer);
+    }
+    while ((price = next_price(r, &f, price)) != 0) {
+        struct shares s = shares_at(r, &f, price);
+        int seen[SHARES] = { 0 };
+
+        if (s.r > 0 && s.r < s.t)
+            see_share(seen, r, events, &s, f.n);
+        for (i = 0; i < SHARES; i++)
+            cell[i][column] += seen[i];
+    }
+}
+
 /* Which kind of ending a run had. */
 static int cause_of(const struct peer_run *r, const unsigned char *events)
 {
@@ -400,7 +611,7 @@ int stats(const char *dir)
     static unsigned char tape[PEER_TAPE_MAX + 1];
     static struct peer_run r;
     static long number[NUMBERS][COLUMNS], ending[CAUSES][COLUMNS], amend[AMENDS][COLUMNS],
-                watch[WATCHES][COLUMNS];
+                watch[WATCHES][COLUMNS], share[SHARES][COLUMNS];
     static long full_end[COLUMNS], only_one[COLUMNS], none[COLUMNS], many_prices[COLUMNS];
     static const int bucket_low[] = { 1, 2, 3, 4, 6, 10, 20, 40, 64, 100, 129, 130 };
     enum { BUCKETS = sizeof bucket_low / sizeof bucket_low[0] };
@@ -437,6 +648,7 @@ int stats(const char *dir)
         ending[cause_of(&r, tape + at + PEER_ORDER_BYTES)][column]++;
         count_amends(amend, column, &r, tape + at + PEER_ORDER_BYTES);
         count_watches(watch, column, &r, tape + at + PEER_ORDER_BYTES);
+        count_shares(share, column, &r, tape + at + PEER_ORDER_BYTES);
         full_end[column] += r.end.n_live == PEER_PLACES;
         only_one[column] += r.end.n_live == 1;
         none[column] += r.end.n_live == 0;
@@ -462,6 +674,7 @@ int stats(const char *dir)
     print_rows(cause_name, ending, CAUSES);
     print_rows(amend_name, amend, AMENDS);
     print_rows(watch_name, watch, WATCHES);
+    print_rows(share_name, share, SHARES);
     print_row("64 live at the end", full_end);
     print_row("one live at the end", only_one);
     print_row("none live at the end", none);
@@ -486,6 +699,9 @@ int stats(const char *dir)
     missing += print_rows_missing(cause_name, ending, CAUSES);
     missing += print_rows_missing(amend_name, amend, AMENDS);
     missing += print_rows_missing(watch_name, watch, WATCHES);
+    missing += print_rows_missing(share_name, share, SHARE_BELOW);
+    missing += print_missing(share_name[SHARE_BELOW], share[SHARE_BELOW], PEER_MATCH);
+    missing += print_missing(share_name[SHARE_HELD], share[SHARE_HELD], PEER_STOP);
     missing += print_missing("64 live at the end", full_end, 0);
     printf(missing ? "%ld cells missing\n" : "nothing missing\n", missing);
     return missing != 0;
@@ -502,8 +718,6 @@ static void fault(const char *what)
     printf("tape %05ld: %s\n", current, what);
 }
 
-static uint32_t working(const struct peer_response *r, uint32_t bound) { return r->price > bound ? r->price : bound; }
-
 /* What must hold of the fills, said without walking the prices; the live
  * responses are those that the records tell. */
 static void check_fills(const struct peer_run *r, const struct fold *told)
@@ -513,13 +727,11 @@ static void check_fills(const struct peer_run *r, const struct fold *told)
     int n_live = told->n;
     uint32_t bound = peer_bound(a), stop = a->order.stop > bound ? a->order.stop : bound;
     uint32_t got[PEER_PLACES] = { 0 }, contra = 0, market = 0, top = 0;
-    uint32_t guarantee = a->order.size * (n_live == 1 ? 5 : 4) / 10;
+    uint32_t guarantee = guarantee_of(a->order.size, n_live);
     uint64_t total = 0;
     int customer_of[PEER_FILLS_MAX], walked_others_at_top = 0;
     int i, j, k;
 
-    if (guarantee == 0)
-        guarantee = 1;
     if (r->n_fills > PEER_FILLS_MAX || r->n_fills < 1) {
         fault("count of fills");
         return;
@@ -591,10 +803,6 @@ static void check_fills(const struct peer_run *r, const struct fold *told)
             if (live[k].customer && live[j].customer && live[k].seq < live[j].seq && got[j] > 0 &&
                 got[k] < live[k].size)
                 fault("Customers out of sequence");
-            /* pro rata: a larger or equal size that is earlier gets no less */
-            if (!live[k].customer && !live[j].customer && live[k].size >= live[j].size &&
-                live[k].seq < live[j].seq && got[k] < got[j])
-                fault("shares out of proportion");
         }
         if (!live[k].customer && got[k] > 0 && w == top)
             walked_others_at_top = 1;
@@ -614,6 +822,27 @@ static void check_fills(const struct peer_run *r, const struct fold *told)
 
         if (p > q || (p == q && (x > y || (x == y && f->party >= g->party))))
             fault("fills out of order");
+    }
+}
+
+/* Pro rata, told by rank: each has its whole part, and one more where fewer
+ * are ahead of it than there are leftovers. */
+static void check_shares(const struct peer_run *r, const struct fold *told)
+{
+    uint32_t price = 0;
+    int i;
+
+    while ((price = next_price(r, told, price)) != 0) {
+        struct shares s = shares_at(r, told, price);
+        uint64_t held = contra_below(r, price + 1);
+
+        if (s.r == s.t)
+            continue;
+        for (i = 0; i < s.n; i++)
+            if (s.got[i] != whole_part(&s, i) + (ahead_of(&s, i) < s.over))
+                fault("not its share");
+        if (held > contra_below(r, price) && held > guarantee_of(r->end.order.size, told->n))
+            fault("Contra has more than its guarantee, and others go short");
     }
 }
 
@@ -854,6 +1083,7 @@ int check(const char *dir)
         check_watch(&r, tape + at + PEER_ORDER_BYTES);
         check_live(&r.end, &told);
         check_fills(&r, &told);
+        check_shares(&r, &told);
         check_parties(&r, tape + at + PEER_ORDER_BYTES);
         check_mirror(&r, tape, at);
     }

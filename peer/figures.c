@@ -1,6 +1,7 @@
 /* figures.c: the document's figures a to k and its listing, on both sides,
- * and other listings worked out by hand from its sentences and from W-201;
- * and for W-202 tables of records with what is on offer after each.
+ * with case b as W-203 has it; other listings worked out by hand from its
+ * sentences, from W-201 and from W-203; and for W-202 tables of records with
+ * what is on offer after each.
  *
  * Each case is one tape, and the listing that the document's words give it.
  * Its mirror is made here, apart from the engine, and checked as well.
@@ -96,6 +97,8 @@ static void figure(const char *name, struct peer_order o, const struct peer_even
 #define SELL_GTX(seq, size, price) build_gtx(seq, 20, PEER_SELL, size, price, 0)
 #define BID(seq, size, price) build_limit(seq, 20, PEER_BUY, size, price, 0)
 #define AMEND(seq, which, size, price) build_amend(seq, 20, which, size, price)
+#define SELL(seq, size, price) build_limit(seq, 20, PEER_SELL, size, price, 0)
+#define CANCEL(seq, which) build_cancel(seq, 20, which)
 
 /* The document's figures. */
 static void figures(void)
@@ -112,6 +115,7 @@ static void figures(void)
            "END time range 100 to 110\n"
            "FILL 1 105 30\nFILL contra 108 40\nFILL 2 108 18\nFILL 3 108 12\nTOTAL 100\n");
 
+    /* 60 over 91: 1,860 is 20 times 91 and 40, 1,800 is 19 times 91 and 71. */
     e[0] = SELL_GTX(1, 31, 108);
     e[1] = SELL_GTX(2, 30, 108);
     e[2] = SELL_GTX(3, 30, 108);
@@ -119,7 +123,7 @@ static void figures(void)
            "AUCTION buy size 100 range 100 to 110\n"
            "EVENT 1 taken\nEVENT 2 taken\nEVENT 3 taken\n"
            "END time range 100 to 110\n"
-           "FILL contra 108 40\nFILL 1 108 21\nFILL 2 108 20\nFILL 3 108 19\nTOTAL 100\n");
+           "FILL contra 108 40\nFILL 1 108 20\nFILL 2 108 20\nFILL 3 108 20\nTOTAL 100\n");
 
     e[0] = SELL_GTX(1, 3, 105);
     e[1] = SELL_GTX(1, 3, 105);
@@ -462,28 +466,29 @@ static void amends(void)
            "END time range 100 to 110\n"
            "FILL 2 108 30\nFILL contra 108 40\nFILL 3 108 30\nTOTAL 100\n");
 
-    /* Case b, then its first response amended to what it was: whole parts
-     * 19, 19, 20 of 60, and the two leftovers go to sequences 2 and 3. */
-    e[0] = SELL_GTX(1, 31, 108);
+    /* 61 over three of 30, 90 in all: 1,830 is 20 times 90 and 30, so there is
+     * one leftover and the parts are equal. It goes to sequence 2; with the old
+     * rank it would be the amended one's. */
+    e[0] = SELL_GTX(1, 30, 108);
     e[1] = SELL_GTX(2, 30, 108);
     e[2] = SELL_GTX(3, 30, 108);
-    e[3] = AMEND(4, 1, 31, 108);
-    figure("leftovers go by the amend's sequence", buy(100, 1, 110, 108), e, 4,
-           "AUCTION buy size 100 range 100 to 110\n"
+    e[3] = AMEND(4, 1, 30, 108);
+    figure("leftovers go by the amend's sequence", buy(101, 1, 110, 108), e, 4,
+           "AUCTION buy size 101 range 100 to 110\n"
            "EVENT 1 taken\nEVENT 2 taken\nEVENT 3 taken\nEVENT 4 taken\n"
            "END time range 100 to 110\n"
-           "FILL contra 108 40\nFILL 2 108 20\nFILL 3 108 20\nFILL 4 108 20\nTOTAL 100\n");
+           "FILL contra 108 40\nFILL 2 108 21\nFILL 3 108 20\nFILL 4 108 20\nTOTAL 101\n");
 
-    /* 60 over 40 and 41: 29 and 30, and the leftover goes to sequence 2. With
-     * the old rank it would be 29 and 31. */
+    /* 61 over 40 and 40: 30 and 30, equal parts, and the leftover goes to
+     * sequence 2. With the old rank it would be 30 and 31. */
     e[0] = SELL_GTX(1, 50, 108);
     e[1] = SELL_GTX(2, 40, 108);
-    e[2] = AMEND(3, 1, 41, 108);
-    figure("a smaller size loses its rank too", buy(100, 1, 110, 108), e, 3,
-           "AUCTION buy size 100 range 100 to 110\n"
+    e[2] = AMEND(3, 1, 40, 108);
+    figure("a smaller size loses its rank too", buy(101, 1, 110, 108), e, 3,
+           "AUCTION buy size 101 range 100 to 110\n"
            "EVENT 1 taken\nEVENT 2 taken\nEVENT 3 taken\n"
            "END time range 100 to 110\n"
-           "FILL contra 108 40\nFILL 2 108 30\nFILL 3 108 30\nTOTAL 100\n");
+           "FILL contra 108 40\nFILL 2 108 31\nFILL 3 108 30\nTOTAL 101\n");
 
     /* Customers by sequence: 60 to 2, and the 40 left to 3, once 1. */
     e[0] = build_gtx(1, 20, PEER_SELL, 60, 105, PEER_CUSTOMER);
@@ -664,6 +669,214 @@ static void amends(void)
     figure("the form of an amend", buy(100, 1, 110, 108), e, 14, text);
 }
 
+/* A figure whose events are all taken, and that ends by time in the range of
+ * the start: the wanted fills. */
+static void shares(const char *name, struct peer_order o, const char *fills, const struct peer_event *e, size_t n)
+{
+    const char *range = o.size < 50 ? "range 101 to 109" : "range 100 to 110";
+    char text[4096], *p = text;
+    size_t i;
+
+    p += sprintf(p, "AUCTION buy size %lu %s\n", (unsigned long)o.size, range);
+    for (i = 0; i < n; i++)
+        p += sprintf(p, "EVENT %lu taken\n", (unsigned long)e[i].seq);
+    sprintf(p, "END time %s\n%sTOTAL %lu\n", range, fills, (unsigned long)o.size);
+    figure(name, o, e, (int)n, text);
+}
+
+#define SHARES(name, order, fills, ...) \
+    shares(name, order, fills, (const struct peer_event[]){ __VA_ARGS__ }, \
+           sizeof((const struct peer_event[]){ __VA_ARGS__ }) / sizeof(struct peer_event))
+#define CUSTOMER_GTX(seq, size, price) build_gtx(seq, 20, PEER_SELL, size, price, PEER_CUSTOMER)
+
+/* W-203, worked out by hand: R x s = whole x T + part is told for each size.
+ * Where all responses to a buy of 100 stand at one price with Contra, R is 60. */
+static void leftovers_by_part(void)
+{
+    /* 60 x 25 = 20 x 73 + 40, twice; 60 x 23 = 18 x 73 + 66. Two leftovers: one
+     * to the last, one to the first. */
+    SHARES("the larger part, then the first of two equals", buy(100, 1, 110, 108),
+           "FILL contra 108 40\nFILL 1 108 21\nFILL 2 108 20\nFILL 3 108 19\n",
+           SELL_GTX(1, 25, 108), SELL_GTX(2, 25, 108), SELL_GTX(3, 23, 108));
+
+    /* 60 x 44 = 41 x 64 + 16; 60 x 20 = 18 x 64 + 48. */
+    SHARES("the larger part at the smaller size", buy(100, 1, 110, 108),
+           "FILL contra 108 40\nFILL 1 108 41\nFILL 2 108 19\n",
+           SELL_GTX(1, 44, 108), SELL_GTX(2, 20, 108));
+
+    /* R is 60,000 and T 119,999. 60,000 x 39,999 = 19,999 x T + 79,999, twice;
+     * 60,000 x 40,001 = 20,000 x T + 80,000. */
+    SHARES("parts that are close to each other", buy(PEER_SIZE_MAX, 1, 110, 108),
+           "FILL contra 108 40000\nFILL 1 108 20000\nFILL 2 108 19999\nFILL 3 108 20001\n",
+           SELL_GTX(1, 39999, 108), SELL_GTX(2, 39999, 108), SELL_GTX(3, 40001, 108));
+
+    /* 60 x 40 = 20 x 120; 60 x 39 = 19 x 120 + 60; 60 x 41 = 20 x 120 + 60. One
+     * leftover, and the first has a part of 0; of the equal parts the lower
+     * sequence has the smaller size. */
+    SHARES("a part of 0 first, then equal parts of unequal sizes", buy(100, 1, 110, 108),
+           "FILL contra 108 40\nFILL 1 108 20\nFILL 2 108 20\nFILL 3 108 20\n",
+           SELL_GTX(1, 40, 108), SELL_GTX(2, 39, 108), SELL_GTX(3, 41, 108));
+
+    /* 60 x 20 = 10 x 120, twice; 60 x 41 and 60 x 39 as before. */
+    SHARES("two parts of 0", buy(100, 1, 110, 108),
+           "FILL contra 108 40\nFILL 1 108 10\nFILL 2 108 10\nFILL 3 108 21\nFILL 4 108 19\n",
+           SELL_GTX(1, 20, 108), SELL_GTX(2, 20, 108), SELL_GTX(3, 41, 108), SELL_GTX(4, 39, 108));
+
+    /* Of T = R + 1 all but one have their size. 60 x 30 = 29 x 61 + 31;
+     * 60 x 20 = 19 x 61 + 41; 60 x 11 = 10 x 61 + 50. */
+    SHARES("one contract short", buy(100, 1, 110, 108),
+           "FILL contra 108 40\nFILL 1 108 29\nFILL 2 108 20\nFILL 3 108 11\n",
+           SELL_GTX(1, 30, 108), SELL_GTX(2, 20, 108), SELL_GTX(3, 11, 108));
+    /* 60 x 25 = 24 x 61 + 36, twice. */
+    SHARES("one contract short of two equals", buy(100, 1, 110, 108),
+           "FILL contra 108 40\nFILL 1 108 25\nFILL 2 108 24\nFILL 3 108 11\n",
+           SELL_GTX(1, 25, 108), SELL_GTX(2, 25, 108), SELL_GTX(3, 11, 108));
+
+    /* It has all of R, whatever its size: two live, so Contra has 40. */
+    SHARES("one alone", buy(100, 1, 110, 108),
+           "FILL contra 108 40\nFILL 1 108 60\n",
+           SELL_GTX(1, 61, 108), SELL_GTX(2, 5, 109));
+
+    /* G is 2 and R is 3: 3 x 1 = 0 x 7 + 3, twice; 3 x 2 = 0 x 7 + 6;
+     * 3 x 3 = 1 x 7 + 2. Two leftovers. */
+    SHARES("fewer contracts than members", buy(5, 1, 110, 105),
+           "FILL contra 105 2\nFILL 1 105 1\nFILL 3 105 1\nFILL 4 105 1\n",
+           SELL_GTX(1, 1, 105), SELL_GTX(2, 1, 105), SELL_GTX(3, 2, 105), SELL_GTX(4, 3, 105));
+    /* G is 1 and R is 1: the parts are 1, 2 and 2 of 5. */
+    SHARES("one contract to share", buy(2, 1, 110, 105),
+           "FILL contra 105 1\nFILL 2 105 1\n",
+           SELL_GTX(1, 1, 105), SELL_GTX(2, 2, 105), SELL_GTX(3, 2, 105));
+
+    /* G is 4 and R is 6: 6 x 10 = 1 x 45 + 15; 6 x 35 = 4 x 45 + 30. Capped at
+     * 10 the limit order would have 3 of the 6. */
+    SHARES("a limit order shares by its whole size", buy(10, 1, 110, 105),
+           "FILL contra 105 4\nFILL 1 105 1\nFILL 2 105 5\n",
+           SELL_GTX(1, 10, 105), SELL(2, 35, 105));
+
+    /* The Customer's 20, Contra's 40, and R is 40: 40 x 25 = 18 x 55 + 10;
+     * 40 x 30 = 21 x 55 + 45. With the Customer in T they would be 13 and 16. */
+    SHARES("Customers are not counted in T", buy(100, 1, 110, 108),
+           "FILL 1 108 20\nFILL contra 108 40\nFILL 2 108 18\nFILL 3 108 22\n",
+           CUSTOMER_GTX(1, 20, 108), SELL_GTX(2, 25, 108), SELL_GTX(3, 30, 108));
+    SHARES("nor is a later Customer", buy(100, 1, 110, 108),
+           "FILL 3 108 20\nFILL contra 108 40\nFILL 1 108 22\nFILL 2 108 18\n",
+           SELL_GTX(1, 30, 108), SELL_GTX(2, 25, 108), CUSTOMER_GTX(3, 20, 108));
+
+    /* R is 60,000 and T 299,997. 6,000,000,000 = 20,000 x T + 60,000;
+     * 5,999,940,000 = 20,000 x T; 5,999,880,000 = 19,999 x T + 239,997. */
+    SHARES("products past 32 bits", buy(PEER_SIZE_MAX, 1, 110, 108),
+           "FILL contra 108 40000\nFILL 1 108 20000\nFILL 2 108 20000\nFILL 3 108 20000\n",
+           SELL_GTX(1, 100000, 108), SELL_GTX(2, 99999, 108), SELL_GTX(3, 99998, 108));
+}
+
+/* W-203: equal parts go by sequence. Of 60 over seven of 10 each has 8, since
+ * 60 x 10 = 8 x 70 + 40, and there are four leftovers. */
+static void leftovers_of_equals(void)
+{
+#define SEVEN SELL_GTX(1, 10, 108), SELL_GTX(2, 10, 108), SELL_GTX(3, 10, 108), SELL_GTX(4, 10, 108), \
+              SELL_GTX(5, 10, 108), SELL_GTX(6, 10, 108), SELL_GTX(7, 10, 108)
+    struct peer_event e[100];
+    char text[4096], *p;
+    int i;
+
+    SHARES("four of seven equals", buy(100, 1, 110, 108),
+           "FILL contra 108 40\nFILL 1 108 9\nFILL 2 108 9\nFILL 3 108 9\nFILL 4 108 9\n"
+           "FILL 5 108 8\nFILL 6 108 8\nFILL 7 108 8\n",
+           SEVEN);
+    /* 8 and 9 stand where 1 and 3 stood, and are last. */
+    SHARES("equals, two of them amended", buy(100, 1, 110, 108),
+           "FILL contra 108 40\nFILL 2 108 9\nFILL 4 108 9\nFILL 5 108 9\nFILL 6 108 9\n"
+           "FILL 7 108 8\nFILL 8 108 8\nFILL 9 108 8\n",
+           SEVEN, AMEND(8, 1, 10, 108), AMEND(9, 3, 10, 108));
+    /* 9 takes the place of 2, and is last. */
+    SHARES("equals, a place taken again", buy(100, 1, 110, 108),
+           "FILL contra 108 40\nFILL 1 108 9\nFILL 3 108 9\nFILL 4 108 9\nFILL 5 108 9\n"
+           "FILL 6 108 8\nFILL 7 108 8\nFILL 9 108 8\n",
+           SEVEN, CANCEL(8, 2), SELL_GTX(9, 10, 108));
+#undef SEVEN
+
+    /* R is 61: 61 x 30 = 20 x 90 + 30, three times. */
+    SHARES("equals of the greatest sequences", buy(101, 1, 110, 108),
+           "FILL contra 108 40\nFILL 5 108 21\nFILL 4294967294 108 20\nFILL 4294967295 108 20\n",
+           SELL_GTX(5, 30, 108), SELL_GTX(UINT32_MAX - 1, 30, 108), SELL_GTX(UINT32_MAX, 30, 108));
+
+    /* 60 over 64 of 1: the parts are all 60 of 64, and the last four by
+     * sequence get none: 63, 64, and those in the places of 1 and 2. */
+    p = full_board(e, text);
+    e[64] = AMEND(65, 1, 1, 109);
+    e[65] = CANCEL(66, 2);
+    e[66] = SELL_GTX(67, 1, 109);
+    p += sprintf(p, "EVENT 65 taken\nEVENT 66 taken\nEVENT 67 taken\nEND time range 100 to 110\nFILL contra 109 40\n");
+    for (i = 3; i <= 62; i++)
+        p += sprintf(p, "FILL %d 109 1\n", i);
+    sprintf(p, "TOTAL 100\n");
+    figure("64 equals", buy(100, 1, 110, 109), e, 67, text);
+}
+
+/* W-203 wherever others share. */
+static void leftovers_by_mode(void)
+{
+    struct peer_event e[3];
+
+    /* R is 100: 100 x 50 = 33 x 151 + 17; 100 x 41 = 27 x 151 + 23;
+     * 100 x 60 = 39 x 151 + 111. */
+    SHARES("below the stop", buy(100, 1, 110, 108),
+           "FILL 1 105 33\nFILL 2 105 27\nFILL 3 105 40\n",
+           SELL_GTX(1, 50, 105), SELL_GTX(2, 41, 105), SELL_GTX(3, 60, 105));
+    SHARES("at the bound, from prices below it", buy(100, 1, 110, 108),
+           "FILL 1 100 33\nFILL 2 100 27\nFILL 3 100 40\n",
+           SELL_GTX(1, 50, 100), SELL_GTX(2, 41, 95), SELL_GTX(3, 60, 98));
+
+    /* 10 and 10 at 103. Of 80 left Contra lacks 30, and R is 50:
+     * 50 x 33 = 24 x 67 + 42; 50 x 25 = 18 x 67 + 44; 50 x 9 = 6 x 67 + 48. */
+    SHARES("clean-up in mode 2", buy(100, 2, 110, 0),
+           "FILL contra 103 10\nFILL 1 103 10\nFILL contra 105 30\nFILL 2 105 24\nFILL 3 105 19\nFILL 4 105 7\n",
+           SELL_GTX(1, 10, 103), SELL_GTX(2, 33, 105), SELL_GTX(3, 25, 105), SELL_GTX(4, 9, 105));
+    /* 40 and 40 at 103. Of 20 left Contra lacks nothing: 20 x 12 = 10 x 24;
+     * 20 x 7 = 5 x 24 + 20; 20 x 5 = 4 x 24 + 4. */
+    SHARES("clean-up in mode 2, Contra holding G", buy(100, 2, 110, 0),
+           "FILL contra 103 40\nFILL 1 103 40\nFILL 2 105 10\nFILL 3 105 6\nFILL 4 105 4\n",
+           SELL_GTX(1, 40, 103), SELL_GTX(2, 12, 105), SELL_GTX(3, 7, 105), SELL_GTX(4, 5, 105));
+    /* G is 4 and R is 6: 6 x 4 = 2 x 11 + 2, twice; 6 x 3 = 1 x 11 + 7. */
+    SHARES("clean-up at the initiating price in mode 2", buy(10, 2, 110, 0),
+           "FILL contra 109 4\nFILL 1 109 2\nFILL 2 109 2\nFILL 3 109 2\n",
+           SELL_GTX(1, 4, 109), SELL_GTX(2, 4, 109), SELL_GTX(3, 3, 109));
+
+    /* R is 100: 100 x 60 = 46 x 130 + 20; 100 x 70 = 53 x 130 + 110. */
+    SHARES("below the auto-match limit", buy(100, 3, 110, 105),
+           "FILL 1 103 46\nFILL 2 103 54\n",
+           SELL_GTX(1, 60, 103), SELL_GTX(2, 70, 103));
+    /* 10 at 101. Of 90 left Contra has 40: 50 x 26 = 16 x 78 + 52, three times. */
+    SHARES("clean-up in mode 3, Contra short of G", buy(100, 3, 110, 103),
+           "FILL 1 101 10\nFILL contra 104 40\nFILL 2 104 17\nFILL 3 104 17\nFILL 4 104 16\n",
+           SELL_GTX(1, 10, 101), SELL_GTX(2, 26, 104), SELL_GTX(3, 26, 104), SELL_GTX(4, 26, 104));
+    /* 80 and 80 at 104, and 40 left: 40 x 21 = 13 x 64 + 8; 40 x 13 = 8 x 64 + 8;
+     * 40 x 30 = 18 x 64 + 48. */
+    SHARES("clean-up in mode 3, Contra holding G", buy(200, 3, 110, 103),
+           "FILL contra 104 80\nFILL 1 104 80\nFILL 2 106 13\nFILL 3 106 8\nFILL 4 106 19\n",
+           SELL_GTX(1, 80, 104), SELL_GTX(2, 21, 106), SELL_GTX(3, 13, 106), SELL_GTX(4, 30, 106));
+
+    /* The market order's 13, Contra's 40, and R is 47: 47 x 30 = 20 x 70 + 10;
+     * 47 x 40 = 26 x 70 + 60. */
+    e[0] = SELL_GTX(1, 30, 108);
+    e[1] = SELL_GTX(2, 40, 108);
+    e[2] = build_market(3, 20, PEER_SELL, 13, 0);
+    figure("after a market order", buy(100, 1, 110, 108), e, 3,
+           "AUCTION buy size 100 range 100 to 110\n"
+           "EVENT 1 taken\nEVENT 2 taken\nEVENT 3 ended\n"
+           "END opposite range 100 to 110\n"
+           "FILL 3 108 13\nFILL contra 108 40\nFILL 1 108 20\nFILL 2 108 27\nTOTAL 100\n");
+
+    /* 60 x 31 = 24 x 76 + 36; 60 x 45 = 35 x 76 + 40. */
+    e[0] = SELL_GTX(1, 31, 100);
+    e[1] = SELL(2, 45, 100);
+    figure("with the limit order that ends it", buy(100, 1, 110, 100), e, 2,
+           "AUCTION buy size 100 range 100 to 110\n"
+           "EVENT 1 taken\nEVENT 2 ended\n"
+           "END opposite range 100 to 110\n"
+           "FILL contra 100 40\nFILL 1 100 24\nFILL 2 100 36\nTOTAL 100\n");
+}
+
 /* One record, what is said of it, and what is on offer after it. */
 struct step {
     struct peer_event e;
@@ -705,8 +918,6 @@ static void watch(const char *name, struct peer_order o, const struct step *s, s
 #define WATCH(name, order, ...) \
     watch(name, order, (const struct step[]){ __VA_ARGS__ }, \
           sizeof((const struct step[]){ __VA_ARGS__ }) / sizeof(struct step))
-#define SELL(seq, size, price) build_limit(seq, 20, PEER_SELL, size, price, 0)
-#define CANCEL(seq, which) build_cancel(seq, 20, which)
 
 /* The document's figures that have events, with what is on offer. */
 static void watched_figures(void)
@@ -1053,6 +1264,9 @@ int main(int argc, char **argv)
     readings();
     amends();
     amend_bytes();
+    leftovers_by_part();
+    leftovers_of_equals();
+    leftovers_by_mode();
     watched_figures();
     watched_moves();
     watched_endings();

@@ -341,8 +341,12 @@ static void damage_order(unsigned char *p, uint32_t k)
 /* What a tape is to look like. */
 enum plan_body {
     BODY_NONE, BODY_ONE, BODY_SHARE, BODY_LEVELS, BODY_FULL, BODY_BOUND, BODY_MIX, BODY_DAMAGED, BODY_LONG,
+    BODY_EQUAL, BODY_BY_ONE, BODY_SHORT, BODY_HALVES, BODY_ZERO, BODY_MANY, BODY_WHOLE,
+    BODY_BIG,                               /* these eight for the leftovers of a share */
     BODY_CAPPED, BODY_LARGE, BODY_GREATEST  /* these three for the contracts on offer */
 };
+
+enum { LEFTOVER_BODIES = BODY_BIG - BODY_EQUAL + 1, OFFER_BODIES = BODY_GREATEST - BODY_CAPPED + 1 };
 
 enum plan_ending {
     END_LATE, END_CLOSE, END_SAME_LIMIT, END_SAME_MARKET, END_OPP_LIMIT, END_OPP_MARKET,
@@ -451,6 +455,14 @@ static uint32_t edge_price(struct draft *d)
     default: p = chance(&d->g, 50) ? 1 : PEER_PRICE_MAX; break;
     }
     return as_price((int64_t)p + step_off(&d->g));
+}
+
+/* The stop or limit as it works now; in mode 2 the bound. */
+static uint32_t working_stop(const struct draft *d)
+{
+    uint32_t bound = peer_bound(&d->a), stop = d->a.order.stop;
+
+    return stop > bound ? stop : bound;
 }
 
 /* A price at which a response can stand, often one already taken. */
@@ -956,8 +968,7 @@ static void body_levels(struct draft *d)
 {
     const struct peer_auction *a = &d->a;
     uint32_t size = a->order.size, mode = a->order.mode;
-    uint32_t bound = peer_bound(a);
-    uint32_t stop = a->order.stop > bound ? a->order.stop : bound;
+    uint32_t bound = peer_bound(a), stop = working_stop(d);
     uint32_t price = bound, guarantee = as_size(size * 40 / 100);
     int64_t left = (int64_t)size - (d->market < size ? d->market : size), held = 0;
     struct peer_event list[40];
@@ -1565,6 +1576,208 @@ static void body_greatest(struct draft *d, int goal)
 }
 
 /* ------------------------------------------------------------------ */
+/* Bodies aimed at the leftovers of a share                           */
+
+/* A price at which others can share: below the stop or limit, or with Contra. */
+static uint32_t share_price(struct draft *d)
+{
+    uint32_t bound = peer_bound(&d->a), stop = working_stop(d), init = d->a.init;
+
+    if (stop > bound && chance(&d->g, 40))
+        return between(&d->g, bound, stop - 1);
+    if (d->a.order.mode == PEER_STOP)
+        return stop;
+    switch (below(&d->g, 4)) {
+    case 0: return stop;
+    case 1: return init;
+    default: return between(&d->g, stop, init);
+    }
+}
+
+/* A response of just that size and price: a GTX, or a limit order if it has to
+ * be one, and now and then if it can be. */
+static void send_just(struct draft *d, uint32_t size, uint32_t price, uint32_t marks)
+{
+    struct peer_event e = build_gtx(0, 0, PEER_SELL, size, price, marks);
+
+    if (price > d->a.nbb && (size > d->a.order.size || chance(&d->g, 15)))
+        e = build_limit(0, 0, PEER_SELL, size, price, marks);
+    send_response(d, stamp(d, e));
+}
+
+/* Some that trade before the others at a price: one at a better price, after
+ * which Contra may hold G, and Customers. */
+static void send_before(struct draft *d, uint32_t price)
+{
+    uint32_t size = d->a.order.size, bound = peer_bound(&d->a), stop = working_stop(d);
+    int k;
+
+    if (d->a.order.mode != PEER_STOP && price > stop && chance(&d->g, 50)) {
+        send_just(d, as_size(size * 40 / 100), between(&d->g, stop, price - 1), 0);
+    } else if (price > bound && chance(&d->g, 30)) {
+        uint32_t better = between(&d->g, bound, price - 1);
+
+        send_just(d, between(&d->g, 1, size / 5 + 1), better, 0);
+    }
+    if (chance(&d->g, 40))
+        for (k = PICK(&d->g, 1, 1, 2, 3); k > 0; k--)
+            send_just(d, between(&d->g, 1, size / 8 + 1), price, PEER_CUSTOMER);
+}
+
+/* R at a price as things stand, if two come there with plenty on offer. */
+static uint32_t shared_at(const struct draft *d, uint32_t price)
+{
+    struct peer_auction a = d->a;
+    struct peer_fill fill[PEER_FILLS_MAX];
+    struct peer_response member = { .size = a.order.size, .price = price, .gtx = 1 };
+    uint32_t r = 0;
+    int i, n;
+
+    for (i = 0; i < 2; i++) {
+        member.seq = UINT32_MAX - (uint32_t)i;
+        a.live[a.n_live++] = member;
+    }
+    a.market_seq = 1;
+    a.market_size = d->market;
+    peer_close(&a);
+    n = peer_fills(&a, fill);
+    for (i = 0; i < n; i++)
+        if (fill[i].party >= UINT32_MAX - 1)
+            r += fill[i].quantity;
+    return r;
+}
+
+/* A total in n parts or fewer, none of them 0: even ones, or any. */
+static int split(struct draft *d, uint32_t total, uint32_t *part, uint32_t n, int even)
+{
+    int k = 0;
+
+    for (; n > 0 && total > 0; n--) {
+        uint32_t own = total / n;
+
+        if (!even || own == 0)
+            own = between(&d->g, 1, 2 * own);
+        if (n == 1 || own > total)
+            own = total;
+        part[k++] = own;
+        total -= own;
+    }
+    return k;
+}
+
+/* A total of q times R, so that R x s / T is s / q: first some whose part is
+ * 0, then any, or one more of that kind. */
+static int zero_sizes(struct draft *d, uint32_t r, uint32_t *size)
+{
+    uint32_t q = (uint32_t)PICK(&d->g, 2, 2, 3, 3, 4, 5), left = r;
+    int n, zeros = PICK(&d->g, 1, 1, 2, 3);
+
+    for (n = 0; n < zeros && left > 1; n++) {
+        uint32_t whole = between(&d->g, 1, left / 3);
+
+        size[n] = q * whole;
+        left -= whole;
+    }
+    return n + split(d, q * left, size + n, chance(&d->g, 20) ? 1 : between(&d->g, q, q + 4), 0);
+}
+
+/* Sizes of members that share r contracts, more than r in all; gives their count. */
+static int member_sizes(struct draft *d, int body, uint32_t r, uint32_t *size)
+{
+    uint32_t cap = d->a.order.size, n = between(&d->g, 2, 12), base, spread = 1;
+    int i, k;
+
+    switch (body) {
+    case BODY_SHORT:                        /* by one contract or a few; now and then one alone */
+        r += (uint32_t)PICK(&d->g, 1, 1, 1, 1, 1, 1, 2, 3);
+        if (chance(&d->g, 10))
+            n = 1;
+        return split(d, r, size, n, chance(&d->g, 30));
+    case BODY_HALVES:                       /* R x s / T is s / 2 or close: equal parts of unequal sizes */
+        return split(d, 2 * r + (uint32_t)PICK(&d->g, 0, 0, 0, 1), size, n, 0);
+    case BODY_ZERO:
+        return zero_sizes(d, r, size);
+    case BODY_WHOLE:                        /* the last has to be a limit order */
+        k = split(d, between(&d->g, 1, cap), size, n, 0);
+        size[k] = between(&d->g, cap + 1, 4 * cap);
+        return k + 1;
+    case BODY_BIG:
+        for (i = 0; i < (int)n; i++)
+            size[i] = chance(&d->g, 50) ? between(&d->g, 1, cap) : cap - below(&d->g, 5);
+        return i;
+    case BODY_MANY:
+        n = between(&d->g, 40, PEER_PLACES - (uint32_t)d->a.n_live);
+        spread = (uint32_t)PICK(&d->g, 0, 1, 1, 2, 5, 50);
+        break;
+    case BODY_EQUAL:
+        spread = 0;
+        break;
+    }
+    base = r / n + (uint32_t)PICK(&d->g, 1, 1, 2, 3);
+    for (i = 0; i < (int)n; i++)
+        size[i] = base + between(&d->g, 0, spread);
+    return i;
+}
+
+/* Puts some live GTX at the back, all else as it was: by an amend, or by a
+ * cancel and a new one, between which another may come to the place. */
+static void send_to_back(struct draft *d)
+{
+    const struct peer_response *r = some_gtx(d);
+    struct peer_event e;
+
+    if (r == NULL)
+        return;
+    e = build_amend(0, 0, r->seq, r->size, r->price);
+    if (chance(&d->g, 50)) {
+        e = build_gtx(0, 0, PEER_SELL, r->size, r->price, r->customer ? PEER_CUSTOMER : 0);
+        cancel_named(d, r->seq);
+        if (chance(&d->g, 60))
+            send_to_back(d);
+    }
+    e = stamp(d, e);
+    send_quiet(d, &e);
+}
+
+/* The list in any order. */
+static void shuffle(struct rng *g, uint32_t *list, int n)
+{
+    for (; n > 1; n--) {
+        uint32_t k = below(g, (uint32_t)n), last = list[n - 1];
+
+        list[n - 1] = list[k];
+        list[k] = last;
+    }
+}
+
+/* Members at one price that share fewer contracts than their sizes. */
+static void body_leftovers(struct draft *d, int body)
+{
+    uint32_t price = share_price(d), size[PEER_PLACES];
+    int i, n, moves;
+
+    if (body == BODY_WHOLE && price <= d->a.nbb)
+        price = clamp((int64_t)d->a.nbb + 1, 1, d->a.init);
+    if (body != BODY_BIG || chance(&d->g, 50))
+        send_before(d, price);
+    n = member_sizes(d, body, shared_at(d, price), size);
+    moves = (int)between(&d->g, 2, 8);
+    if (body == BODY_ZERO)                  /* the parts of 0 stay in front, most often */
+        moves = (int)below(&d->g, 2);
+    else
+        shuffle(&d->g, size, n);
+    for (i = 0; i < n; i++) {
+        uint32_t at = price;
+
+        if (price == peer_bound(&d->a) && chance(&d->g, 20))
+            at = as_price((int64_t)price - between(&d->g, 1, 3));   /* works at the bound */
+        send_just(d, as_size(size[i]), at, 0);
+    }
+    for (; moves > 0; moves--)
+        send_to_back(d);
+}
+
+/* ------------------------------------------------------------------ */
 /* Endings                                                            */
 
 static struct peer_event ending_event(struct draft *d, int ending)
@@ -1665,6 +1878,8 @@ static void send_tail(struct draft *d)
 static void draft_events(struct draft *d, int body, int ending, int wide)
 {
     uint32_t size = d->a.order.size;
+    int leftovers = body >= BODY_EQUAL && body <= BODY_BIG;
+    int calm = wide || (leftovers && chance(&d->g, 80));
 
     d->customers = (uint32_t)PICK(&d->g, 0, 0, 20, 40, 60, 100);
     d->market = 0;
@@ -1678,10 +1893,12 @@ static void draft_events(struct draft *d, int body, int ending, int wide)
         }
         if (wide)
             d->market = between(&d->g, 1, 3);
+        if (leftovers)
+            d->market = between(&d->g, 1, as_size(size / 3));
         if (body >= BODY_CAPPED)            /* it counts whole, or not at all */
             d->market = body == BODY_GREATEST ? PEER_SIZE_MAX : size_about_cap(d);
     }
-    if (body != BODY_NONE && !wide && chance(&d->g, 12))
+    if (body != BODY_NONE && !calm && chance(&d->g, 12))
         send_odd(d);
     switch (body) {
     case BODY_ONE: body_one(d); break;
@@ -1695,16 +1912,20 @@ static void draft_events(struct draft *d, int body, int ending, int wide)
     case BODY_CAPPED: body_capped(d); break;
     case BODY_LARGE: body_large(d); break;
     case BODY_GREATEST: body_greatest(d, ending == END_OPP_LIMIT ? PEER_PLACES - 1 : PEER_PLACES); break;
+    default:
+        if (leftovers)
+            body_leftovers(d, body);
+        break;
     }
-    if (!wide && body != BODY_NONE && chance(&d->g, 20))
+    if (!calm && body != BODY_NONE && chance(&d->g, 20))
         script(d);
-    if (!wide && body != BODY_NONE && chance(&d->g, 10))
+    if (!calm && body != BODY_NONE && chance(&d->g, 10))
         amend_script(d);
-    if (!wide && chance(&d->g, 10))
+    if (!calm && chance(&d->g, 10))
         send_some(d, chance(&d->g, 50) ? any_bid : any_quotes);
-    if (!wide && chance(&d->g, 15))
+    if (!calm && chance(&d->g, 15))
         near_miss(d);
-    if (!wide && chance(&d->g, 20))
+    if (!calm && chance(&d->g, 20))
         send_odd(d);
     if (chance(&d->g, 8))                   /* the last word before the ending */
         send_some(d, aimed_amend);
@@ -1833,9 +2054,9 @@ size_t gen_tape(uint64_t seed, uint32_t index, unsigned char *out)
     g->state ^= next(g);
 
     /* Every twelfth tape is refused for its order; numbers, sides and modes
-     * take turns, so that each comes up. So do bodies, endings, sides and
-     * modes of the twelfth that is aimed at the contracts on offer. The rest
-     * are drawn. */
+     * take turns, so that each comes up. So do bodies, sides and modes of the
+     * twelfth that is aimed at the leftovers of a share, and of the one aimed at
+     * the contracts on offer, where endings take turns too. The rest are drawn. */
     d.sell = (int)below(g, 2);
     mode = between(g, 1, 3);
     if (kind == 5) {
@@ -1853,10 +2074,17 @@ size_t gen_tape(uint64_t seed, uint32_t index, unsigned char *out)
         body = BODY_NONE;                   /* the midpoint */
     if (kind == 2 && chance(g, 30))
         body = BODY_DAMAGED;
-    if (kind == 11) {
+    if (kind == 3 || kind == 11) {
         d.sell = (int)(turn % 2);
         mode = 1 + turn / 2 % 3;
-        body = BODY_CAPPED + (int)(turn / 6 % 3);
+    }
+    if (kind == 3) {
+        body = BODY_EQUAL + (int)(turn / 6 % LEFTOVER_BODIES);
+        if (chance(g, 20))
+            ending = END_OPP_MARKET;
+    }
+    if (kind == 11) {
+        body = BODY_CAPPED + (int)(turn / 6 % OFFER_BODIES);
         ending = offer_ending[turn / 18 % (sizeof offer_ending / sizeof offer_ending[0])];
     }
     if (index % 500 == 498)
@@ -1866,12 +2094,16 @@ size_t gen_tape(uint64_t seed, uint32_t index, unsigned char *out)
         room = WIDE_ROOM;
         if (chance(g, 40))
             ending = END_OPP_MARKET;        /* with it come the most fills there can be */
-    } else if (body >= BODY_CAPPED || (body == BODY_LEVELS && chance(g, 60)))
+    } else if (body >= BODY_EQUAL || (body == BODY_LEVELS && chance(g, 60)))
         room = SOME_ROOM;
 
     o = number > 1 ? refused_order(g, mode, number) : good_order(g, mode, room);
     if (body == BODY_GREATEST && chance(g, 70))
         o.size = PEER_SIZE_MAX;             /* then a GTX can be of that size too */
+    if (body == BODY_BIG)                   /* then R x s passes 32 bits */
+        o.size = PEER_SIZE_MAX - (uint32_t)PICK(g, 0, 0, 1, 9, 1696, 20000);
+    if ((body == BODY_HALVES || body == BODY_ZERO) && o.size < 10)
+        o.size += 10;                       /* enough to share */
     m = d.sell && peer_order_form(&o) ? build_turn_order(o) : o;
     build_order(order_bytes, &m);
     if (number == 1) {

@@ -1,8 +1,9 @@
 /* peer.c: one single-leg CUBE auction, from a tape to its listing.
  *
  * The parts follow the headings of document 01; the amend is document 02's
- * W-201, the contracts on offer are its W-202. All is worked as a buy; a sell
- * is mirrored on the way in and its fills are mirrored back. */
+ * W-201, the contracts on offer are its W-202, the leftovers of a pro rata its
+ * W-203. All is worked as a buy; a sell is mirrored on the way in and its
+ * fills are mirrored back. */
 #include "peer.h"
 
 #include <stdlib.h>
@@ -523,27 +524,51 @@ static void give(struct walk *w, uint32_t party, uint32_t price, uint32_t quanti
         w->held += quantity;
 }
 
-/* Pro rata: R contracts over the sizes; gives what was shared out. */
+/* The fractional part of a member's R x s / T, told as (R x s) mod T. */
+struct part {
+    uint64_t of_total;
+    int member;
+};
+
+static int by_larger_then_sequence(const void *x, const void *y)
+{
+    const struct part *a = x, *b = y;
+
+    if (a->of_total != b->of_total)
+        return a->of_total > b->of_total ? -1 : 1;
+    return a->member < b->member ? -1 : a->member > b->member;
+}
+
+/* Pro rata: R contracts over the sizes, which are by sequence; gives what was
+ * shared out. Each gets its whole part, and the leftovers go one each to the
+ * larger fractional parts. Those add up to the leftovers times T, so there are
+ * more of them above 0 than leftovers. */
 static uint32_t pro_rata(uint32_t r, const uint32_t *size, uint32_t *got, int n)
 {
+    struct part part[PEER_PLACES];
     uint64_t total = 0;
-    uint32_t used = 0, over;
+    uint32_t over = r;
     int i;
 
     for (i = 0; i < n; i++)
         total += size[i];
+    if (r >= total) {
+        memcpy(got, size, (size_t)n * sizeof size[0]);
+        return (uint32_t)total;
+    }
     for (i = 0; i < n; i++) {
-        got[i] = r >= total ? size[i] : (uint32_t)((uint64_t)r * size[i] / total);
-        used += got[i];
+        uint64_t product = (uint64_t)r * size[i];
+
+        got[i] = (uint32_t)(product / total);
+        over -= got[i];
+        part[i].of_total = product % total;
+        part[i].member = i;
     }
-    if (r >= total)
-        return used;
-    over = r - used;
-    for (i = 0; i < n && over > 0; i++, over--) {
-        got[i]++;
-        used++;
-    }
-    return used;
+    if (over > 0)
+        qsort(part, (size_t)n, sizeof part[0], by_larger_then_sequence);
+    for (i = 0; over > 0; i++, over--)
+        got[part[i].member]++;
+    return r;
 }
 
 /* One price: Customers by sequence; Contra what it wants; others pro rata;

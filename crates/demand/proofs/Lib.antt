@@ -10,5 +10,6 @@ pub mod Turns
 pub mod Limits
 pub mod Market
 pub mod Theorems
+pub mod Shares
 pub mod Teeth
 pub mod Examples
