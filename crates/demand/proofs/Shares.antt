@@ -1,5 +1,5 @@
 -- The others' shares, price by price, said of the fills. Assumes nothing.
-use mathlib.Core.Path.{_≡_, sym, ap, subst, _∙_}
+use mathlib.Core.Path.{_≡_, sym, subst, _∙_}
 use mathlib.Core.List.{List}
 use mathlib.Core.Logic.{_≢_}
 use Prim.Native.Nat.{ℕ}
@@ -8,10 +8,9 @@ use lib.Dec.{eqb}
 use Rattle.base.specs.Lists.{filter, In}
 use Rattle.base.proofs.ListLaws.{every-in}
 use Rattle.board.specs.declared.Response.{Response}
-use Rattle.board.specs.declared.Board.{Board}
 use Rattle.trade.specs.declared.Deal.{Deal}
 use Rattle.trade.specs.rules.Trade.{Level, fromOther, offers, offersAt, others, levelFills, flat, working, marketPrice, marketTakes, marketFill, levels, fills}
-use Rattle.demand.specs.promises.Demands.{Absent, Distinct, Tradable, got, othersAt}
+use Rattle.demand.specs.promises.Demands.{Absent, Distinct, got}
 use Rattle.demand.specs.promises.Shares.{SharedOut}
 use Rattle.demand.proofs.Lists.{gots-same, got-none, all-fill, distinct-keep}
 use Rattle.demand.proofs.Levels.{gots-level}
@@ -35,7 +34,7 @@ module _ (d : Deal) (rs : List Response) (s : Walkable d rs) where
         arith,
         got-append (x .sequence) (marketFill d rs) (flat (levels d rs)),
         got-none (x .sequence) (marketFill d rs)
-        (all-fill (λ f. f .party ≢ x .sequence) (d .market) (marketPrice d rs) (marketTakes d rs) (λ h e. every-in (λ y. y .sequence ≢ d .market) rs x (s .market-apart (omega arith) .1) m (sym e))),
+            (all-fill (λ f. f .party ≢ x .sequence) (d .market) (marketPrice d rs) (marketTakes d rs) (λ h e. every-in (λ y. y .sequence ≢ d .market) rs x (s .market-apart (omega arith) .1) m (sym e))),
       ))
 
   there : (l : Level) → In l (levels d rs) → There d rs l

@@ -6,6 +6,7 @@ use Rattle.mirror.proofs.MirrorForm.{records-mirror}
 use Rattle.board.proofs.Theorems.{changes, seen, finding, ordering}
 use Rattle.share.proofs.ShareLaws.{pro-rata}
 use Rattle.demand.proofs.Theorems.{demand3, few}
+use Rattle.demand.proofs.Shares.{shared-out}
 use Rattle.run.proofs.Resend.{keeps}
 use Rattle.run.proofs.MarketFrom.{resend}
 use Rattle.run.proofs.Amends.{amends}
@@ -31,6 +32,7 @@ below =
       ordering = ordering;
       pro-rata = pro-rata;
       demand-3 = demand3;
+      shared-out = shared-out;
       few = few;
       keeps = keeps;
       resend = resend;

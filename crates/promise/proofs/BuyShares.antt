@@ -1,31 +1,37 @@
 -- The others at a price of the buy: what is left to them, by the price alone. Assumes nothing.
-use mathlib.Core.Path.{_≡_, refl, sym, ap, _∙_}
+use mathlib.Core.Path.{_≡_, refl, sym, ap, ap₂, subst, _∙_}
 use mathlib.Core.Bool.{Bool, true, false, cond, not}
 use mathlib.Core.List.{List, [], _∷_}
 use mathlib.Core.Logic.{_⊎_, inl, inr, ⊎-elim, _≢_}
-use Prim.Native.Nat.{ℕ, _+_, _*_, _-_, _/_, _≤_, _<_, min}
+use Prim.Native.Nat.{ℕ, suc, _+_, _*_, _-_, _/_, _≤_, _<_, min}
 use native.Mathlib.Nat.{zero-mul, mul-zero, zero-div}
 use native.Mathlib.Omega.{arith}
 use borrow.Author.Tests.{eqb-true, eqb-false, eq-eqb, ltb-true, ltb-false, lt-ltb, le-ltb}
 use lib.Dec.{ltb, eqb}
+use lib.ListN.{length}
 use Rattle.base.specs.Lists.{In, Every, filter, sum}
-use Rattle.base.proofs.ListLaws.{every-in, every-filter, in-filter}
+use Rattle.base.proofs.Bools.{no}
+use Rattle.base.proofs.Numbers.{le-or-lt}
+use Rattle.base.proofs.ListLaws.{every-in, every-filter, every-with, in-filter, filter-test}
 use Rattle.board.specs.declared.Response.{Response}
 use Rattle.board.specs.declared.Board.{Board}
 use Rattle.board.specs.rules.Board.{liveOf}
+use Rattle.share.specs.rules.Share.{shares}
 use Rattle.share.specs.promises.Share.{Near}
 use Rattle.share.specs.rules.Fills.{Fill, sizes}
 use Rattle.trade.specs.declared.Deal.{Deal}
 use Rattle.trade.specs.rules.Plan.{Plan, planOf}
 use Rattle.trade.specs.rules.Trade.{Level, fromCustomer, fromOther, shared, others, levelFills, traded, flat, offers, offersAt, working, workingStop, guarantee, marketPrice, marketTakes, marketFill, levels, fills}
 use Rattle.trade.proofs.Lists.{total-append, total-fill}
-use Rattle.demand.proofs.Fair.{size-in}
-use Rattle.demand.specs.promises.Demands.{Tradable, ByLevel, got, gotBelow, soldAt, soldBelow, soldAbove, walked, othersAt, planOn}
-use Rattle.demand.proofs.Lists.{soldAt-none, got-none, all-fill}
-use Rattle.demand.proofs.Order.{in-sequence}
+use Rattle.share.proofs.ShareLaws.{shares-sum, shares-length}
+use Rattle.demand.proofs.Fair.{size-in, at-price}
+use Rattle.demand.specs.promises.Demands.{Tradable, ByLevel, got, gots, gotBelow, soldAt, soldBelow, soldAbove, walked, othersAt, planOn}
+use Rattle.demand.proofs.Lists.{soldAt-none}
+use Rattle.demand.proofs.Order.{in-sequence, all-sequence}
 use Rattle.demand.proofs.Levels.{all-level}
 use Rattle.demand.proofs.Walk.{Run}
-use Rattle.demand.proofs.Runs.{got-append, sold-append, run-each}
+use Rattle.demand.proofs.Runs.{sold-append, run-each}
+use Rattle.demand.proofs.Shares.{got-walk, shared-out}
 use Rattle.demand.proofs.Theorems.{fit, the-run, walked-levels, demand3}
 
 -- ---- where anything trades at a price, a level has it
@@ -84,6 +90,23 @@ of-none R T s e = rw (e, zero-mul s) (zero-div T)
 
 none-of : (R T s : ℕ) → s ≡ 0 → R * s / T ≡ 0
 none-of R T s e = rw (e, mul-zero R) (zero-div T)
+
+-- who trade nothing have what adds up to nothing
+all-none : (fs : List Fill) (os : List Response) → ((x : Response) → In x os → got (x .sequence) fs ≡ 0) → (qs : List ℕ) → length qs ≡ length os → sum qs ≡ 0 → gots fs os ≡ qs
+unfolding sum
+all-none fs [] h [] l z = refl
+all-none fs [] h (q ∷ qs) l z = absurd (omega arith)
+all-none fs (o ∷ os) h [] l z = absurd (omega arith)
+all-none fs (o ∷ os) h (q ∷ qs) l z = ap₂ {C = List ℕ} (λ x xs. x ∷ xs) (omega (arith, h o (inl refl))) (all-none fs os (λ x m. h x (inr m)) qs (omega arith) (omega arith))
+
+sizes-none : (os : List Response) → ((x : Response) → In x os → x .size ≡ 0) → sum (sizes os) ≡ 0
+unfolding sum
+sizes-none [] h = refl
+sizes-none (o ∷ os) h = omega (arith, h o (inl refl), sizes-none os (λ x m. h x (inr m)))
+
+sizes-length : (os : List Response) → length (sizes os) ≡ length os
+sizes-length [] = refl
+sizes-length (o ∷ os) = ap suc (sizes-length os)
 
 -- a share by equal numbers
 pub near : (s : ℕ) {R Q T S x y : ℕ} → R ≡ Q → T ≡ S → x ≡ y → Near R T s x → Near Q S s y
@@ -160,12 +183,7 @@ module _ (d : Deal) (b : Board) where
       got-walked : got (r .sequence) all ≤ soldAt works (walked d all)
       got-walked =
           let k = r .sequence in
-          let z : got k (marketFill d (offers b)) ≡ 0 =
-          got-none k (marketFill d (offers b))
-          (all-fill (λ f. f .party ≢ k) (d .market) (marketPrice d (offers b)) (marketTakes d (offers b))
-          (λ h e. every-in (λ x. x .sequence ≢ d .market) (liveOf b) r (s .market-apart (omega arith) .1) m (sym e))) in
-          let g : got k all ≡ got k (marketFill d (offers b)) + got k (walked d all) =
-          ap (got k) (demand3 d b s .market-trades) ∙ got-append k (marketFill d (offers b)) (walked d all) in
+          let g : got k all ≡ got k (walked d all) = got-walk d (offers b) (fit d b s) r (in-sequence r (liveOf b) m) ∙ ap (got k) (sym (walked-levels d (offers b) (fit d b s))) in
           let w : got k (walked d all) ≤ soldAt works (walked d all) =
           got-sold k works (walked d all) (every-filter (λ f. f .party ≡ k → f .price ≡ works) _ all (demand3 d b s .works-at r m)) in
           omega arith
@@ -219,3 +237,54 @@ module _ (d : Deal) (b : Board) where
       guaranteed-at e t =
           let k = priced works (omega (arith, got-walked)) in
           by-level (k .level) (k .one) .has-guarantee r m c (sym (k .price)) (final-at works k ∙ e) t
+
+    -- ---- the others at a price, by sequence
+
+    module _ (p : ℕ) where
+      abbrev os : List Response
+      os = othersAt d (offers b) p
+
+      -- one of them
+      record Other (x : Response) : Type 0 where
+        live : In x (liveOf b)
+        other : x .customer ≡ false
+        works-at : working d x ≡ p
+
+      other : (x : Response) → In x os → Other x
+      other x m =
+          let a = at-price d (offers b) (fit d b s) p x m in
+          record {
+            live = every-in (λ y. In y (liveOf b)) (offers b) x (all-sequence (λ y. In y (liveOf b)) (liveOf b) (every-with (λ y. In y (liveOf b)) (liveOf b) (λ y i. i))) (a .0);
+            other = not-customer (x .customer) (filter-test fromOther _ x m);
+            works-at = a .1;
+          }
+        where
+          not-customer : (t : Bool) → not t ≡ true → t ≡ false
+          not-customer true e = no (sym e)
+          not-customer false e = refl
+
+      -- where nothing trades there, it gets nothing, and has no size or nothing is left
+      idle-there : soldAt p (walked d all) ≡ 0 → (x : Response) → In x os → (got (x .sequence) all ≡ 0) × ((x .size ≡ 0) ⊎ (leftAt p ≡ 0))
+      idle-there z x m =
+          let i = other x m in
+          let e : soldAt (working d x) (walked d all) ≡ 0 = ap (λ (q : ℕ). soldAt q (walked d all)) (i .works-at) ∙ z in
+          (omega (arith, got-walked x (i .live) (i .other)), subst (λ (q : ℕ). (x .size ≡ 0) ⊎ (leftAt q ≡ 0)) (i .works-at) (idle x (i .live) (i .other) e))
+
+      none-there : soldAt p (walked d all) ≡ 0 → gots all os ≡ shares (leftToOthers p) (sizes os)
+      none-there z =
+          all-none all os (λ x m. idle-there z x m .0) (shares (leftToOthers p) (sizes os)) (shares-length (leftToOthers p) (sizes os) ∙ sizes-length os)
+          (shares-sum (leftToOthers p) (sizes os)
+          ∙ ⊎-elim
+          (λ h. let e : sum (sizes os) ≡ 0 = sizes-none os (λ x m. ⊎-elim (λ y. y) (λ y. absurd (omega arith)) (idle-there z x m .1)) in omega arith)
+          (λ h. omega arith)
+          (le-or-lt 1 (leftAt p)))
+
+      pub shares-at : gots all os ≡ shares (leftToOthers p) (sizes os)
+      shares-at = go (ltb 0 (soldAt p (walked d all))) refl
+        where
+          go : (t : Bool) → ltb 0 (soldAt p (walked d all)) ≡ t → gots all os ≡ shares (leftToOthers p) (sizes os)
+          go true e =
+              let k = priced p (ltb-true 0 (soldAt p (walked d all)) e) in
+              let h : others (k .level) ≡ os = ap (filter fromOther) (here-is (k .level) (k .one)) ∙ ap (λ (x : ℕ). othersAt d (offers b) x) (k .price) in
+              sym (ap (gots all) h) ∙ shared-out d b s (k .level) (k .one) ∙ ap₂ (λ (R : ℕ) (xs : List Response). shares R (sizes xs)) (shared-at p k) h
+          go false e = none-there (omega (arith, ltb-false 0 (soldAt p (walked d all)) e))

@@ -16,7 +16,7 @@ use Rattle.promise.proofs.Real.{own-limit, some, parties, contra-limit,
 use Rattle.promise.proofs.Standing.{stand, by-fold}
 use Rattle.promise.proofs.Counted.{gone-none}
 use Rattle.promise.proofs.MarketTrades.{market-trades}
-use Rattle.promise.proofs.Shared.{filled, short, share, covered, guaranteed, guaranteed-last}
+use Rattle.promise.proofs.Shared.{filled, short, shared-out, share, covered, guaranteed, guaranteed-last}
 
 pub trades : (o : Order) (es : List Event) → acceptOf o .answer ≡ Accepted → InRealPrices o es
 trades o es h =
@@ -41,6 +41,7 @@ trades o es h =
       priority = priority o es h;
       filled = filled o es h;
       short = short o es h;
+      shared-out = shared-out o es h;
       share = share o es h;
       covered = covered o es h;
       guaranteed = guaranteed o es h;

@@ -5,14 +5,14 @@ use mathlib.Core.List.{List, [], _∷_, map}
 use mathlib.Core.Logic.{inl, inr}
 use Prim.Native.Nat.{ℕ, _+_, _-_, _≤_, min, max}
 use native.Mathlib.Omega.{arith}
-use lib.Dec.{ltb, eqb}
+use lib.Dec.{leb, ltb, eqb}
 use borrow.Author.Tests.{ltb-true, ltb-false, lt-ltb, le-ltb, eqb-true, eqb-false, eq-eqb, ne-eqb}
 use Rattle.base.specs.Lists.{In, Every, keep, filter}
 use Rattle.base.specs.Price.{mirrored}
 use Rattle.base.proofs.Bools.{by}
 use Rattle.base.proofs.ListLaws.{every-in, every-map, every-any}
 use Rattle.board.specs.declared.Response.{Response}
-use Rattle.board.specs.rules.Board.{liveOf}
+use Rattle.board.specs.rules.Board.{liveOf, inserted, inSequence}
 use Rattle.share.specs.rules.Fills.{Fill, sizes}
 use Rattle.tape.specs.declared.order.Order.{Order}
 use Rattle.tape.specs.declared.event.Event.{Event}
@@ -128,6 +128,21 @@ filter-sent s t u (r ∷ rs) h = rw (h .0) (go (u r) (filter-sent s t u rs (h .1
     go : (b : Bool) → filter t (map (sent s) rs) ≡ map (sent s) (filter u rs) → keep b (sent s r) (filter t (map (sent s) rs)) ≡ map (sent s) (keep b r (filter u rs))
     go true e = ap {B = List Response} (λ zs. sent s r ∷ zs) e
     go false e = e
+
+-- by sequence
+inserted-sent : (sell : Bool) (r : Response) (rs : List Response) → inserted (sent sell r) (map (sent sell) rs) ≡ map (sent sell) (inserted r rs)
+unfolding inserted
+inserted-sent sell r [] = refl
+inserted-sent sell r (x ∷ rs) = go (leb (r .sequence) (x .sequence)) (inserted-sent sell r rs)
+  where
+    go : (b : Bool) → inserted (sent sell r) (map (sent sell) rs) ≡ map (sent sell) (inserted r rs) → cond b (sent sell r ∷ sent sell x ∷ map (sent sell) rs) (sent sell x ∷ inserted (sent sell r) (map (sent sell) rs)) ≡ map (sent sell) (cond b (r ∷ x ∷ rs) (x ∷ inserted r rs))
+    go true ih = refl
+    go false ih = ap (λ (xs : List Response). sent sell x ∷ xs) ih
+
+pub sequence-sent : (sell : Bool) (rs : List Response) → inSequence (map (sent sell) rs) ≡ map (sent sell) (inSequence rs)
+unfolding inSequence
+sequence-sent sell [] = refl
+sequence-sent sell (r ∷ rs) = ap (inserted (sent sell r)) (sequence-sent sell rs) ∙ inserted-sent sell r (inSequence rs)
 
 pub sizes-sent : (s : Bool) (rs : List Response) → sizes (map (sent s) rs) ≡ sizes rs
 sizes-sent s [] = refl

@@ -1,5 +1,5 @@
 -- What the others at a price share, in real prices. Assumes nothing.
-use mathlib.Core.Path.{_≡_, refl, sym, ap, _∙_, subst}
+use mathlib.Core.Path.{_≡_, refl, sym, ap, ap₂, _∙_, subst}
 use mathlib.Core.Bool.{Bool, true, false, _&&_}
 use mathlib.Core.List.{List, [], _∷_, map}
 use mathlib.Core.Logic.{_≢_}
@@ -16,6 +16,7 @@ use Rattle.board.specs.rules.Board.{liveOf, inSequence}
 use Rattle.base.proofs.Bools.{by}
 use Rattle.board.proofs.Theorems.{ordering}
 use Rattle.board.proofs.SequenceLaws.{sequence-filter, sequence-shuffles}
+use Rattle.share.specs.rules.Share.{shares}
 use Rattle.share.specs.promises.Share.{Near}
 use Rattle.share.specs.rules.Fills.{Fill, sizes}
 use Rattle.tape.specs.declared.order.Order.{Order}
@@ -36,7 +37,7 @@ use Rattle.tape.proofs.FormLaws.{order-bounds}
 use Rattle.run.proofs.Accepted.{opened}
 use Rattle.run.proofs.SoundLaws.{sound-deal}
 use Rattle.promise.specs.rules.Sides.{isSell, better, sent, soldBetter, gotBetter, atEnd, writtenFills, liveAtEnd, walkedFills, workingPrice, allAtPrice, customersAtPrice, othersAtPrice, guaranteeAtEnd, leftAtPrice, planAtPrice, leftToOthersAtPrice}
-use Rattle.promise.proofs.RealLaws.{better-shown, same-shown, shown-twice, tally-shown, filter-sent, sizes-sent, deal, dealt, sound, demand, mode-is, size-is, written-is, there-is, initiating-fits, stop-fits, prices-fit, working-fits, works-is, walked-is, got-is, was-live}
+use Rattle.promise.proofs.RealLaws.{better-shown, same-shown, shown-twice, tally-shown, filter-sent, sequence-sent, sizes-sent, deal, dealt, sound, demand, mode-is, size-is, written-is, there-is, initiating-fits, stop-fits, prices-fit, working-fits, works-is, walked-is, got-is, was-live}
 use Rattle.promise.proofs.Real.{stop-is}
 use Rattle.promise.proofs.BuyShares as buy
 
@@ -154,6 +155,13 @@ module _ (o : Order) (es : List Event) (h : acceptOf o .answer ≡ Accepted) whe
         ∙ ap sum (gots-sent sell (writtenFills o es) (dealt o es h) (got-is o es h) (filter fromOther here))
         ∙ sym (ap (λ (rs : List Response). sum (gots (dealt o es h) (filter fromOther rs))) offers-are ∙ ap (λ (rs : List Response). sum (gots (dealt o es h) rs)) (sequence-filter fromOther here) ∙ gots-sequence (dealt o es h) (filter fromOther here))
 
+    -- the others themselves, by sequence
+    others-by : inSequence (othersAtPrice o es real) ≡ map (sent sell) (demands.othersAt d (offers board) q)
+    others-by =
+        ap inSequence (ap (filter fromOther) all-is ∙ filter-sent sell fromOther fromOther here (every-any (λ r. fromOther (sent sell r) ≡ fromOther r) here (λ r. refl)))
+        ∙ sequence-sent sell (filter fromOther here)
+        ∙ ap (map (sent sell)) (sym (ap (filter fromOther) offers-are ∙ sequence-filter fromOther here))
+
     -- nothing trades at a higher price of the buy where nothing trades at a worse real one
     none-above : Every (λ f. better sell real (f .price) ≡ false) (writtenFills o es) → soldAbove q (dealt o es h) ≡ 0
     none-above n =
@@ -191,6 +199,9 @@ module _ (o : Order) (es : List Event) (h : acceptOf o .answer ≡ Accepted) whe
   abbrev Short : Response → ℕ → Type 0
   Short r p = leftToOthersAtPrice o es p < sum (sizes (othersAtPrice o es p)) → Near (leftToOthersAtPrice o es p) (sum (sizes (othersAtPrice o es p))) (r .size) (got (r .sequence) (writtenFills o es))
 
+  abbrev SharedOut : Response → ℕ → Type 0
+  SharedOut r p = gots (writtenFills o es) (inSequence (othersAtPrice o es p)) ≡ shares (leftToOthersAtPrice o es p) (sizes (inSequence (othersAtPrice o es p)))
+
   abbrev Guaranteed : Response → ℕ → Type 0
   Guaranteed r p = planAtPrice o es p .final ≡ true → 0 < got (r .sequence) (writtenFills o es) → guaranteeAtEnd o es ≤ got 0 (writtenFills o es)
 
@@ -215,6 +226,17 @@ module _ (o : Order) (es : List Event) (h : acceptOf o .answer ≡ Accepted) whe
       (λ x m c z e.
       buy.near (x .size) (sym (left-to-is (working d x) z)) (sym (others-are (working d x) z)) (sym (got-is o es h (x .sequence)))
       (buy.short-at d board can-trade x m c (omega (arith, others-are (working d x) z, left-to-is (working d x) z))))
+
+  pub shared-out : (r : Response) → In r (liveAtEnd o es) → r .customer ≡ false → SharedOut r (workingPrice o es r)
+  shared-out =
+      as-sent SharedOut
+      (λ x m c z.
+      let os = demands.othersAt d (offers board) (working d x) in
+      let by = others-by (working d x) z in
+      ap (gots (writtenFills o es)) by
+      ∙ gots-sent sell (writtenFills o es) (dealt o es h) (got-is o es h) os
+      ∙ buy.shares-at d board can-trade (working d x)
+      ∙ sym (ap₂ shares (left-to-is (working d x) z) (ap sizes by ∙ sizes-sent sell os)))
 
   pub guaranteed : (r : Response) → In r (liveAtEnd o es) → r .customer ≡ false → Guaranteed r (workingPrice o es r)
   guaranteed =

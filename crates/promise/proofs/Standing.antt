@@ -50,7 +50,7 @@ use Rattle.promise.specs.rules.Sides.{isSell, otherSide, better, initiat
 use Rattle.promise.specs.promises.Parts.{Sends, auctionAfter}
 use Rattle.promise.specs.promises.Parts.Sends.{places, amends}
 use Rattle.promise.proofs.Opening.{initiating-is}
-use Rattle.promise.proofs.RealLaws.{better-shown, shown-twice, board-is, there-is, written-is, sound}
+use Rattle.promise.proofs.RealLaws.{better-shown, shown-twice, sequence-sent, board-is, there-is, written-is, sound}
 use Rattle.promise.proofs.Sent.{terms-sell, terms-size, priced-side, sent-price, sent-gtx, sent-limit, sent-amend, every-sent}
 
 -- ---- a limit order takes a place where the buy's event does
@@ -335,20 +335,6 @@ pub stand : (o : Order) (es : List Event) → acceptOf o .answer ≡ Accepted �
 stand o es h = ap inSequence (there-is o es h ∙ ap (onBoard (isSell o)) (board-is o es h)) ∙ stood o es h
 
 -- the fills are those of what stands: for the buy, the prices are mirrored back
-inserted-sent : (sell : Bool) (r : Response) (rs : List Response) → inserted (sent sell r) (map (sent sell) rs) ≡ map (sent sell) (inserted r rs)
-unfolding inserted
-inserted-sent sell r [] = refl
-inserted-sent sell r (x ∷ rs) = go (leb (r .sequence) (x .sequence)) (inserted-sent sell r rs)
-  where
-    go : (b : Bool) → inserted (sent sell r) (map (sent sell) rs) ≡ map (sent sell) (inserted r rs) → cond b (sent sell r ∷ sent sell x ∷ map (sent sell) rs) (sent sell x ∷ inserted (sent sell r) (map (sent sell) rs)) ≡ map (sent sell) (cond b (r ∷ x ∷ rs) (x ∷ inserted r rs))
-    go true ih = refl
-    go false ih = ap (λ (xs : List Response). sent sell x ∷ xs) ih
-
-sequence-sent : (sell : Bool) (rs : List Response) → inSequence (map (sent sell) rs) ≡ map (sent sell) (inSequence rs)
-unfolding inSequence
-sequence-sent sell [] = refl
-sequence-sent sell (r ∷ rs) = ap (inserted (sent sell r)) (sequence-sent sell rs) ∙ inserted-sent sell r (inSequence rs)
-
 sent-twice : (sell : Bool) (rs : List Response) → Every (λ r. r .price ≤ 1000000) rs → map (sent sell) (map (sent sell) rs) ≡ rs
 sent-twice sell [] h = refl
 sent-twice sell (r ∷ rs) h =

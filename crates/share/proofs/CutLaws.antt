@@ -2,7 +2,7 @@
 use mathlib.Core.Path.{_≡_, refl, sym, ap, ap₂, _∙_}
 use mathlib.Core.Bool.{Bool, true, false, cond, not, _&&_}
 use mathlib.Core.List.{List, [], _∷_}
-use mathlib.Core.Logic.{_⊎_, inl, inr, ⊎-elim}
+use mathlib.Core.Logic.{⊎-elim}
 use Prim.Native.Nat.{ℕ, zero, suc, _+_, _-_, _*_, _≤_, _<_, min}
 use native.Mathlib.Nat.{mul-suc, mul-zero}
 use native.Mathlib.Omega.{arith}
@@ -75,9 +75,9 @@ side : (c x : ℕ) → Side c x
 side c x =
     ⊎-elim
     (λ h. ⊎-elim
-      (λ e. level e (le-ltb c x h) (eq-eqb c x e))
-      (λ n. below (⊎-elim (λ g. absurd (n (omega arith))) (λ g. g) (le-or-lt c x)) (le-ltb c x h) (ne-eqb c x n))
-      (eq-or c x))
+    (λ e. level e (le-ltb c x h) (eq-eqb c x e))
+    (λ n. below (⊎-elim (λ g. absurd (n (omega arith))) (λ g. g) (le-or-lt c x)) (le-ltb c x h) (ne-eqb c x n))
+    (eq-or c x))
     (λ h. above h (lt-ltb c x h) (ne-eqb c x (λ e. omega arith)))
     (le-or-lt x c)
 
@@ -145,14 +145,6 @@ one-below c s x h = rw (le-ltb c x (omega arith), ne-eqb c x (λ e. omega arith)
 
 pub one-level : (c s x q : ℕ) → c ≡ x → q ≡ min s 1 → (q ≡ oneBy c s x) × (s - q ≡ spareBy c s x)
 one-level c s x q h e = rw (le-ltb c x (omega arith), eq-eqb c x h) (e, omega arith)
-
-pub one-by-le : (c s x : ℕ) → oneBy c s x ≤ 1
-one-by-le c s x = go (ltb c x) (eqb c x)
-  where
-    go : (a b : Bool) → cond a 1 (cond b (min s 1) 0) ≤ 1
-    go true b = omega arith
-    go false true = omega arith
-    go false false = omega arith
 
 cut-sum : (c s : ℕ) (xs : List ℕ) → sum (byCut c s xs) ≡ howMany (ltb c) xs + min s (howMany (eqb c) xs)
 unfolding sum filter

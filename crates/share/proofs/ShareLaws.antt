@@ -13,7 +13,7 @@ use Rattle.base.specs.Lists.{filter, sum}
 use Rattle.share.specs.rules.Share.{floors, fractions, plus, leftover, howMany, leftovers, sharesBy, shares, inTurn}
 use Rattle.share.specs.inside.Cut.{Cuts}
 use Rattle.share.specs.promises.Share.{Each, Mark, Marks, Near, Fair, ByFraction, ProRata}
-use Rattle.share.proofs.CutLaws.{many-pass, many-fail, Ones, ones}
+use Rattle.share.proofs.CutLaws.{many-pass, many-fail, ones}
 
 -- ---- the whole parts
 

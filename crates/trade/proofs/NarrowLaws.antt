@@ -3,7 +3,7 @@ use mathlib.Core.Path.{_≡_, refl, sym, ap, subst, _∙_}
 use mathlib.Core.Bool.{Bool, true, false, cond, not}
 use mathlib.Core.List.{List, [], _∷_}
 use mathlib.Core.Logic.{⊎-elim}
-use Prim.Native.Nat.{ℕ, _+_, _-_, _*_, _/_, _%_, _^_, _≤_, _<_}
+use Prim.Native.Nat.{ℕ, _+_, _-_, _*_, _%_, _^_, _≤_, _<_}
 use native.Mathlib.Nat.{div-add-mod', mod-lt, mul-le-mul}
 use native.Mathlib.Omega.{arith}
 use borrow.Author.Tests.{le-leb, lt-leb}
@@ -17,7 +17,7 @@ use Rattle.board.specs.declared.Response.{Response}
 use Rattle.board.specs.rules.Board.{noResponse, liveIn}
 use Rattle.board.specs.inside.Places.{wordOf}
 use Rattle.board.proofs.LiveLaws.{none-live, count-live, word-filters, Sifted, sift-start, sift-step, sift-end}
-use Rattle.share.specs.rules.Share.{floors, fractions, leftover, howMany}
+use Rattle.share.specs.rules.Share.{fractions, leftover, howMany}
 use Rattle.share.specs.rules.Fills.{sizes}
 use Rattle.share.specs.inside.Cut.{Cuts}
 use Rattle.share.proofs.ShareLaws.{wholes, left-at-most}

@@ -26,7 +26,7 @@ use Rattle.share.specs.rules.Share.{floors, fractions, leftover, howMany, oneEa
 use Rattle.share.specs.rules.Fills.{fillOf, sizes}
 use Rattle.share.specs.inside.Cut.{oneBy, spareBy, byCut, Cuts}
 use Rattle.share.proofs.ShareLaws.{room, floors-at-most, shares-sum, shares-length}
-use Rattle.share.proofs.CutLaws.{many-cons, one-each-cut, one-by-le}
+use Rattle.share.proofs.CutLaws.{many-cons, one-each-cut}
 use Rattle.trade.specs.inside.Code.{eachFills, dealt, shareFills, isRising, lastSequence, Summed, Gives}
 use Rattle.trade.specs.declared.Given.{Given}
 use Rattle.trade.proofs.CodeLaws.{Turn, turn-of}
@@ -72,9 +72,9 @@ pub fill-some : (k p q : ℕ) → 0 < q → length (fillOf k p q) ≡ 1
 fill-some k p q h = rw (lt-ltb 0 q h)
 
 -- one member's part, and one more, is at most its size, and at most one where it has none
-pub part-fits : (R T s c k x : ℕ) → R < T → R * s / T + oneBy c k x ≤ max s 1
-part-fits R T zero c k x h = simp (mul-zero, zero-div) (omega (arith, one-by-le c k x))
-part-fits R T (suc s) c k x h = omega (arith, room R T (suc s) h (omega arith), one-by-le c k x)
+pub part-fits : (R T s : ℕ) → R < T → R * s / T + 1 ≤ max s 1
+part-fits R T zero h = simp (mul-zero, zero-div) (omega arith)
+part-fits R T (suc s) h = omega (arith, room R T (suc s) h (omega arith))
 
 -- ---- sums do not go by order
 
@@ -255,13 +255,13 @@ module _ (ps : List Response) (e : length ps ≡ 64) where
 pub gives-turns : (R T c k s q : ℕ) → q ≡ min k s → k ≤ 4294967295 → Gives true R T c k s (record { quantity = q; left = k - q })
 gives-turns R T c k s q e h = record { quantity = e; left = ap (λ (n : ℕ). k - n) e; small = omega arith }
 
-pub gives-parts : (R T c k s part x : ℕ) (one : Given) → R < T → s ≤ 4294967295 → part ≡ R * s / T → x ≡ R * s % T → one .quantity ≡ oneBy c k x → one .left ≡ spareBy c k x
+pub gives-parts : (R T c k s part x : ℕ) (one : Given) → R < T → s ≤ 4294967295 → part ≡ R * s / T → x ≡ R * s % T → one .quantity ≡ oneBy c k x → one .left ≡ spareBy c k x → one .quantity ≤ 1
     → Gives false R T c k s (record { quantity = part + one .quantity; left = one .left })
-gives-parts R T c k s part x one h l e f q r =
+gives-parts R T c k s part x one h l e f q r m =
     record {
       quantity = ap₂ (λ (y z : ℕ). y + z) e (q ∙ ap (oneBy c k) f);
       left = r ∙ ap (spareBy c k) f;
-      small = omega (arith, part-fits R T s c k x h, q, e);
+      small = omega (arith, part-fits R T s h, e);
     }
 
 pub gives-left : (turns : Bool) (R T c k s : ℕ) (g : Given) → Gives turns R T c k s g → g .left ≤ k

@@ -34,7 +34,7 @@ pub(crate) fn put_fill(out: &mut [u32], at: usize, party: u32, price: u32, quant
 
 // What one with this fraction is given of the leftovers: one above the cut, and at it one of those that are spare.
 fn one_of(cut: u64, spare: u64, fraction: u64) -> Given
-    ensures { λ g. ⌜ (g .quantity ≡ oneBy cut spare fraction) × (g .left ≡ spareBy cut spare fraction) ⌝ }
+    ensures { λ g. ⌜ (g .quantity ≡ oneBy cut spare fraction) × (g .left ≡ spareBy cut spare fraction) × (g .quantity ≤ 1) ⌝ }
 {
     if cut < fraction {
         return Given {
@@ -67,8 +67,9 @@ fn given(turns: bool, amount: u64, total: u64, cut: u64, k: u64, size: u32) -> G
             left: k - q,
         };
     }
-    let one = one_of(cut, k, scan::fraction_of(amount, total, size));
     let part = scan::part_of(amount, total, size);
+    let fraction = scan::fraction_of(amount, total, size);
+    let one = one_of(cut, k, fraction);
     Given {
         quantity: part + one.quantity,
         left: one.left,
@@ -200,5 +201,16 @@ pub(crate) fn write_shares(
     }
     let leftover = amount - scan::parts_of(b, word, amount, total);
     let c = leftovers::cut_of(b, word, amount, total, leftover);
-    write_each(b, word, price, false, amount, total, c.fraction, c.spare, out, at)
+    write_each(
+        b,
+        word,
+        price,
+        false,
+        amount,
+        total,
+        c.fraction,
+        c.spare,
+        out,
+        at,
+    )
 }

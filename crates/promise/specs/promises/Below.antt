@@ -10,6 +10,7 @@ use Rattle.mirror.specs.promises.Records.{RecordsMirror}
 use Rattle.board.specs.promises.Board.{Changes, Seen, Finding, Ordering}
 use Rattle.share.specs.promises.Share.{ProRata}
 use Rattle.demand.specs.promises.Demands.{Demands as Demands3, Few}
+use Rattle.demand.specs.promises.Shares.{SharedOut}
 use Rattle.run.specs.promises.Demands.{Keeps, Resend, Amends, OnOffer, Demanded, Mirrors}
 use Rattle.run.specs.promises.InPlace.{InPlace}
 use Rattle.run.specs.promises.Figures.{Figures}
@@ -29,9 +30,10 @@ pub record Below : Type 0 where
   pub seen : Seen
   pub finding : Finding
   pub ordering : Ordering
-  -- pro rata over any number of responses; demand 3 of every deal; at most 130 fills
+  -- pro rata over any number of responses; demand 3 of every deal, and the others' shares at each price; at most 130 fills
   pub pro-rata : ProRata
   pub demand-3 : Demands3
+  pub shared-out : SharedOut
   pub few : Few
   -- every run: refusals, resends, amends, the contracts on offer, demand 3 of every list of events, sells, events in place
   pub keeps : Keeps
@@ -41,7 +43,7 @@ pub record Below : Type 0 where
   pub demanded : Demanded
   pub mirrors : Mirrors
   pub in-place : InPlace
-  -- cases a to k, the listing of document 01, and the watch
+  -- cases a to k with W-203's, the listing of document 01, and the watch
   pub figures : Figures
   pub listings : Listings
   pub watching : Watching

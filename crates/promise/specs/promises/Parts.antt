@@ -13,6 +13,7 @@ use Rattle.board.specs.declared.Response.{Response}
 use Rattle.board.specs.rules.Board.{inSequence}
 use Rattle.board.specs.promises.Board.{Good}
 use Rattle.share.specs.rules.Fills.{Fill, sizes, words}
+use Rattle.share.specs.rules.Share.{shares}
 use Rattle.share.specs.promises.Share.{Near}
 use Rattle.tape.specs.declared.order.Order.{Order}
 use Rattle.tape.specs.declared.event.Event.{Event}
@@ -155,6 +156,9 @@ module _ (o : Order) (es : List Event) where
     pub short : (r : Response) → In r (liveAtEnd o es) → r .customer ≡ false
         → leftToOthersAtPrice o es (workingPrice o es r) < sum (sizes (othersAtPrice o es (workingPrice o es r)))
         → Near (leftToOthersAtPrice o es (workingPrice o es r)) (sum (sizes (othersAtPrice o es (workingPrice o es r)))) (r .size) (got (r .sequence) (writtenFills o es))
+    -- and by sequence they have the pro rata shares of what is left to them: the leftovers go one each to the largest fractions, and among equal ones to the lower sequence
+    pub shared-out : (r : Response) → In r (liveAtEnd o es) → r .customer ≡ false
+        → gots (writtenFills o es) (inSequence (othersAtPrice o es (workingPrice o es r))) ≡ shares (leftToOthersAtPrice o es (workingPrice o es r)) (sizes (inSequence (othersAtPrice o es (workingPrice o es r))))
     -- of what the others at a price trade together, each trades the whole part of its share, or one more; where one is not filled, the Contra Order has no more than its guarantee, or than it has at better prices
     pub share : (r : Response) → In r (liveAtEnd o es) → r .customer ≡ false
         → Near (sum (gots (writtenFills o es) (othersAtPrice o es (workingPrice o es r)))) (sum (sizes (othersAtPrice o es (workingPrice o es r)))) (r .size) (got (r .sequence) (writtenFills o es))

@@ -1,5 +1,3 @@
-use mathlib.Core.Path.{sym, _∙_}
-use native.Mathlib.Omega.{arith}
 use Rattle.trade.specs.inside.Code.{amongOf, meanOf}
 use borrow.Author.Needs.{needs}
 use Rattle.trade.proofs.leftovers.among.Statement.{statement}

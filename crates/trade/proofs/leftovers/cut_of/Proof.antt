@@ -1,11 +1,10 @@
 use mathlib.Core.Path.{_≡_, refl, sym, _∙_}
-use Prim.Native.Nat.{ℕ, _+_, _*_, _^_, _≤_, _<_}
+use Prim.Native.Nat.{_+_, _*_, _^_, _<_}
 use native.Mathlib.Omega.{arith}
 use lib.ListN.{length}
 use borrow.Author.Needs.{needs}
 use Rattle.base.proofs.ListLaws.{length-mapped}
-use Rattle.words.specs.rules.Bits.{withoutBit}
-use Rattle.words.proofs.BitLaws.{without-le, without-lowest}
+use Rattle.words.proofs.BitLaws.{without-lowest}
 use Rattle.board.specs.rules.Board.{liveIn}
 use Rattle.share.specs.rules.Fills.{sizes}
 use Rattle.share.proofs.ShareLaws.{cut-whole}
