@@ -149,6 +149,27 @@ static void batch(void)
     }
 }
 
+/* n responses at one price that come to the total, each of the size or one more than the last; the last makes it up. */
+static void adding_up(int n, uint32_t total, uint32_t size, uint32_t more)
+{
+    int i;
+
+    for (i = 0; i < n; i++) {
+        uint32_t s = i < n - 1 ? size + (uint32_t)i * more : total;
+
+        respond(s, 950);
+        total -= s;
+    }
+}
+
+/* The auction's tape in mode 2, with the market order that takes all or without: 6,000 are left for the others where they are more. */
+static void shared_out(int market)
+{
+    if (market)
+        all_to_market();
+    tape(PEER_MATCH);
+}
+
 /* Cases by name: KIND-COUNT, where COUNT is how many responses stand. */
 static int make(const char *name)
 {
@@ -195,21 +216,25 @@ static int make(const char *name)
         tape(PEER_STOP);
     } else if (IS("shared") || IS("shared_market")) {       /* at one price, more than the order: pro rata */
         responses(n, 0, 10000 / (uint32_t)(n ? n : 1) + 50);
-        if (IS("shared_market"))
-            all_to_market();
-        tape(PEER_MATCH);
+        shared_out(IS("shared_market"));
     } else if (IS("crossed") || IS("crossed_market")) {    /* the same, and the first place has the last sequence */
         responses(n, 0, 10000 / (uint32_t)(n ? n : 1) + 50);
         if (n)
             out_of_order(10000 / (uint32_t)n + 50);
-        if (IS("crossed_market"))
-            all_to_market();
-        tape(PEER_MATCH);
+        shared_out(IS("crossed_market"));
+    } else if (IS("whole") || IS("whole_market")) {         /* no leftovers: even sizes, twice what they share */
+        adding_up(n, 12000, 12000 / (uint32_t)(n ? n : 1) / 2 * 2, 0);
+        shared_out(IS("whole_market"));
+    } else if (IS("apart") || IS("apart_market")) {         /* leftovers, and no two fractions alike */
+        for (i = 0; i < n; i++)
+            respond(10000 / (uint32_t)n + 51 + (uint32_t)i, 950);
+        shared_out(IS("apart_market"));
+    } else if (IS("short") || IS("short_market")) {         /* one contract more than they share: all but one get a leftover, no two fractions alike */
+        adding_up(n, 6001, n ? 6001 / (uint32_t)n - (uint32_t)n / 2 : 0, 1);
+        shared_out(IS("short_market"));
     } else if (IS("priced") || IS("priced_market")) {       /* each at its own price, less than the order: every price trades */
         responses(n, 1, 60);
-        if (IS("priced_market"))
-            all_to_market();
-        tape(PEER_MATCH);
+        shared_out(IS("priced_market"));
     } else if (IS("refused")) {
         length[0] = 0;
         n_tapes = 1;
@@ -229,7 +254,9 @@ static int make(const char *name)
 static const char *const cases[] = {
     "refused", "order", "standing-0", "standing-1", "standing-8", "standing-63", "quotes-0", "quotes-8", "quotes-63", "pairs-0", "pairs-8", "pairs-63",
     "amended-1", "amended-8", "amended-63",
-    "limits-8", "resent-8", "shared-1", "shared-8", "shared-64", "shared_market-0", "shared_market-1", "shared_market-8", "shared_market-64",
+    "limits-8", "resent-8", "shared-1", "shared-8", "shared-40", "shared-64", "shared_market-0", "shared_market-1", "shared_market-8", "shared_market-40",
+    "shared_market-64", "whole-40", "whole-64", "whole_market-0", "whole_market-40", "whole_market-64", "apart-40", "apart-64", "apart_market-0",
+    "apart_market-40", "apart_market-64", "short-40", "short-64", "short_market-0", "short_market-40", "short_market-64",
     "crossed-8", "crossed-64", "crossed_market-0", "crossed_market-8", "crossed_market-64",
     "priced-1", "priced-8", "priced-64", "priced_market-0", "priced_market-1", "priced_market-8", "priced_market-64", "no_responses", "mixed", "batch",
 };

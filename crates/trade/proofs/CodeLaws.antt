@@ -14,10 +14,10 @@ use Rattle.board.specs.declared.Response.{Response}
 use Rattle.base.specs.Lists.{keep, filter, sum}
 use Rattle.board.specs.rules.Board.{noResponse, liveIn}
 use Rattle.board.proofs.LiveLaws.{none-live, first-live}
-use Rattle.share.specs.rules.Share.{floors}
+use Rattle.share.specs.rules.Share.{fractions}
 use Rattle.share.specs.rules.Fills.{sizes}
 use Rattle.trade.specs.rules.Trade.{guaranteeOf}
-use Rattle.trade.specs.inside.Code.{sharedOf, contraOf, worksAt, leastOf, lastSequence, Adds}
+use Rattle.trade.specs.inside.Code.{sharedOf, contraOf, worksAt, leastOf, lastSequence, Adds, fractionsIn}
 use Rattle.trade.specs.declared.Found.{Found}
 
 -- ---- numbers
@@ -85,11 +85,6 @@ unfolding leastOf
 least-le bound last [] = omega arith
 least-le bound last (r ∷ rs) = omega (arith, least-le bound last rs)
 
--- a sum over the places: f is what each adds
-sum-turn : (f : ℕ → ℕ) (g : List Response → ℕ) → ((r : Response) (rs : List Response) → g (r ∷ rs) ≡ f (r .size) + g rs)
-    → (ps : List Response) (rest i : ℕ) → Turn ps rest i → g (liveIn rest ps) ≡ f (getD ps i noResponse .size) + g (liveIn (withoutBit rest i) ps)
-sum-turn f g h ps rest i t = ap g (t .cons) ∙ h (getD ps i noResponse) (liveIn (withoutBit rest i) ps)
-
 pub sizes-turn : (t : Response → Bool) (ps : List Response) (rest i : ℕ) → Turn ps rest i
     → sum (sizes (filter t (liveIn rest ps))) ≡ cond (t (getD ps i noResponse)) (getD ps i noResponse .size) 0 + sum (sizes (filter t (liveIn (withoutBit rest i) ps)))
 unfolding sum filter
@@ -108,10 +103,8 @@ last-turn t m ps rest i k = rw (k .cons) (go (t (getD ps i noResponse)))
     go true = refl
     go false = refl
 
-pub parts-turn : (R T : ℕ) (ps : List Response) (rest i : ℕ) → Turn ps rest i
-    → sum (floors R T (sizes (liveIn rest ps))) ≡ R * getD ps i noResponse .size / T + sum (floors R T (sizes (liveIn (withoutBit rest i) ps)))
-unfolding sum
-parts-turn R T = sum-turn (λ s. R * s / T) (λ rs. sum (floors R T (sizes rs))) (λ r rs. refl)
+pub fractions-turn : (R T : ℕ) (ps : List Response) (rest i : ℕ) → Turn ps rest i → fractionsIn R T ps rest ≡ (R * getD ps i noResponse .size % T) ∷ fractionsIn R T ps (withoutBit rest i)
+fractions-turn R T ps rest i t = ap (λ (rs : List Response). fractions R T (sizes rs)) (t .cons)
 
 pub sizes-none : (t : Response → Bool) (ps : List Response) → sum (sizes (filter t (liveIn 0 ps))) ≡ 0
 unfolding sum filter
@@ -121,9 +114,8 @@ pub last-none : (t : Response → Bool) (m : ℕ) (ps : List Response) → lastS
 unfolding lastSequence filter
 last-none t m ps = rw (none-live ps)
 
-pub parts-none : (R T : ℕ) (ps : List Response) → sum (floors R T (sizes (liveIn 0 ps))) ≡ 0
-unfolding sum
-parts-none R T ps = rw (none-live ps)
+pub fractions-none : (R T : ℕ) (ps : List Response) → fractionsIn R T ps 0 ≡ []
+fractions-none R T ps = rw (none-live ps)
 
 -- one place less to go
 pub count-turn : (ps : List Response) (rest i : ℕ) → Turn ps rest i → length (liveIn rest ps) ≡ suc (length (liveIn (withoutBit rest i) ps))

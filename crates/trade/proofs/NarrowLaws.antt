@@ -3,8 +3,8 @@ use mathlib.Core.Path.{_≡_, refl, sym, ap, subst, _∙_}
 use mathlib.Core.Bool.{Bool, true, false, cond, not}
 use mathlib.Core.List.{List, [], _∷_}
 use mathlib.Core.Logic.{⊎-elim}
-use Prim.Native.Nat.{ℕ, _+_, _-_, _*_, _%_, _^_, _≤_, _<_}
-use native.Mathlib.Nat.{div-add-mod', mod-lt, mul-le-mul}
+use Prim.Native.Nat.{ℕ, _+_, _-_, _*_, _/_, _%_, _^_, _≤_, _<_}
+use native.Mathlib.Nat.{div-add-mod', mod-lt, mul-div-cancel}
 use native.Mathlib.Omega.{arith}
 use borrow.Author.Tests.{le-leb, lt-leb}
 use lib.Dec.{leb, ltb}
@@ -24,8 +24,8 @@ use Rattle.share.proofs.ShareLaws.{wholes, left-at-most}
 use Rattle.share.proofs.CutLaws.{cut-upper, cut-lower, cut-level, some-upper, upper-lower}
 use Rattle.trade.specs.declared.Among.{Among}
 use Rattle.trade.specs.declared.Upper.{Upper}
-use Rattle.trade.specs.inside.Code.{fractionsIn, Leaves, meanOf, amongOf, narrowedOf}
-use Rattle.trade.proofs.CodeLaws.{Turn, live-short}
+use Rattle.trade.specs.inside.Code.{fractionsIn, Short, meanOf, amongOf, narrowedOf}
+use Rattle.trade.proofs.CodeLaws.{Turn, fractions-turn, fractions-none}
 use Rattle.trade.proofs.StepLaws.{word-le, word-rest}
 
 -- ---- the mean of n numbers, rounded up
@@ -129,30 +129,30 @@ module _ (R T : ℕ) (ps : List Response) (e : length ps ≡ 64) where
   unfolding amongOf
   seeks-of word k w total served f s l p n g = record { fit = f; sum-is = s; low = l; some = p; enough = n; mean-is = refl; leads = g }
 
-  -- all of the word, at the start
-  module _ (word k : ℕ) (p : 0 < k) (v : Leaves ps word R T k) where
-    abbrev ss : List ℕ
-    ss = sizes (liveIn word ps)
+  -- all of the word, at the start: their fractions come to total
+  module _ (word total : ℕ) (v : Short ps word R T) (q : total ≡ sum (fs R T ps word)) where
+    abbrev left : ℕ
+    left = leftover R (sizes (liveIn word ps))
 
-    left : k ≡ leftover R ss
-    left = rw (← v .total-is) (v .left-is)
-
-    positive : 0 < sum ss
+    positive : 0 < sum (sizes (liveIn word ps))
     positive = omega (arith, v .total-is, v .short)
 
-    start-many : k ≤ onesIn 64 word
+    -- as many wholes as there are leftovers
+    pub wholes-left : total / T ≡ left
+    wholes-left =
+        let w : total ≡ left * T = q ∙ rw (v .total-is) (wholes R (sizes (liveIn word ps)) positive) in
+        ap (λ (n : ℕ). n / T) w ∙ mul-div-cancel left (omega (arith, v .short))
+
+    start-many : left ≤ onesIn 64 word
     start-many =
-        let m : k ≤ howMany (ltb 0) (fs R T ps word) = rw (left, v .total-is) (left-at-most R ss positive) in
+        let m : left ≤ howMany (ltb 0) (fs R T ps word) = rw (v .total-is) (left-at-most R (sizes (liveIn word ps)) positive) in
         omega (arith, m, filter-length (ltb 0) (fs R T ps word), many word)
 
-    pub start-some : 0 < onesIn 64 word
-    start-some = omega (arith, start-many)
+    pub start-some : 0 < total / T → 0 < onesIn 64 word
+    start-some p = omega (arith, start-many, wholes-left)
 
-    pub start-low : k * T ≤ 70368744161280
-    start-low = mul-le-mul {n₁ = k} {m₁ = T} {n₂ = 64} {m₂ = 1099511627520} (omega (arith, start-many, many word, fractions-length (liveIn word ps), live-short word ps)) (v .small)
-
-    pub seeks-start : word < 2 ^ 64 → Seeks R T ps word k (amongOf word (k * T) k)
-    seeks-start h = seeks-of word k word (k * T) k h (rw (left, v .total-is) (sym (wholes R ss positive))) start-low p start-many (λ c s _ g. g)
+    pub seeks-start : total ≤ 70368744161280 → 0 < total / T → word < 2 ^ 64 → Seeks R T ps word left (amongOf word total (total / T))
+    seeks-start l p h = rw wholes-left (seeks-of word left word total left h q l (rw wholes-left at p) start-many (λ c s _ g. g))
 
   pub looked-start : (a : Among) (rest : ℕ) → rest ≡ a .word → rest < 2 ^ 64 → Looked R T ps a (record { word = 0; sum = 0 }) rest
   looked-start a rest q h = rw q (record { fit = rw q at h; sifted = sift-start (isUpper R T ps (a .mean)) ps (a .word); upper = omega arith })
@@ -161,7 +161,7 @@ module _ (R T : ℕ) (ps : List Response) (e : length ps ≡ 64) where
       → v .word ≡ cond (leb (a .mean) x) (withBit (u .word) i) (u .word) → v .sum ≡ u .sum + cond (leb (a .mean) x) x 0 → withoutBit rest i < 2 ^ 64
       → Looked R T ps a u rest → Looked R T ps a v (withoutBit rest i)
   looked-step a u v rest i x t q w s f l =
-      let c : fs R T ps rest ≡ x ∷ fs R T ps (withoutBit rest i) = rw q (ap (λ (rs : List Response). fractions R T (sizes rs)) (t .cons)) in
+      let c : fs R T ps rest ≡ x ∷ fs R T ps (withoutBit rest i) = rw q (fractions-turn R T ps rest i t) in
       record {
         fit = f;
         sifted = rw (w, q) (sift-step (isUpper R T ps (a .mean)) ps (a .word) (u .word) rest i noResponse (omega (arith, t .low)) (t .low) (t .set) (l .sifted));
@@ -225,7 +225,7 @@ module _ (R T : ℕ) (ps : List Response) (e : length ps ≡ 64) where
 
       upper-sum : u .sum ≡ sum (fs R T ps (u .word))
       unfolding sum filter
-      upper-sum = omega (arith, l .upper, ap (λ (rs : List Response). sum (filter (leb (a .mean)) (fractions R T (sizes rs)))) (none-live ps), ap sum uppers)
+      upper-sum = omega (arith, l .upper, ap (λ (xs : List ℕ). sum (filter (leb (a .mean)) xs)) (fractions-none R T ps), ap sum uppers)
 
       others-sum : a .sum - u .sum ≡ sum (fs R T ps (a .word - u .word))
       others-sum = omega (arith, upper-sum, ap sum uppers, ap sum others, sum-split (leb (a .mean)) (fs R T ps (a .word)), seeks .sum-is)

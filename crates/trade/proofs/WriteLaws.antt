@@ -25,7 +25,7 @@ use Rattle.board.proofs.FirstLaws.{some-first, first-earliest, earliest-sequenc
 use Rattle.share.specs.rules.Share.{floors, fractions, leftover, howMany, oneEach, shares, inTurn}
 use Rattle.share.specs.rules.Fills.{fillOf, sizes}
 use Rattle.share.specs.inside.Cut.{oneBy, spareBy, byCut, Cuts}
-use Rattle.share.proofs.ShareLaws.{room, floors-at-most, shares-sum, shares-length}
+use Rattle.share.proofs.ShareLaws.{room, shares-sum, shares-length}
 use Rattle.share.proofs.CutLaws.{many-cons, one-each-cut}
 use Rattle.trade.specs.inside.Code.{eachFills, dealt, shareFills, isRising, lastSequence, Summed, Gives}
 use Rattle.trade.specs.declared.Given.{Given}
@@ -123,21 +123,19 @@ shares-all p R T xs e h =
 cuts-sequence : (R T k c s : ℕ) (xs : List Response) → Cuts k (fractions R T (sizes xs)) c s → Cuts k (fractions R T (sizes (inSequence xs))) c s
 cuts-sequence R T k c s xs h = record { counted = omega (arith, h .counted, many-sequence R T (ltb c) xs); enough = omega (arith, h .enough, many-sequence R T (eqb c) xs) }
 
-pub shares-parts : (p R T k c s : ℕ) (xs : List Response) → T ≡ sum (sizes xs) → R < T → k ≡ R - sum (floors R T (sizes xs)) → Cuts k (fractions R T (sizes xs)) c s
+pub shares-parts : (p R T c s : ℕ) (xs : List Response) → T ≡ sum (sizes xs) → R < T → Cuts (leftover R (sizes xs)) (fractions R T (sizes xs)) c s
     → shareFills p R (inSequence xs) ≡ eachFills p false R T c s (inSequence xs)
 unfolding shareFills eachFills dealt shares
-shares-parts p R T k c s xs e h f cuts =
+shares-parts p R T c s xs e h cuts =
+    let k = leftover R (sizes xs) in
     let z : sum (sizes (inSequence xs)) ≡ T = sizes-sequence xs ∙ sym e in
-    let y : leftover R (sizes (inSequence xs)) ≡ k = rw (z, parts-sequence R T xs) (sym f) in
+    let y : leftover R (sizes (inSequence xs)) ≡ k = rw (z, e, parts-sequence R (sum (sizes xs)) xs) in
     let o : oneEach k [] (fractions R T (sizes (inSequence xs))) ≡ byCut c s (fractions R T (sizes (inSequence xs))) = one-each-cut k (fractions R T (sizes (inSequence xs))) c s (cuts-sequence R T k c s xs cuts) in
     rw (lt-leb (sum (sizes (inSequence xs))) R (omega arith), y, z, o)
 
 pub shares-none : (p R : ℕ) (ps : List Response) → shareFills p R (inSequence (liveIn 0 ps)) ≡ []
 unfolding shareFills
 shares-none p R ps = rw (none-left ps)
-
-pub parts-le : (R T : ℕ) (xs : List Response) → T ≡ sum (sizes xs) → R < T → sum (floors R T (sizes xs)) ≤ R
-parts-le R T xs e h = rw e (floors-at-most R (sizes xs) (omega arith))
 
 -- ---- one response alone
 

@@ -4,8 +4,11 @@ ghost use mathlib.Core.Bool.{cond};
 ghost use Prim.Native.Nat.{_+_, _-_, _≤_, _<_};
 ghost use lib.Dec.{leb};
 ghost use Rattle.words.specs.rules.Bits.{onesIn, withBit};
+ghost use Rattle.board.specs.rules.Board.{liveIn};
+ghost use Rattle.share.specs.rules.Share.{leftover};
+ghost use Rattle.share.specs.rules.Fills.{sizes};
 ghost use Rattle.share.specs.inside.Cut.{Cuts};
-ghost use Rattle.trade.specs.inside.Code.{fractionsIn, Leaves, amongOf, narrowedOf};
+ghost use Rattle.trade.specs.inside.Code.{fractionsIn, Short, amongOf, narrowedOf};
 use crate::Among;
 use crate::Cut;
 use crate::Upper;
@@ -54,20 +57,29 @@ fn narrowed(a: Among, u: Upper) -> Among
     among(a.word - u.word, a.sum - u.sum, a.served - n)
 }
 
-// The cut of k leftovers over the responses of the word. A turn looks at one more place, or takes the half that has the cut; where all that are left have one fraction, that is it. All the fractions together come to k * total.
-pub(crate) fn cut_of(b: Board, word: u64, amount: u64, total: u64, k: u64) -> Cut
-    requires { ⌜ Leaves (b .places) word amount total k ⌝ }
-    ensures { λ r. ⌜ Cuts k (fractionsIn amount total (b .places) word) (r .fraction) (r .spare) ⌝ }
+// The cut of the leftovers of an amount over the responses of the word, whose sizes come to the total. The first loop adds up the fractions: they come to as many wholes as there are leftovers.
+// In the second a turn looks at one more place, or takes the half that has the cut; where all that are left are at the mean, that is it.
+pub(crate) fn cut_of(b: Board, word: u64, amount: u64, total: u64) -> Cut
+    requires { ⌜ Short (b .places) word amount total ⌝ }
+    ensures { λ r. ⌜ Cuts (leftover amount (sizes (liveIn word (b .places)))) (fractionsIn amount total (b .places) word) (r .fraction) (r .spare) ⌝ }
 {
+    let mut sum: u64 = 0;
+    let mut rest = word;
+    while rest != 0 {
+        let i = bits::first_set(rest) as usize;
+        sum += scan::fraction_of(amount, total, b.places[i].size);
+        rest = bits::without_lowest(rest);
+    }
+    let k = sum / total;
     if k == 0 {
         return Cut {
             fraction: total,
             spare: 0,
         };
     }
-    let mut a = among(word, k * total, k);
+    let mut a = among(word, sum, k);
     let mut u = Upper { word: 0, sum: 0 };
-    let mut rest = word;
+    rest = word;
     while u.word != a.word {
         if rest != 0 {
             let i = bits::first_set(rest) as usize;

@@ -2,9 +2,6 @@
 ghost use mathlib.Core.Path.{_≡_};
 ghost use Prim.Native.Nat.{_+_, _*_, _/_, _%_, _≤_, _<_};
 ghost use Rattle.board.specs.rules.Board.{liveIn, liveOf};
-ghost use Rattle.base.specs.Lists.{sum};
-ghost use Rattle.share.specs.rules.Share.{floors};
-ghost use Rattle.share.specs.rules.Fills.{sizes};
 ghost use Rattle.trade.specs.inside.Code.{leastOf, foundAt, Takes, FoundAt};
 use crate::Found;
 use crate::numbers;
@@ -113,19 +110,4 @@ pub(crate) fn fraction_of(amount: u64, total: u64, size: u32) -> u64
     ensures { λ r. ⌜ (r ≡ amount * size % total) × (r < total) ⌝ }
 {
     amount * base::wide(size) % total
-}
-
-// The whole parts, summed.
-pub(crate) fn parts_of(b: Board, word: u64, amount: u64, total: u64) -> u64
-    requires { ⌜ (amount ≤ 4294967295) × (amount < total) ⌝ }
-    ensures { λ r. ⌜ r ≡ sum (floors amount total (sizes (liveIn word (b .places)))) ⌝ }
-{
-    let mut given: u64 = 0;
-    let mut rest = word;
-    while rest != 0 {
-        let i = bits::first_set(rest) as usize;
-        given += part_of(amount, total, b.places[i].size);
-        rest = bits::without_lowest(rest);
-    }
-    given
 }

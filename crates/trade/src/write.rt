@@ -199,8 +199,7 @@ pub(crate) fn write_shares(
     if total <= amount {
         return write_each(b, word, price, true, amount, total, 0, amount, out, at);
     }
-    let leftover = amount - scan::parts_of(b, word, amount, total);
-    let c = leftovers::cut_of(b, word, amount, total, leftover);
+    let c = leftovers::cut_of(b, word, amount, total);
     write_each(
         b,
         word,

@@ -135,13 +135,12 @@ pub record Gives (turns : Bool) (R T c k s : ℕ) (g : Given) : Type 0 where
 abbrev pub fractionsIn : ℕ → ℕ → List Response → ℕ → List ℕ
 fractionsIn R T places word = fractions R T (sizes (liveIn word places))
 
--- R is short of the sizes of the responses of a word, which come to T, and their whole parts leave k
-pub record Leaves (places : List Response) (word R T k : ℕ) : Type 0 where
+-- R is short of the sizes of the responses of a word, which come to T
+pub record Short (places : List Response) (word R T : ℕ) : Type 0 where
   pub short : R < T
   pub low : R ≤ 4294967295
   pub small : T ≤ 1099511627520
   pub total-is : T ≡ sum (sizes (liveIn word places))
-  pub left-is : k ≡ R - sum (floors R T (sizes (liveIn word places)))
 
 -- the mean of n numbers, rounded up
 unfoldable pub meanOf : ℕ → ℕ → ℕ

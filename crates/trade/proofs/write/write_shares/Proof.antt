@@ -1,14 +1,14 @@
-use mathlib.Core.Path.{_≡_, sym, ap, _∙_}
+use mathlib.Core.Path.{_≡_, sym, _∙_}
 use mathlib.Core.Bool.{false, true≢false}
-use Prim.Native.Nat.{ℕ, _-_, _^_, _<_, min}
+use Prim.Native.Nat.{_^_, _<_, min}
 use native.Mathlib.Omega.{arith}
 use borrow.Author.Tests.{eqb-true}
 use lib.ListN.{length}
 use Rattle.board.specs.rules.Board.{liveIn, inSequence}
 use Rattle.share.specs.rules.Fills.{fillOf}
 use Rattle.share.proofs.FillsLaws.{left-start, left-done}
-use Rattle.trade.specs.inside.Code.{eachFills, shareFills, Leaves}
-use Rattle.trade.proofs.WriteLaws.{shares-all, shares-parts, shares-none, shares-one, parts-le}
+use Rattle.trade.specs.inside.Code.{eachFills, shareFills, Short}
+use Rattle.trade.proofs.WriteLaws.{shares-all, shares-parts, shares-none, shares-one}
 use borrow.Author.Needs.{needs}
 use Rattle.base.proofs.ListLaws.{length-mapped}
 use Rattle.trade.proofs.write.write_shares.Statement.{statement}
@@ -64,39 +64,29 @@ returns-3 c =
     let a = s .args in
     rw (shares-all (a .price) (a .amount) (a .total) (liveIn (a .word) (a .b .places)) (s .pre .0 .1 .total-is) (c .before .before .before .before .if3 .taken)) (c .before .before .write-each .ensures)
 
-parts-of-requires : tie.Need-parts-of-requires
-parts-of-requires c κs = search needs
-
-sub-leftover : tie.Need-sub-leftover
-sub-leftover c =
-    let s = c .before .before .before .before .before .before in
-    let a = s .args in
-    omega (arith, c .parts-of .ensures, parts-le (a .amount) (a .total) (liveIn (a .word) (a .b .places)) (s .pre .0 .1 .total-is) (omega arith))
-
--- what the whole parts leave
-leaves : (c : tie.After-parts-of)
-    → Leaves (c .before .before .before .before .before .before .args .b .places) (c .before .before .before .before .before .before .args .word) (c .before .before .before .before .before .before .args .amount) (c .before .before .before .before .before .before .args .total) (c .before .before .before .before .before .before .args .amount - c .parts-of .result)
-leaves c =
-    let s = c .before .before .before .before .before .before in
-    record { short = omega (arith, c .before .if3 .left); low = s .pre .0 .0; small = s .pre .0 .1 .small; total-is = s .pre .0 .1 .total-is; left-is = ap (λ (n : ℕ). s .args .amount - n) (c .parts-of .ensures) }
+-- the amount is short of them
+short : (c : tie.Else3) → Short (c .before .before .before .before .before .args .b .places) (c .before .before .before .before .before .args .word) (c .before .before .before .before .before .args .amount) (c .before .before .before .before .before .args .total)
+short c =
+    let s = c .before .before .before .before .before in
+    record { short = omega (arith, c .if3 .left); low = s .pre .0 .0; small = s .pre .0 .1 .small; total-is = s .pre .0 .1 .total-is }
 
 cut-of-requires : tie.Need-cut-of-requires
-cut-of-requires c κs = leaves c
+cut-of-requires c κs = short c
 
 -- the fills, by the cut
 fills : (c : tie.After-cut-of)
-    → shareFills (c .before .before .before .before .before .before .before .args .price) (c .before .before .before .before .before .before .before .args .amount) (inSequence (liveIn (c .before .before .before .before .before .before .before .args .word) (c .before .before .before .before .before .before .before .args .b .places)))
-    ≡ eachFills (c .before .before .before .before .before .before .before .args .price) false (c .before .before .before .before .before .before .before .args .amount) (c .before .before .before .before .before .before .before .args .total) (c .cut-of .result .fraction) (c .cut-of .result .spare) (inSequence (liveIn (c .before .before .before .before .before .before .before .args .word) (c .before .before .before .before .before .before .before .args .b .places)))
+    → shareFills (c .before .before .before .before .before .before .args .price) (c .before .before .before .before .before .before .args .amount) (inSequence (liveIn (c .before .before .before .before .before .before .args .word) (c .before .before .before .before .before .before .args .b .places)))
+    ≡ eachFills (c .before .before .before .before .before .before .args .price) false (c .before .before .before .before .before .before .args .amount) (c .before .before .before .before .before .before .args .total) (c .cut-of .result .fraction) (c .cut-of .result .spare) (inSequence (liveIn (c .before .before .before .before .before .before .args .word) (c .before .before .before .before .before .before .args .b .places)))
 fills c =
-    let a = c .before .before .before .before .before .before .before .args in
-    let l = leaves (c .before) in
-    shares-parts (a .price) (a .amount) (a .total) _ (c .cut-of .result .fraction) (c .cut-of .result .spare) (liveIn (a .word) (a .b .places)) (l .total-is) (l .short) (l .left-is) (c .cut-of .ensures)
+    let a = c .before .before .before .before .before .before .args in
+    let l = short (c .before) in
+    shares-parts (a .price) (a .amount) (a .total) (c .cut-of .result .fraction) (c .cut-of .result .spare) (liveIn (a .word) (a .b .places)) (l .total-is) (l .short) (c .cut-of .ensures)
 
 write-each-requires-2 : tie.Need-write-each-requires-2
 write-each-requires-2 c κs =
     let d = c .before in
-    let l = leaves (d .before) in
-    ((l .low, omega (arith, l .low, d .cut-of .ensures .counted), λ e. l .short), rw (fills d) at (d .before .before .before .before .before .before .before .pre .1))
+    let l = short (d .before) in
+    ((l .low, omega (arith, l .low, d .cut-of .ensures .counted), λ e. l .short), rw (fills d) at (d .before .before .before .before .before .before .pre .1))
 
 same-length-3 : tie.Need-same-length-3
 same-length-3 c = search needs
@@ -117,8 +107,6 @@ write-shares-spec =
     write-each-requires
     same-length-2
     returns-3
-    parts-of-requires
-    sub-leftover
     cut-of-requires
     write-each-requires-2
     same-length-3
