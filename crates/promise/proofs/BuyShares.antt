@@ -91,6 +91,14 @@ of-none R T s e = rw (e, zero-mul s) (zero-div T)
 none-of : (R T s : ℕ) → s ≡ 0 → R * s / T ≡ 0
 none-of R T s e = rw (e, mul-zero R) (zero-div T)
 
+-- the others are no Customers
+pub not-customer : (x : Response) (rs : List Response) → In x (filter fromOther rs) → x .customer ≡ false
+not-customer x rs m = go (x .customer) (filter-test fromOther rs x m)
+  where
+    go : (t : Bool) → not t ≡ true → t ≡ false
+    go true e = no (sym e)
+    go false e = refl
+
 -- who trade nothing have what adds up to nothing
 all-none : (fs : List Fill) (os : List Response) → ((x : Response) → In x os → got (x .sequence) fs ≡ 0) → (qs : List ℕ) → length qs ≡ length os → sum qs ≡ 0 → gots fs os ≡ qs
 unfolding sum
@@ -255,13 +263,9 @@ module _ (d : Deal) (b : Board) where
           let a = at-price d (offers b) (fit d b s) p x m in
           record {
             live = every-in (λ y. In y (liveOf b)) (offers b) x (all-sequence (λ y. In y (liveOf b)) (liveOf b) (every-with (λ y. In y (liveOf b)) (liveOf b) (λ y i. i))) (a .0);
-            other = not-customer (x .customer) (filter-test fromOther _ x m);
+            other = not-customer x (offersAt d (offers b) p) m;
             works-at = a .1;
           }
-        where
-          not-customer : (t : Bool) → not t ≡ true → t ≡ false
-          not-customer true e = no (sym e)
-          not-customer false e = refl
 
       -- where nothing trades there, it gets nothing, and has no size or nothing is left
       idle-there : soldAt p (walked d all) ≡ 0 → (x : Response) → In x os → (got (x .sequence) all ≡ 0) × ((x .size ≡ 0) ⊎ (leftAt p ≡ 0))

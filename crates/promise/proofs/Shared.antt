@@ -2,14 +2,14 @@
 use mathlib.Core.Path.{_≡_, refl, sym, ap, ap₂, _∙_, subst}
 use mathlib.Core.Bool.{Bool, true, false, _&&_}
 use mathlib.Core.List.{List, [], _∷_, map}
-use mathlib.Core.Logic.{_≢_}
+use mathlib.Core.Logic.{inl, _≢_}
 use Prim.Native.Nat.{ℕ, _-_, _≤_, _<_, min, max}
 use native.Mathlib.Omega.{arith}
 use lib.Dec.{ltb, eqb}
 use lib.ListN.{length, length-map}
-use borrow.Author.Tests.{ltb-false, eqb-false}
+use borrow.Author.Tests.{ltb-false, eqb-true, eqb-false}
 use Rattle.base.specs.Lists.{In, Every, filter, sum}
-use Rattle.base.proofs.ListLaws.{every-any, every-map, every-filter, shuffles-length}
+use Rattle.base.proofs.ListLaws.{every-any, every-map, every-filter, filter-in, filter-test, shuffles-length}
 use Rattle.board.specs.declared.Response.{Response}
 use Rattle.board.specs.declared.Board.{Board}
 use Rattle.board.specs.rules.Board.{liveOf, inSequence}
@@ -26,6 +26,7 @@ use Rattle.trade.specs.rules.Plan.{Plan, planOf}
 use Rattle.trade.specs.rules.Trade as trade
 use Rattle.trade.specs.rules.Trade.{fromCustomer, fromOther, offers, offersAt, working, workingStop, entry, guaranteeOf}
 use Rattle.trade.specs.rules.Write.{reportedPrice}
+use Rattle.share.proofs.ShareLaws.{shares-nobody}
 use Rattle.trade.proofs.WriteLaws.{sizes-sequence}
 use Rattle.demand.proofs.Lists.{tally-none}
 use Rattle.demand.specs.promises.Demands as demands
@@ -227,8 +228,8 @@ module _ (o : Order) (es : List Event) (h : acceptOf o .answer ≡ Accepted) whe
       buy.near (x .size) (sym (left-to-is (working d x) z)) (sym (others-are (working d x) z)) (sym (got-is o es h (x .sequence)))
       (buy.short-at d board can-trade x m c (omega (arith, others-are (working d x) z, left-to-is (working d x) z))))
 
-  pub shared-out : (r : Response) → In r (liveAtEnd o es) → r .customer ≡ false → SharedOut r (workingPrice o es r)
-  shared-out =
+  shared-by : (r : Response) → In r (liveAtEnd o es) → r .customer ≡ false → SharedOut r (workingPrice o es r)
+  shared-by =
       as-sent SharedOut
       (λ x m c z.
       let os = demands.othersAt d (offers board) (working d x) in
@@ -237,6 +238,19 @@ module _ (o : Order) (es : List Event) (h : acceptOf o .answer ≡ Accepted) whe
       ∙ gots-sent sell (writtenFills o es) (dealt o es h) (got-is o es h) os
       ∙ buy.shares-at d board can-trade (working d x)
       ∙ sym (ap₂ shares (left-to-is (working d x) z) (ap sizes by ∙ sizes-sent sell os)))
+
+  -- where there are others at a price, it is the working price of one
+  pub shared-out : (p : ℕ) → gots (writtenFills o es) (inSequence (othersAtPrice o es p)) ≡ shares (leftToOthersAtPrice o es p) (sizes (inSequence (othersAtPrice o es p)))
+  unfolding inSequence
+  shared-out p = go (othersAtPrice o es p) refl
+    where
+      go : (os : List Response) → othersAtPrice o es p ≡ os → gots (writtenFills o es) (inSequence (othersAtPrice o es p)) ≡ shares (leftToOthersAtPrice o es p) (sizes (inSequence (othersAtPrice o es p)))
+      go [] e = rw e (sym (shares-nobody (leftToOthersAtPrice o es p)))
+      go (r ∷ os) e =
+          let m : In r (othersAtPrice o es p) = subst (In r) (sym e) (inl refl) in
+          let n : In r (allAtPrice o es p) = filter-in fromOther (allAtPrice o es p) r m in
+          subst (SharedOut r) (eqb-true (workingPrice o es r) p (filter-test (λ x. eqb (workingPrice o es x) p) (liveAtEnd o es) r n))
+          (shared-by r (filter-in (λ x. eqb (workingPrice o es x) p) (liveAtEnd o es) r n) (buy.not-customer r (allAtPrice o es p) m))
 
   pub guaranteed : (r : Response) → In r (liveAtEnd o es) → r .customer ≡ false → Guaranteed r (workingPrice o es r)
   guaranteed =

@@ -5,7 +5,7 @@ use Rattle.base.specs.Lists.{sum}
 use Rattle.share.specs.rules.Fills.{sizes}
 use Rattle.tape.specs.declared.order.Order.{Order}
 use Rattle.tape.specs.declared.event.Event.{Event}
-use Rattle.run.specs.promises.Figures.{order, gtx, event, market}
+use Rattle.run.specs.promises.Figures.{order, gtx, event, byCustomer, market}
 use Rattle.run.proofs.Figures.{Computed}
 use Rattle.trade.specs.rules.Plan.{cleanUp}
 use Rattle.promise.specs.rules.Sides.{leftAtPrice, planAtPrice, customersAtPrice, othersAtPrice, leftToOthersAtPrice}
@@ -52,11 +52,8 @@ unfolding Computed
 left-h = refl
 
 -- a market order of 20 ends it: 80 is left at 108, of which a Customer has 10 and the Contra Order 40; 30 is left for the others' 100
-abbrev customer : Event → Event
-customer e = record { sequence = e .sequence; time = e .time; kind = e .kind; marks = 1; side = e .side; f12 = e .f12; f16 = e .f16; f20 = e .f20; f24 = e .f24 }
-
 abbrev soldTo : List Event
-soldTo = customer (gtx 1 10 108) ∷ gtx 2 60 108 ∷ gtx 3 40 108 ∷ market 4 2 20 ∷ []
+soldTo = byCustomer (gtx 1 10 108) ∷ gtx 2 60 108 ∷ gtx 3 40 108 ∷ market 4 2 20 ∷ []
 
 left-sold : leftAtPrice orderA soldTo 108 ∷ sum (sizes (customersAtPrice orderA soldTo 108)) ∷ leftToOthersAtPrice orderA soldTo 108 ∷ sum (sizes (othersAtPrice orderA soldTo 108)) ∷ [] ≡ 80 ∷ 10 ∷ 30 ∷ 100 ∷ []
 unfolding Computed
@@ -64,7 +61,7 @@ left-sold = refl
 
 -- and to sell
 abbrev boughtFrom : List Event
-boughtFrom = customer (event 1 1 1 10 102) ∷ event 1 2 1 60 102 ∷ event 1 3 1 40 102 ∷ market 4 1 20 ∷ []
+boughtFrom = byCustomer (event 1 1 1 10 102) ∷ event 1 2 1 60 102 ∷ event 1 3 1 40 102 ∷ market 4 1 20 ∷ []
 
 left-bought : leftAtPrice sellA boughtFrom 102 ∷ sum (sizes (customersAtPrice sellA boughtFrom 102)) ∷ leftToOthersAtPrice sellA boughtFrom 102 ∷ sum (sizes (othersAtPrice sellA boughtFrom 102)) ∷ [] ≡ 80 ∷ 10 ∷ 30 ∷ 100 ∷ []
 unfolding Computed

@@ -9,7 +9,7 @@ use native.Mathlib.Omega.{arith}
 use borrow.Author.Tests.{ltb-true, leb-true, eqb-true, lt-ltb, le-ltb, le-leb, lt-leb, eq-eqb, ne-eqb}
 use lib.Dec.{leb, ltb, eqb}
 use lib.ListN.{length}
-use Rattle.base.specs.Lists.{keep, filter, sum}
+use Rattle.base.specs.Lists.{Every, keep, filter, sum}
 use Rattle.base.proofs.Bools.{no}
 use Rattle.base.proofs.ListLaws.{filter-filter, filter-none, filter-length, every-any}
 use Rattle.base.proofs.Numbers.{le-or-lt, eq-or}
@@ -228,6 +228,46 @@ ones k xs h =
       total = rw e (omega (arith, cut-sum (f .cut) (f .spare) xs, f .cuts .counted, f .cuts .enough));
       in-rank = rw e (cut-rank (f .cut) (f .spare) xs);
     }
+
+-- ---- and no other rule is in rank
+
+-- of two lists in rank the one that gives the first none gives no more to the others
+less-after : (x : ℕ) (xs ms ns : List ℕ) → Each (NotPassed x 1) xs ms → Each (NotPassed x 0) xs ns → Every (λ n. n ≤ 1) ns → sum ns ≤ sum ms
+unfolding sum
+less-after x [] [] [] e f o = omega arith
+less-after x [] [] (n ∷ ns) e f o = absurd f
+less-after x [] (m ∷ ms) ns e f o = absurd e
+less-after x (y ∷ ys) [] ns e f o = absurd e
+less-after x (y ∷ ys) (m ∷ ms) [] e f o = absurd f
+less-after x (y ∷ ys) (m ∷ ms) (n ∷ ns) e f o =
+    ⊎-elim
+    (λ h. omega (arith, f .0 .0 h, less-after x ys ms ns (e .1) (f .1) (o .1)))
+    (λ h. omega (arith, e .0 .1 h, o .0, less-after x ys ms ns (e .1) (f .1) (o .1)))
+    (le-or-lt y x)
+
+pub rank-only : (xs ms ns : List ℕ) → InRank xs ms → InRank xs ns → Every (λ m. m ≤ 1) ms → Every (λ n. n ≤ 1) ns → sum ms ≡ sum ns → ms ≡ ns
+unfolding sum
+rank-only [] [] [] e f o p q = refl
+rank-only [] [] (n ∷ ns) e f o p q = absurd f
+rank-only [] (m ∷ ms) ns e f o p q = absurd e
+rank-only (x ∷ xs) [] ns e f o p q = absurd e
+rank-only (x ∷ xs) (m ∷ ms) [] e f o p q = absurd f
+rank-only (x ∷ xs) (m ∷ ms) (n ∷ ns) e f o p q =
+    let same : m ≡ n = ⊎-elim (λ h. ⊎-elim (λ g. omega arith) (λ g. absurd (ahead n m ns ms (f .0) (e .0) g (p .0) (o .1) (sym q))) (le-or-lt n m)) (λ h. absurd (ahead m n ms ns (e .0) (f .0) h (o .0) (p .1) q)) (le-or-lt m n) in
+    ap₂ {C = List ℕ} (λ y ys. y ∷ ys) same (rank-only xs ms ns (e .1) (f .1) (o .1) (p .1) (omega arith))
+  where
+    ahead : (m n : ℕ) (ms ns : List ℕ) → Each (NotPassed x m) xs ms → Each (NotPassed x n) xs ns → n < m → m ≤ 1 → Every (λ k. k ≤ 1) ns → m + sum ms ≡ n + sum ns → ⊥
+    ahead m n ms ns e f h l p q =
+        let a : m ≡ 1 = omega arith in
+        let b : n ≡ 0 = omega arith in
+        omega (arith, less-after x xs ms ns (rw a at e) (rw b at f) p)
+
+-- the marks of any rule are at most one
+pub marks-one : (ss ms : List ℕ) → Each Mark ss ms → Every (λ m. m ≤ 1) ms
+marks-one [] [] e = tt
+marks-one [] (m ∷ ms) e = absurd e
+marks-one (s ∷ ss) [] e = absurd e
+marks-one (s ∷ ss) (m ∷ ms) e = (e .0 .0, marks-one ss ms (e .1))
 
 -- ---- a cut of some of a list is a cut of the list
 

@@ -10,10 +10,10 @@ use borrow.Author.Tests.{leb-true, leb-false, lt-leb, le-leb, lt-ltb, le-ltb}
 use lib.Dec.{leb, ltb}
 use lib.ListN.{length}
 use Rattle.base.specs.Lists.{filter, sum}
-use Rattle.share.specs.rules.Share.{floors, fractions, plus, leftover, howMany, leftovers, sharesBy, shares, inTurn}
+use Rattle.share.specs.rules.Share.{floors, fractions, plus, leftoverCount, howMany, leftovers, sharesBy, shares, inTurn}
 use Rattle.share.specs.inside.Cut.{Cuts}
-use Rattle.share.specs.promises.Share.{Each, Mark, Marks, Near, Fair, ByFraction, ProRata}
-use Rattle.share.proofs.CutLaws.{many-pass, many-fail, ones}
+use Rattle.share.specs.promises.Share.{Each, Mark, Marks, Near, Fair, InRank, ByFraction, ProRata}
+use Rattle.share.proofs.CutLaws.{many-pass, many-fail, ones, rank-only, marks-one}
 
 -- ---- the whole parts
 
@@ -37,11 +37,11 @@ parts-all R T (s ∷ ss) =
     simp (mul-add, add-mul) (omega (arith, mod-add-div' (R * s) T, parts-all R T ss))
 
 -- they come to as many wholes as there are leftovers
-pub wholes : (R : ℕ) (ss : List ℕ) → 0 < sum ss → sum (fractions R (sum ss) ss) ≡ leftover R ss * sum ss
+pub wholes : (R : ℕ) (ss : List ℕ) → 0 < sum ss → sum (fractions R (sum ss) ss) ≡ leftoverCount R ss * sum ss
 wholes R ss h =
     let F = sum (floors R (sum ss) ss) in
-    let e : R ≡ F + leftover R ss = omega (arith, floors-at-most R ss h) in
-    let f : R * sum ss ≡ F * sum ss + leftover R ss * sum ss = ap (λ (n : ℕ). n * sum ss) e ∙ add-mul F (leftover R ss) (sum ss) in
+    let e : R ≡ F + leftoverCount R ss = omega (arith, floors-at-most R ss h) in
+    let f : R * sum ss ≡ F * sum ss + leftoverCount R ss * sum ss = ap (λ (n : ℕ). n * sum ss) e ∙ add-mul F (leftoverCount R ss) (sum ss) in
     omega (arith, parts-all R (sum ss) ss)
 
 -- each is less than a whole, so that there are as many that are not 0 as leftovers
@@ -65,7 +65,7 @@ cut-whole R T ss h = record { counted = omega (arith, none-above ss); enough = o
     none-above [] = refl
     none-above (x ∷ xs) = many-fail (ltb T) (R * x % T) (fractions R T xs) (le-ltb T (R * x % T) (omega (arith, mod-lt (R * x) h))) ∙ none-above xs
 
-pub left-at-most : (R : ℕ) (ss : List ℕ) → 0 < sum ss → leftover R ss ≤ howMany (ltb 0) (fractions R (sum ss) ss)
+pub left-at-most : (R : ℕ) (ss : List ℕ) → 0 < sum ss → leftoverCount R ss ≤ howMany (ltb 0) (fractions R (sum ss) ss)
 left-at-most R ss h = le-of-mul-le-mul-right (omega (arith, wholes R ss h, below-whole R (sum ss) ss h)) h
 
 -- one member's whole part leaves room for one more, where it has a size and R is short of T
@@ -156,11 +156,11 @@ all-sized R T (s ∷ ss) (m ∷ ms) e = (one-sized R T s m (e .0), all-sized R T
 by-fraction : (R : ℕ) (ss : List ℕ) → R < sum ss → ByFraction R ss
 by-fraction R ss h =
     let p : 0 < sum ss = omega arith in
-    let o = ones (leftover R ss) (fractions R (sum ss) ss) (left-at-most R ss p) in
+    let o = ones (leftoverCount R ss) (fractions R (sum ss) ss) (left-at-most R ss p) in
     record {
       marks = record { each = all-sized R (sum ss) ss (leftovers R ss) (o .each); total = o .total };
       in-rank = o .in-rank;
-      parted = o .each;
+      none-at-zero = o .each;
       wholes = wholes R ss p;
     }
 
@@ -170,8 +170,15 @@ fair-shares : (R : ℕ) (ss : List ℕ) → Fair R ss (shares R ss)
 unfolding shares
 fair-shares R ss = by-fair R ss (leftovers R ss) (λ h. by-fraction R ss h .marks)
 
+only-rank : (R : ℕ) (ss ms : List ℕ) → R < sum ss → Marks R ss ms → InRank (fractions R (sum ss) ss) ms → shares R ss ≡ plus (floors R (sum ss) ss) ms
+unfolding shares
+only-rank R ss ms h k r =
+    let b = by-fraction R ss h in
+    let e : leftovers R ss ≡ ms = rank-only (fractions R (sum ss) ss) (leftovers R ss) ms (b .in-rank) r (marks-one ss (leftovers R ss) (b .marks .each)) (marks-one ss ms (k .each)) (b .marks .total ∙ sym (k .total)) in
+    rw (lt-leb (sum ss) R h, e)
+
 pub pro-rata : ProRata
-pro-rata = record { by-rule = by-fair; by-fraction = by-fraction; fair = fair-shares }
+pro-rata = record { by-rule = by-fair; by-fraction = by-fraction; only = only-rank; fair = fair-shares }
 
 pub shares-sum : (R : ℕ) (ss : List ℕ) → sum (shares R ss) ≡ min R (sum ss)
 shares-sum R ss = fair-shares R ss .adds-up
@@ -225,6 +232,14 @@ turn-length left ss = sym (each-length (λ s q. q ≤ s) ss (inTurn left ss) (tu
 -- ---- pro rata, where it covers all
 pub shares-full : (R : ℕ) (ss : List ℕ) → sum ss ≤ R → Each (λ s q. q ≡ s) ss (shares R ss)
 shares-full R ss h = rw (fair-shares R ss .all h) (each-same ss)
+
+pub shares-nobody : (R : ℕ) → shares R [] ≡ []
+unfolding shares
+shares-nobody R = go (leb (sum []) R)
+  where
+    go : (b : Bool) → cond b [] (plus [] (leftovers R [])) ≡ []
+    go true = refl
+    go false = refl
 
 pub shares-length : (R : ℕ) (ss : List ℕ) → length (shares R ss) ≡ length ss
 shares-length R ss = each-length _≤_ (shares R ss) ss (shares-fit R ss)

@@ -17,7 +17,7 @@ use Rattle.board.specs.declared.Response.{Response}
 use Rattle.board.specs.rules.Board.{noResponse, liveIn}
 use Rattle.board.specs.inside.Places.{wordOf}
 use Rattle.board.proofs.LiveLaws.{none-live, count-live, word-filters, Sifted, sift-start, sift-step, sift-end}
-use Rattle.share.specs.rules.Share.{fractions, leftover, howMany}
+use Rattle.share.specs.rules.Share.{fractions, leftoverCount, howMany}
 use Rattle.share.specs.rules.Fills.{sizes}
 use Rattle.share.specs.inside.Cut.{Cuts}
 use Rattle.share.proofs.ShareLaws.{wholes, left-at-most}
@@ -40,17 +40,17 @@ mean-least total n h = omega (arith, div-add-mod' (total + n - 1) n)
 
 -- ---- the half that has the cut
 
-pub narrowed-upper : (a : Among) (u : Upper) → a .served ≤ onesIn 64 (u .word) → amongOf (u .word) (u .sum) (a .served) ≡ narrowedOf a u
+pub narrowed-upper : (a : Among) (u : Upper) → a .leftovers ≤ onesIn 64 (u .word) → amongOf (u .word) (u .sum) (a .leftovers) ≡ narrowedOf a u
 unfolding narrowedOf
-narrowed-upper a u h = rw (le-leb (a .served) (onesIn 64 (u .word)) h)
+narrowed-upper a u h = rw (le-leb (a .leftovers) (onesIn 64 (u .word)) h)
 
-pub narrowed-lower : (a : Among) (u : Upper) → onesIn 64 (u .word) < a .served → amongOf (a .word - u .word) (a .sum - u .sum) (a .served - onesIn 64 (u .word)) ≡ narrowedOf a u
+pub narrowed-lower : (a : Among) (u : Upper) → onesIn 64 (u .word) < a .leftovers → amongOf (a .word - u .word) (a .sum - u .sum) (a .leftovers - onesIn 64 (u .word)) ≡ narrowedOf a u
 unfolding narrowedOf
-narrowed-lower a u h = rw (lt-leb (a .served) (onesIn 64 (u .word)) h)
+narrowed-lower a u h = rw (lt-leb (a .leftovers) (onesIn 64 (u .word)) h)
 
-pub among-word : (word total served : ℕ) → amongOf word total served .word ≡ word
+pub among-word : (word total leftovers : ℕ) → amongOf word total leftovers .word ≡ word
 unfolding amongOf
-among-word word total served = refl
+among-word word total leftovers = refl
 
 -- ---- sums by a test
 
@@ -85,11 +85,11 @@ module _ (R T : ℕ) (ps : List Response) where
     pub fit : a .word < 2 ^ 64
     pub sum-is : a .sum ≡ sum (fs (a .word))
     pub low : a .sum ≤ 70368744161280
-    pub some : 0 < a .served
-    pub enough : a .served ≤ onesIn 64 (a .word)
+    pub some : 0 < a .leftovers
+    pub enough : a .leftovers ≤ onesIn 64 (a .word)
     pub mean-is : a .mean ≡ meanOf (a .sum) (onesIn 64 (a .word))
     -- a cut among them is the one
-    pub leads : (c s : ℕ) → 0 < s → Cuts (a .served) (fs (a .word)) c s → Cuts k (fs word) c s
+    pub leads : (c s : ℕ) → 0 < s → Cuts (a .leftovers) (fs (a .word)) c s → Cuts k (fs word) c s
 
   -- of these, u has the upper ones, but for those of rest, which are still to be looked at
   pub record Looked (a : Among) (u : Upper) (rest : ℕ) : Type 0 where
@@ -102,7 +102,7 @@ module _ (R T : ℕ) (ps : List Response) where
     pub upper-in : u .word ≤ a .word
     pub upper-low : u .sum ≤ a .sum
     pub upper-some : 0 < onesIn 64 (u .word)
-    pub others-some : onesIn 64 (u .word) < a .served → 0 < onesIn 64 (a .word - u .word)
+    pub others-some : onesIn 64 (u .word) < a .leftovers → 0 < onesIn 64 (a .word - u .word)
     pub seeks : Seeks word k (narrowedOf a u)
     pub less : narrowedOf a u .word < a .word
 
@@ -124,15 +124,15 @@ module _ (R T : ℕ) (ps : List Response) (e : length ps ≡ 64) where
   many : (w : ℕ) → length (fs R T ps w) ≡ onesIn 64 w
   many w = fractions-length (liveIn w ps) ∙ sym (ap (λ (n : ℕ). onesIn n w) (sym e) ∙ count-live w ps)
 
-  seeks-of : (word k w total served : ℕ) → w < 2 ^ 64 → total ≡ sum (fs R T ps w) → total ≤ 70368744161280 → 0 < served → served ≤ onesIn 64 w
-      → ((c s : ℕ) → 0 < s → Cuts served (fs R T ps w) c s → Cuts k (fs R T ps word) c s) → Seeks R T ps word k (amongOf w total served)
+  seeks-of : (word k w total leftovers : ℕ) → w < 2 ^ 64 → total ≡ sum (fs R T ps w) → total ≤ 70368744161280 → 0 < leftovers → leftovers ≤ onesIn 64 w
+      → ((c s : ℕ) → 0 < s → Cuts leftovers (fs R T ps w) c s → Cuts k (fs R T ps word) c s) → Seeks R T ps word k (amongOf w total leftovers)
   unfolding amongOf
-  seeks-of word k w total served f s l p n g = record { fit = f; sum-is = s; low = l; some = p; enough = n; mean-is = refl; leads = g }
+  seeks-of word k w total leftovers f s l p n g = record { fit = f; sum-is = s; low = l; some = p; enough = n; mean-is = refl; leads = g }
 
   -- all of the word, at the start: their fractions come to total
   module _ (word total : ℕ) (v : Short ps word R T) (q : total ≡ sum (fs R T ps word)) where
     abbrev left : ℕ
-    left = leftover R (sizes (liveIn word ps))
+    left = leftoverCount R (sizes (liveIn word ps))
 
     positive : 0 < sum (sizes (liveIn word ps))
     positive = omega (arith, v .total-is, v .short)
@@ -183,13 +183,13 @@ module _ (R T : ℕ) (ps : List Response) (e : length ps ≡ 64) where
     all-fit = rw e (seeks .fit)
 
     -- where all are upper, all are at the mean, and that is the cut
-    pub cut-found : (u : Upper) (rest : ℕ) → Looked R T ps a u rest → u .word ≡ a .word → Cuts k (fs R T ps word) (a .mean) (a .served)
+    pub cut-found : (u : Upper) (rest : ℕ) → Looked R T ps a u rest → u .word ≡ a .word → Cuts k (fs R T ps word) (a .mean) (a .leftovers)
     cut-found u rest l q =
         let w : wordOf (isUpper R T ps (a .mean)) (a .word) ps ≡ a .word = omega (arith, l .sifted .total, word-le (isUpper R T ps (a .mean)) (a .word) ps all-fit) in
         let f : filter (leb (a .mean)) (fs R T ps (a .word)) ≡ fs R T ps (a .word) =
         sym (fractions-filter (leb (a .mean)) (liveIn (a .word) ps)) ∙ ap (λ (rs : List Response). fractions R T (sizes rs)) (sym (word-filters (isUpper R T ps (a .mean)) (a .word) ps)) ∙ ap (fs R T ps) w in
-        seeks .leads (a .mean) (a .served) (seeks .some)
-        (cut-level (a .mean) (a .served) (fs R T ps (a .word)) (ap length f) (omega (arith, mean-at-least, seeks .sum-is)) (omega (arith, many (a .word), seeks .enough)))
+        seeks .leads (a .mean) (a .leftovers) (seeks .some)
+        (cut-level (a .mean) (a .leftovers) (fs R T ps (a .word)) (ap length f) (omega (arith, mean-at-least, seeks .sum-is)) (omega (arith, many (a .word), seeks .enough)))
 
     -- else it is in one of the halves
     module _ (u : Upper) (l : Looked R T ps a u 0) (q : u .word ≡ a .word → ⊥) where
@@ -220,7 +220,7 @@ module _ (R T : ℕ) (ps : List Response) (e : length ps ≡ 64) where
       both-many : onesIn 64 (u .word) + onesIn 64 (a .word - u .word) ≡ onesIn 64 (a .word)
       both-many = omega (arith, upper-many, many (a .word - u .word), ap length others, upper-lower (a .mean) (fs R T ps (a .word)), many (a .word))
 
-      others-some : onesIn 64 (u .word) < a .served → 0 < onesIn 64 (a .word - u .word)
+      others-some : onesIn 64 (u .word) < a .leftovers → 0 < onesIn 64 (a .word - u .word)
       others-some h = omega (arith, both-many, seeks .enough)
 
       upper-sum : u .sum ≡ sum (fs R T ps (u .word))
@@ -235,17 +235,17 @@ module _ (R T : ℕ) (ps : List Response) (e : length ps ≡ 64) where
       narrowed-seeks =
           ⊎-elim
           (λ h. rw (← narrowed-upper a u h)
-          (seeks-of word k (u .word) (u .sum) (a .served) (omega (arith, upper-in, seeks .fit)) upper-sum (omega (arith, upper-low u 0 l, seeks .low)) (seeks .some) h
-          (λ c s p g. seeks .leads c s p (cut-upper (a .mean) (a .served) c s (fs R T ps (a .word)) p (rw (← uppers) g)))))
+          (seeks-of word k (u .word) (u .sum) (a .leftovers) (omega (arith, upper-in, seeks .fit)) upper-sum (omega (arith, upper-low u 0 l, seeks .low)) (seeks .some) h
+          (λ c s p g. seeks .leads c s p (cut-upper (a .mean) (a .leftovers) c s (fs R T ps (a .word)) p (rw (← uppers) g)))))
           (λ h. rw (← narrowed-lower a u h)
-          (seeks-of word k (a .word - u .word) (a .sum - u .sum) (a .served - onesIn 64 (u .word)) (omega (arith, seeks .fit)) others-sum (omega (arith, seeks .low)) (omega arith) (omega (arith, both-many, seeks .enough))
+          (seeks-of word k (a .word - u .word) (a .sum - u .sum) (a .leftovers - onesIn 64 (u .word)) (omega (arith, seeks .fit)) others-sum (omega (arith, seeks .low)) (omega arith) (omega (arith, both-many, seeks .enough))
           (λ c s p g. seeks .leads c s p (lower h c s p g))))
-          (le-or-lt (a .served) (onesIn 64 (u .word)))
+          (le-or-lt (a .leftovers) (onesIn 64 (u .word)))
         where
-          lower : onesIn 64 (u .word) < a .served → (c s : ℕ) → 0 < s → Cuts (a .served - onesIn 64 (u .word)) (fs R T ps (a .word - u .word)) c s → Cuts (a .served) (fs R T ps (a .word)) c s
+          lower : onesIn 64 (u .word) < a .leftovers → (c s : ℕ) → 0 < s → Cuts (a .leftovers - onesIn 64 (u .word)) (fs R T ps (a .word - u .word)) c s → Cuts (a .leftovers) (fs R T ps (a .word)) c s
           lower h c s p g =
-              let n : howMany (leb (a .mean)) (fs R T ps (a .word)) + (a .served - onesIn 64 (u .word)) ≡ a .served = omega (arith, upper-many) in
-              subst (λ (m : ℕ). Cuts m (fs R T ps (a .word)) c s) n (cut-lower (a .mean) (a .served - onesIn 64 (u .word)) c s (fs R T ps (a .word)) p (rw (← others) g))
+              let n : howMany (leb (a .mean)) (fs R T ps (a .word)) + (a .leftovers - onesIn 64 (u .word)) ≡ a .leftovers = omega (arith, upper-many) in
+              subst (λ (m : ℕ). Cuts m (fs R T ps (a .word)) c s) n (cut-lower (a .mean) (a .leftovers - onesIn 64 (u .word)) c s (fs R T ps (a .word)) p (rw (← others) g))
 
       narrowed-less : narrowedOf a u .word < a .word
       unfolding amongOf
@@ -253,7 +253,7 @@ module _ (R T : ℕ) (ps : List Response) (e : length ps ≡ 64) where
           ⊎-elim
           (λ h. rw (← narrowed-upper a u h) (⊎-elim (λ g. absurd (q (omega (arith, upper-in)))) (λ g. g) (le-or-lt (a .word) (u .word))))
           (λ h. rw (← narrowed-lower a u h) (omega (arith, upper-in, not-empty)))
-          (le-or-lt (a .served) (onesIn 64 (u .word)))
+          (le-or-lt (a .leftovers) (onesIn 64 (u .word)))
         where
           none : (w : ℕ) → w ≡ 0 → length (liveIn w ps) ≡ 0
           none w z = ap (λ (n : ℕ). length (liveIn n ps)) z ∙ ap length (none-live ps)

@@ -22,7 +22,7 @@ use Rattle.base.proofs.ListLaws.{every-inserts}
 use Rattle.board.proofs.LiveLaws.{none-live, less-live}
 use Rattle.board.proofs.SequenceLaws.{From, rising-from, sequence-shuffles}
 use Rattle.board.proofs.FirstLaws.{some-first, first-earliest, earliest-sequence, Best, best-start, best-step, best-end}
-use Rattle.share.specs.rules.Share.{floors, fractions, leftover, howMany, oneEach, shares, inTurn}
+use Rattle.share.specs.rules.Share.{floors, fractions, leftoverCount, howMany, oneEach, shares, inTurn}
 use Rattle.share.specs.rules.Fills.{fillOf, sizes}
 use Rattle.share.specs.inside.Cut.{oneBy, spareBy, byCut, Cuts}
 use Rattle.share.proofs.ShareLaws.{room, shares-sum, shares-length}
@@ -123,13 +123,13 @@ shares-all p R T xs e h =
 cuts-sequence : (R T k c s : ℕ) (xs : List Response) → Cuts k (fractions R T (sizes xs)) c s → Cuts k (fractions R T (sizes (inSequence xs))) c s
 cuts-sequence R T k c s xs h = record { counted = omega (arith, h .counted, many-sequence R T (ltb c) xs); enough = omega (arith, h .enough, many-sequence R T (eqb c) xs) }
 
-pub shares-parts : (p R T c s : ℕ) (xs : List Response) → T ≡ sum (sizes xs) → R < T → Cuts (leftover R (sizes xs)) (fractions R T (sizes xs)) c s
+pub shares-parts : (p R T c s : ℕ) (xs : List Response) → T ≡ sum (sizes xs) → R < T → Cuts (leftoverCount R (sizes xs)) (fractions R T (sizes xs)) c s
     → shareFills p R (inSequence xs) ≡ eachFills p false R T c s (inSequence xs)
 unfolding shareFills eachFills dealt shares
 shares-parts p R T c s xs e h cuts =
-    let k = leftover R (sizes xs) in
+    let k = leftoverCount R (sizes xs) in
     let z : sum (sizes (inSequence xs)) ≡ T = sizes-sequence xs ∙ sym e in
-    let y : leftover R (sizes (inSequence xs)) ≡ k = rw (z, e, parts-sequence R (sum (sizes xs)) xs) in
+    let y : leftoverCount R (sizes (inSequence xs)) ≡ k = rw (z, e, parts-sequence R (sum (sizes xs)) xs) in
     let o : oneEach k [] (fractions R T (sizes (inSequence xs))) ≡ byCut c s (fractions R T (sizes (inSequence xs))) = one-each-cut k (fractions R T (sizes (inSequence xs))) c s (cuts-sequence R T k c s xs cuts) in
     rw (lt-leb (sum (sizes (inSequence xs))) R (omega arith), y, z, o)
 

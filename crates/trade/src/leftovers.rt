@@ -5,7 +5,7 @@ ghost use Prim.Native.Nat.{_+_, _-_, _≤_, _<_};
 ghost use lib.Dec.{leb};
 ghost use Rattle.words.specs.rules.Bits.{onesIn, withBit};
 ghost use Rattle.board.specs.rules.Board.{liveIn};
-ghost use Rattle.share.specs.rules.Share.{leftover};
+ghost use Rattle.share.specs.rules.Share.{leftoverCount};
 ghost use Rattle.share.specs.rules.Fills.{sizes};
 ghost use Rattle.share.specs.inside.Cut.{Cuts};
 ghost use Rattle.trade.specs.inside.Code.{fractionsIn, Short, amongOf, narrowedOf};
@@ -17,15 +17,15 @@ use board::Board;
 use words::bits;
 
 // The places of the word, whose fractions come to the sum; so many of them get a leftover.
-fn among(word: u64, sum: u64, served: u64) -> Among
+fn among(word: u64, sum: u64, leftovers: u64) -> Among
     requires { ⌜ (0 < onesIn 64 word) × (sum ≤ 70368744161280) ⌝ }
-    ensures { λ r. ⌜ r ≡ amongOf word sum served ⌝ }
+    ensures { λ r. ⌜ r ≡ amongOf word sum leftovers ⌝ }
 {
     let n = base::wide(bits::ones(word));
     Among {
         word,
         sum,
-        served,
+        leftovers,
         mean: (sum + n - 1) / n,
     }
 }
@@ -47,21 +47,21 @@ fn upper(u: Upper, mean: u64, i: usize, fraction: u64) -> Upper
 // Where the cut is: among the upper ones, or among the others, where they do not do.
 fn narrowed(a: Among, u: Upper) -> Among
     requires { ⌜ (a .sum ≤ 70368744161280) × (u .sum ≤ a .sum) × (u .word ≤ a .word) ⌝ }
-    requires { ⌜ (0 < onesIn 64 (u .word)) × (onesIn 64 (u .word) < a .served → 0 < onesIn 64 (a .word - u .word)) ⌝ }
+    requires { ⌜ (0 < onesIn 64 (u .word)) × (onesIn 64 (u .word) < a .leftovers → 0 < onesIn 64 (a .word - u .word)) ⌝ }
     ensures { λ r. ⌜ r ≡ narrowedOf a u ⌝ }
 {
     let n = base::wide(bits::ones(u.word));
-    if a.served <= n {
-        return among(u.word, u.sum, a.served);
+    if a.leftovers <= n {
+        return among(u.word, u.sum, a.leftovers);
     }
-    among(a.word - u.word, a.sum - u.sum, a.served - n)
+    among(a.word - u.word, a.sum - u.sum, a.leftovers - n)
 }
 
 // The cut of the leftovers of an amount over the responses of the word, whose sizes come to the total. The first loop adds up the fractions: they come to as many wholes as there are leftovers.
 // In the second a turn looks at one more place, or takes the half that has the cut; where all that are left are at the mean, that is it.
 pub(crate) fn cut_of(b: Board, word: u64, amount: u64, total: u64) -> Cut
     requires { ⌜ Short (b .places) word amount total ⌝ }
-    ensures { λ r. ⌜ Cuts (leftover amount (sizes (liveIn word (b .places)))) (fractionsIn amount total (b .places) word) (r .fraction) (r .spare) ⌝ }
+    ensures { λ r. ⌜ Cuts (leftoverCount amount (sizes (liveIn word (b .places)))) (fractionsIn amount total (b .places) word) (r .fraction) (r .spare) ⌝ }
 {
     let mut sum: u64 = 0;
     let mut rest = word;
@@ -94,6 +94,6 @@ pub(crate) fn cut_of(b: Board, word: u64, amount: u64, total: u64) -> Cut
     }
     Cut {
         fraction: a.mean,
-        spare: a.served,
+        spare: a.leftovers,
     }
 }

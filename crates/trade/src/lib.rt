@@ -76,7 +76,7 @@ struct Cut {
 struct Among {
     word: u64,
     sum: u64,
-    served: u64,
+    leftovers: u64,
     mean: u64,
 }
 

@@ -156,9 +156,8 @@ module _ (o : Order) (es : List Event) where
     pub short : (r : Response) → In r (liveAtEnd o es) → r .customer ≡ false
         → leftToOthersAtPrice o es (workingPrice o es r) < sum (sizes (othersAtPrice o es (workingPrice o es r)))
         → Near (leftToOthersAtPrice o es (workingPrice o es r)) (sum (sizes (othersAtPrice o es (workingPrice o es r)))) (r .size) (got (r .sequence) (writtenFills o es))
-    -- and by sequence they have the pro rata shares of what is left to them: the leftovers go one each to the largest fractions, and among equal ones to the lower sequence
-    pub shared-out : (r : Response) → In r (liveAtEnd o es) → r .customer ≡ false
-        → gots (writtenFills o es) (inSequence (othersAtPrice o es (workingPrice o es r))) ≡ shares (leftToOthersAtPrice o es (workingPrice o es r)) (sizes (inSequence (othersAtPrice o es (workingPrice o es r))))
+    -- demand 2's method: by sequence the others at a price have the pro rata shares of what is left to them, the leftovers going one each to the largest fractions, and among equal ones to the lower sequence
+    pub shared-out : (p : ℕ) → gots (writtenFills o es) (inSequence (othersAtPrice o es p)) ≡ shares (leftToOthersAtPrice o es p) (sizes (inSequence (othersAtPrice o es p)))
     -- of what the others at a price trade together, each trades the whole part of its share, or one more; where one is not filled, the Contra Order has no more than its guarantee, or than it has at better prices
     pub share : (r : Response) → In r (liveAtEnd o es) → r .customer ≡ false
         → Near (sum (gots (writtenFills o es) (othersAtPrice o es (workingPrice o es r)))) (sum (sizes (othersAtPrice o es (workingPrice o es r)))) (r .size) (got (r .sequence) (writtenFills o es))

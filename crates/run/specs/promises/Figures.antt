@@ -76,6 +76,10 @@ gtx sequence size price = event 1 sequence 2 size price
 abbrev pub gtxBuy : ℕ → ℕ → ℕ → Event
 gtxBuy sequence size price = event 1 sequence 1 size price
 
+-- a Customer's
+abbrev pub byCustomer : Event → Event
+byCustomer e = record { sequence = e .sequence; time = e .time; kind = e .kind; marks = 1; side = e .side; f12 = e .f12; f16 = e .f16; f20 = e .f20; f24 = e .f24 }
+
 -- a response, by its name, has another size and price from here on
 abbrev pub amend : ℕ → ℕ → ℕ → ℕ → Event
 amend sequence name size price = record { sequence = sequence; time = 20; kind = 6; marks = 0; side = 0; f12 = name; f16 = size; f20 = price; f24 = 0 }
@@ -124,18 +128,30 @@ cases =
     -- k. close at 5,000: time 3,999 passes, 4,000 gives 5
     ∷ case (timed 3999 5000 orderC) [] false (standing 101 109)
     ∷ case (timed 4000 5000 orderC) [] false (refusal 5)
-    -- W-203, 60 contracts after the guarantee, on both sides. b of a sell
+    -- W-203: 60 are left after the guarantee. b for a sell
     ∷ case (order 2 1 100 100 102) (gtxBuy 1 31 102 ∷ gtxBuy 2 30 102 ∷ gtxBuy 3 30 102 ∷ []) true (ended Time 100 110 (contra 102 40 ∷ fill 1 102 20 ∷ fill 2 102 20 ∷ fill 3 102 20 ∷ []))
-    -- over 35, 35, 20, 20 and 20, fractions 20, 20, 30, 30 and 30 of 130, one is left over: to the first of those that tie
+    -- over 35, 35, 20, 20 and 20, fractions 20, 20, 30, 30 and 30 of 130, one is left over: to the first of the three with 30
     ∷ case (order 1 1 100 110 108) (gtx 1 35 108 ∷ gtx 2 35 108 ∷ gtx 3 20 108 ∷ gtx 4 20 108 ∷ gtx 5 20 108 ∷ []) true
     (ended Time 100 110 (contra 108 40 ∷ fill 1 108 16 ∷ fill 2 108 16 ∷ fill 3 108 10 ∷ fill 4 108 9 ∷ fill 5 108 9 ∷ []))
     ∷ case (order 2 1 100 100 102) (gtxBuy 1 35 102 ∷ gtxBuy 2 35 102 ∷ gtxBuy 3 20 102 ∷ gtxBuy 4 20 102 ∷ gtxBuy 5 20 102 ∷ []) true
     (ended Time 100 110 (contra 102 40 ∷ fill 1 102 16 ∷ fill 2 102 16 ∷ fill 3 102 10 ∷ fill 4 102 9 ∷ fill 5 102 9 ∷ []))
-    -- over 40, 41 and 39, fractions 0, 60 and 60 of 120, one is left over: not to the first, which has no fraction
+    -- over 40, 41 and 39, fractions 0, 60 and 60 of 120, one is left over: to the second, for the first has no fraction and the third, which ties, is later
     ∷ case (order 1 1 100 110 108) (gtx 1 40 108 ∷ gtx 2 41 108 ∷ gtx 3 39 108 ∷ []) true (ended Time 100 110 (contra 108 40 ∷ fill 1 108 20 ∷ fill 2 108 21 ∷ fill 3 108 19 ∷ []))
     ∷ case (order 2 1 100 100 102) (gtxBuy 1 40 102 ∷ gtxBuy 2 41 102 ∷ gtxBuy 3 39 102 ∷ []) true (ended Time 100 110 (contra 102 40 ∷ fill 1 102 20 ∷ fill 2 102 21 ∷ fill 3 102 19 ∷ []))
-    -- the 41 is amended, stands at the first place with the last sequence, and comes after the 39 that it ties with
+    -- the 41 is amended: it stands at the first place with the last sequence, and comes after the 39 that it ties with
     ∷ case (order 1 1 100 110 108) (gtx 1 30 108 ∷ gtx 2 39 108 ∷ gtx 3 40 108 ∷ amend 4 1 41 108 ∷ []) true (ended Time 100 110 (contra 108 40 ∷ fill 2 108 20 ∷ fill 3 108 20 ∷ fill 4 108 20 ∷ []))
+    ∷ case (order 2 1 100 100 102) (gtxBuy 1 30 102 ∷ gtxBuy 2 39 102 ∷ gtxBuy 3 40 102 ∷ amend 4 1 41 102 ∷ []) true (ended Time 100 110 (contra 102 40 ∷ fill 2 102 20 ∷ fill 3 102 20 ∷ fill 4 102 20 ∷ []))
+    -- a Customer's 10 are no part of T: 50 over 31, 30 and 30, fractions 3, 44 and 44 of 91, one is left over
+    ∷ case (order 1 1 100 110 108) (gtx 1 31 108 ∷ byCustomer (gtx 2 10 108) ∷ gtx 3 30 108 ∷ gtx 4 30 108 ∷ []) true
+    (ended Time 100 110 (fill 2 108 10 ∷ contra 108 40 ∷ fill 1 108 17 ∷ fill 3 108 17 ∷ fill 4 108 16 ∷ []))
+    -- below the stop: 100 over 50, 40 and 60, fractions 50, 100 and 0 of 150, one is left over
+    ∷ case (order 1 1 100 110 108) (gtx 1 50 105 ∷ gtx 2 40 105 ∷ gtx 3 60 105 ∷ []) true (ended Time 100 110 (fill 1 105 33 ∷ fill 2 105 27 ∷ fill 3 105 40 ∷ []))
+    -- mode 2, after a market order of 10: 50 over 31, 30 and 30
+    ∷ case (order 1 2 100 110 0) (gtx 1 31 105 ∷ gtx 2 30 105 ∷ gtx 3 30 105 ∷ market 4 2 10 ∷ []) true
+    (ended Opposite 100 110 (fill 4 105 10 ∷ contra 105 40 ∷ fill 1 105 17 ∷ fill 2 105 17 ∷ fill 3 105 16 ∷ []))
+    -- mode 3, where the Contra Order holds the guarantee on arriving: 20 over 12, 7 and 5, fractions 0, 20 and 4 of 24, one is left over
+    ∷ case (order 1 3 100 110 103) (gtx 1 20 103 ∷ gtx 2 20 104 ∷ gtx 3 12 105 ∷ gtx 4 7 105 ∷ gtx 5 5 105 ∷ []) true
+    (ended Time 100 110 (contra 103 20 ∷ fill 1 103 20 ∷ contra 104 20 ∷ fill 2 104 20 ∷ fill 3 105 10 ∷ fill 4 105 6 ∷ fill 5 105 4 ∷ []))
     ∷ []
 
 -- the table is what the definitions that the contracts cite give

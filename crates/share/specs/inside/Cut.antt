@@ -6,20 +6,20 @@ use Prim.Native.Nat.{ℕ, _+_, _-_, _≤_, min}
 use lib.Dec.{ltb, eqb}
 use Rattle.share.specs.rules.Share.{howMany}
 
--- what one with the fraction x gets: one above the cut c, and at it one of the s that are spare
+-- what one with the fraction x gets: one above the cut c, and at it one of those that are spare
 abbrev pub oneBy : ℕ → ℕ → ℕ → ℕ
-oneBy c s x = cond (ltb c x) 1 (cond (eqb c x) (min s 1) 0)
+oneBy c spare x = cond (ltb c x) 1 (cond (eqb c x) (min spare 1) 0)
 
 -- what is spare after it
 abbrev pub spareBy : ℕ → ℕ → ℕ → ℕ
-spareBy c s x = s - cond (eqb c x) 1 0
+spareBy c spare x = spare - cond (eqb c x) 1 0
 
--- one to each above the cut c, and to the first s at it
+-- one to each above the cut c, and to the first at it, as many as are spare
 abbrev pub byCut : ℕ → ℕ → List ℕ → List ℕ
-byCut c s [] = []
-byCut c s (x ∷ xs) = oneBy c s x ∷ byCut c (spareBy c s x) xs
+byCut c spare [] = []
+byCut c spare (x ∷ xs) = oneBy c spare x ∷ byCut c (spareBy c spare x) xs
 
--- the cut c with s spare serves k of a list
-pub record Cuts (k : ℕ) (xs : List ℕ) (c s : ℕ) : Type 0 where
-  pub counted : howMany (ltb c) xs + s ≡ k
-  pub enough : s ≤ howMany (eqb c) xs
+-- the cut c serves k of a list: k leftovers by the cut are then those of the rule (proofs/CutLaws `one-each-cut`)
+pub record Cuts (k : ℕ) (xs : List ℕ) (c spare : ℕ) : Type 0 where
+  pub counted : howMany (ltb c) xs + spare ≡ k
+  pub enough : spare ≤ howMany (eqb c) xs

@@ -4,7 +4,7 @@ use mathlib.Core.List.{List, [], _∷_}
 use mathlib.Core.Logic.{_⊎_}
 use Prim.Native.Nat.{ℕ, _+_, _*_, _/_, _≤_, _<_, min}
 use Rattle.base.specs.Lists.{sum}
-use Rattle.share.specs.rules.Share.{fractions, leftover, leftovers, sharesBy, shares}
+use Rattle.share.specs.rules.Share.{floors, fractions, plus, leftoverCount, leftovers, sharesBy, shares}
 
 -- ---- the words of the laws
 
@@ -15,14 +15,14 @@ Each P [] (b ∷ ys) = ⊥
 Each P (a ∷ xs) [] = ⊥
 Each P (a ∷ xs) (b ∷ ys) = P a b × Each P xs ys
 
--- at most one, and none where there is no size
+-- at most one, and none where s is 0
 abbrev pub Mark : ℕ → ℕ → Type 0
 Mark s m = (m ≤ 1) × (m ≤ s)
 
 -- the leftovers go one each to distinct members: all that the laws ask of a rule
 pub record Marks (R : ℕ) (ss ms : List ℕ) : Type 0 where
   pub each : Each Mark ss ms
-  pub total : sum ms ≡ leftover R ss
+  pub total : sum ms ≡ leftoverCount R ss
 
 -- share x of a size s is the whole part, or one more
 abbrev pub Near : ℕ → ℕ → ℕ → ℕ → Type 0
@@ -58,15 +58,17 @@ pub record ByFraction (R : ℕ) (ss : List ℕ) : Type 0 where
   pub marks : Marks R ss (leftovers R ss)
   -- the largest fractions first, and of equal ones the earlier
   pub in-rank : InRank (fractions R (sum ss) ss) (leftovers R ss)
-  -- none to a member with no fraction
-  pub parted : Each Mark (fractions R (sum ss) ss) (leftovers R ss)
+  -- none to a member whose fraction is 0
+  pub none-at-zero : Each Mark (fractions R (sum ss) ss) (leftovers R ss)
   -- the fractions come to as many wholes as there are leftovers
-  pub wholes : sum (fractions R (sum ss) ss) ≡ leftover R ss * sum ss
+  pub wholes : sum (fractions R (sum ss) ss) ≡ leftoverCount R ss * sum ss
 
 pub record ProRata : Type 0 where
   -- for any rule that gives the leftovers one each to distinct members
   pub by-rule : (R : ℕ) (ss ms : List ℕ) → (R < sum ss → Marks R ss ms) → Fair R ss (sharesBy ms R ss)
   -- the largest fraction first is such a rule
   pub by-fraction : (R : ℕ) (ss : List ℕ) → R < sum ss → ByFraction R ss
+  -- and no other is: one each to distinct members, the largest fractions first and of equal ones the earlier, make these shares
+  pub only : (R : ℕ) (ss ms : List ℕ) → R < sum ss → Marks R ss ms → InRank (fractions R (sum ss) ss) ms → shares R ss ≡ plus (floors R (sum ss) ss) ms
   -- so the shares are fair
   pub fair : (R : ℕ) (ss : List ℕ) → Fair R ss (shares R ss)

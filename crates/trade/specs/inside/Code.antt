@@ -110,7 +110,7 @@ leastOf bound last (r ∷ rs) = min (max (r .price) bound) (leastOf bound last r
 
 -- ---- the fills of some responses at a price
 
--- the quantities: first come first out of k, or the whole parts of R * s / T and the leftovers by the cut c, k being spare there
+-- the quantities: first come, first served out of k, or the whole parts of R * s / T and the leftovers by the cut c, k being spare there
 unfoldable pub dealt : Bool → ℕ → ℕ → ℕ → ℕ → List ℕ → List ℕ
 dealt true R T c k ss = inTurn k ss
 dealt false R T c k ss = plus (floors R T ss) (byCut c k (fractions R T ss))
@@ -147,13 +147,13 @@ unfoldable pub meanOf : ℕ → ℕ → ℕ
 meanOf total n = (total + n - 1) / n
 
 unfoldable pub amongOf : ℕ → ℕ → ℕ → Among
-amongOf word total served = record { word = word; sum = total; served = served; mean = meanOf total (onesIn 64 word) }
+amongOf word total leftovers = record { word = word; sum = total; leftovers = leftovers; mean = meanOf total (onesIn 64 word) }
 
--- the upper ones where they are enough, else the others
+-- the upper ones where they are enough, else the lower ones, for the rest
 unfoldable pub narrowedOf : Among → Upper → Among
 narrowedOf a u =
     let n = onesIn 64 (u .word) in
-    cond (leb (a .served) n) (amongOf (u .word) (u .sum) (a .served)) (amongOf (a .word - u .word) (a .sum - u .sum) (a .served - n))
+    cond (leb (a .leftovers) n) (amongOf (u .word) (u .sum) (a .leftovers)) (amongOf (a .word - u .word) (a .sum - u .sum) (a .leftovers - n))
 
 -- pro rata
 unfoldable pub shareFills : ℕ → ℕ → List Response → List Fill

@@ -8,7 +8,7 @@ use Rattle.base.proofs.ListLaws.{length-mapped}
 use Rattle.words.specs.rules.Bits.{withoutBit}
 use Rattle.words.proofs.BitLaws.{without-le, without-lowest}
 use Rattle.board.specs.rules.Board.{liveIn}
-use Rattle.share.specs.rules.Share.{leftover}
+use Rattle.share.specs.rules.Share.{leftoverCount}
 use Rattle.share.specs.rules.Fills.{sizes}
 use Rattle.share.proofs.ShareLaws.{cut-whole}
 use Rattle.trade.specs.inside.Code.{fractionsIn}
@@ -26,7 +26,7 @@ abbrev μ-loop : tie.MeasureT-loop
 
 abbrev Inv-loop2 : tie.InvT-loop2
 Inv-loop2 word amount total b added rest₀ k a₀ u₀ rest a u =
-    Seeks amount total (b .places) word (leftover amount (sizes (liveIn word (b .places)))) a × Looked amount total (b .places) a u rest
+    Seeks amount total (b .places) word (leftoverCount amount (sizes (liveIn word (b .places)))) a × Looked amount total (b .places) a u rest
 
 abbrev μ-loop2 : tie.MeasureT-loop2
 μ-loop2 word amount total b added rest₀ k a₀ u₀ rest a u = a .word * 18446744073709551616 + rest
@@ -181,7 +181,7 @@ loop2-again c =
 
 -- all were looked at
 half : (c : tie.Else3 Inv-loop μ-loop Inv-loop2 μ-loop2)
-    → Halves (c .before .before .before .before .before .before .before .before .before .args .amount) (c .before .before .before .before .before .before .before .before .before .args .total) (c .before .before .before .before .before .before .before .before .before .args .t1 .places) (c .before .before .before .before .before .before .before .before .before .args .word) (leftover (c .before .before .before .before .before .before .before .before .before .args .amount) (sizes (liveIn (c .before .before .before .before .before .before .before .before .before .args .word) (c .before .before .before .before .before .before .before .before .before .args .t1 .places)))) (c .before .before .before .before .loop2 .a) (c .before .before .before .before .loop2 .u)
+    → Halves (c .before .before .before .before .before .before .before .before .before .args .amount) (c .before .before .before .before .before .before .before .before .before .args .total) (c .before .before .before .before .before .before .before .before .before .args .t1 .places) (c .before .before .before .before .before .before .before .before .before .args .word) (leftoverCount (c .before .before .before .before .before .before .before .before .before .args .amount) (sizes (liveIn (c .before .before .before .before .before .before .before .before .before .args .word) (c .before .before .before .before .before .before .before .before .before .args .t1 .places)))) (c .before .before .before .before .loop2 .a) (c .before .before .before .before .loop2 .u)
 half c =
     let l = c .before .before .before .before in
     let s = c .before .before .before .before .before .before .before .before .before in
@@ -204,7 +204,7 @@ loop2-again-2 : tie.Need-loop2-again-2 Inv-loop μ-loop Inv-loop2 μ-loop2
 loop2-again-2 c =
     let s = c .before .before .before .before .before .before .before .before .before .before in
     let a = s .args in
-    let h : Seeks (a .amount) (a .total) (a .t1 .places) (a .word) (leftover (a .amount) (sizes (liveIn (a .word) (a .t1 .places)))) (c .narrowed .result) = rw (c .narrowed .ensures) (half (c .before) .seeks) in
+    let h : Seeks (a .amount) (a .total) (a .t1 .places) (a .word) (leftoverCount (a .amount) (sizes (liveIn (a .word) (a .t1 .places)))) (c .narrowed .result) = rw (c .narrowed .ensures) (half (c .before) .seeks) in
     (h, looked-start (a .amount) (a .total) (a .t1 .places) (len s) _ _ refl (h .fit))
 
 returns-2 : tie.Need-returns-2 Inv-loop μ-loop Inv-loop2 μ-loop2

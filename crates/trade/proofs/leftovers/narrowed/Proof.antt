@@ -47,7 +47,7 @@ returns-2 c =
     let w = c .before .before .before .before .before .before .before .before in
     let a = w .before .before .args in
     c .among2 .ensures
-    ∙ ap (λ (n : ℕ). amongOf (a .a .word - a .u .word) (a .a .sum - a .u .sum) (a .a .served - n)) (many w)
+    ∙ ap (λ (n : ℕ). amongOf (a .a .word - a .u .word) (a .a .sum - a .u .sum) (a .a .leftovers - n)) (many w)
     ∙ narrowed-lower (a .a) (a .u) (omega (arith, many w, c .before .before .before .before .before .before .if1 .left))
 
 pub narrowed-spec : {M : Type 1} → statement M
