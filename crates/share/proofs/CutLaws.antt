@@ -35,7 +35,7 @@ pub many-fail : (t : ℕ → Bool) (x : ℕ) (xs : List ℕ) → t x ≡ false �
 many-fail t x xs e = many-cons t x xs ∙ rw e (omega arith)
 
 -- what passes the one test passes the other
-pub many-le : (t u : ℕ → Bool) → ((x : ℕ) → t x ≡ true → u x ≡ true) → (xs : List ℕ) → howMany t xs ≤ howMany u xs
+many-le : (t u : ℕ → Bool) → ((x : ℕ) → t x ≡ true → u x ≡ true) → (xs : List ℕ) → howMany t xs ≤ howMany u xs
 unfolding filter
 many-le t u h [] = omega arith
 many-le t u h (x ∷ xs) = go (t x) (u x) refl refl (h x) (many-le t u h xs)
@@ -87,9 +87,6 @@ side c x =
 ahead-above : (c x : ℕ) (xs : List ℕ) → c < x → howMany (leb x) xs ≤ howMany (ltb c) xs
 ahead-above c x xs h = many-le (leb x) (ltb c) (λ y e. lt-ltb c y (omega (arith, leb-true x y e))) xs
 
-larger-above : (c x : ℕ) (xs : List ℕ) → c < x → howMany (ltb x) xs ≤ howMany (ltb c) xs
-larger-above c x xs h = many-le (ltb x) (ltb c) (λ y e. lt-ltb c y (omega (arith, ltb-true x y e))) xs
-
 -- at least c: above it, or at it
 at-least : (c : ℕ) (xs : List ℕ) → howMany (leb c) xs ≡ howMany (ltb c) xs + howMany (eqb c) xs
 at-least c = many-both (leb c) (ltb c) (eqb c) (λ x. go x (side c x))
@@ -119,7 +116,7 @@ cut-ranks c s k earlier (x ∷ xs) g h =
 
     head : Side c x → cond (ltb m k) 1 0 ≡ oneBy c (s - howMany (eqb c) earlier) x
     head (above l e f) =
-        rw (lt-ltb m k (omega (arith, ahead-above c x earlier l, larger-above c x xs l, many-pass (ltb c) x xs e)), e)
+        rw (lt-ltb m k (omega (arith, ahead-above c x earlier l, ahead-above c (suc x) xs (omega arith), many-pass (ltb c) x xs e)), e)
     head (level l e f) =
         let p : howMany (leb c) earlier ≡ howMany (leb x) earlier = ap (λ (y : ℕ). howMany (leb y) earlier) l in
         let q : howMany (ltb c) xs ≡ howMany (ltb x) xs = ap (λ (y : ℕ). howMany (ltb y) xs) l in
@@ -301,7 +298,7 @@ module _ (p k c s : ℕ) (xs : List ℕ) (some : 0 < s) where
       (λ l. absurd (omega (arith, h .enough, many-none (eqb c) (leb p) xs (λ x e. lt-leb p x (omega (arith, eqb-true c x e))))))
       (le-or-lt p c)
 
-  -- among the others: all that are at least p are above it
+  -- among the lower ones: all that are at least p are above it
   pub cut-lower : Cuts k (filter (λ x. not (leb p x)) xs) c s → Cuts (howMany (leb p) xs + k) xs c s
   cut-lower h =
       ⊎-elim
@@ -334,7 +331,7 @@ all-upper p (x ∷ xs) h = go (side p x) (all-upper p xs)
     go (level l e f) i = omega (arith, mul-suc p (length xs), many-fail (ltb p) x xs e, i (omega (arith, many-pass (leb p) x xs (le-leb p x (omega arith)))))
     go (below l e f) i = absurd (omega (arith, filter-length (leb p) xs, many-fail (leb p) x xs (lt-leb p x l)))
 
--- where none is above the mean, all are at it: the cut serves the first k
+-- where all are at least the mean, all are at it, and there is the cut
 pub cut-level : (p k : ℕ) (xs : List ℕ) → howMany (leb p) xs ≡ length xs → sum xs ≤ p * length xs → k ≤ length xs → Cuts k xs p k
 cut-level p k xs h l g = let e : howMany (ltb p) xs ≡ 0 = omega (arith, all-upper p xs h) in record { counted = omega arith; enough = omega (arith, at-least p xs) }
 

@@ -24,7 +24,7 @@ floors-below R T [] = omega arith
 floors-below R T (s ∷ ss) =
     rw (add-mul, mul-add) (omega (arith, div-mul-le-self (R * s) T, floors-below R T ss))
 
-pub floors-at-most : (R : ℕ) (ss : List ℕ) → 0 < sum ss → sum (floors R (sum ss) ss) ≤ R
+floors-at-most : (R : ℕ) (ss : List ℕ) → 0 < sum ss → sum (floors R (sum ss) ss) ≤ R
 floors-at-most R ss h = le-of-mul-le-mul-right (floors-below R (sum ss) ss) h
 
 -- ---- the fractions

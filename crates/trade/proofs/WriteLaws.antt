@@ -96,7 +96,7 @@ pub sizes-sequence : (xs : List Response) → sum (sizes (inSequence xs)) ≡ su
 unfolding sum
 sizes-sequence = fold-sequence (λ rs. sum (sizes rs)) (λ r n. r .size + n) (λ r rs. refl) (λ x y n. omega arith)
 
-pub parts-sequence : (R T : ℕ) (xs : List Response) → sum (floors R T (sizes (inSequence xs))) ≡ sum (floors R T (sizes xs))
+parts-sequence : (R T : ℕ) (xs : List Response) → sum (floors R T (sizes (inSequence xs))) ≡ sum (floors R T (sizes xs))
 unfolding sum
 parts-sequence R T = fold-sequence (λ rs. sum (floors R T (sizes rs))) (λ r n. R * r .size / T + n) (λ r rs. refl) (λ x y n. omega arith)
 

@@ -30,7 +30,7 @@ fn among(word: u64, sum: u64, leftovers: u64) -> Among
     }
 }
 
-// With place i, which has this fraction.
+// The upper ones, with place i where its fraction is at least the mean.
 fn upper(u: Upper, mean: u64, i: usize, fraction: u64) -> Upper
     requires { ⌜ u .sum + fraction < 18446744073709551616 ⌝ }
     ensures { λ r. ⌜ (r .word ≡ cond (leb mean fraction) (withBit (u .word) i) (u .word)) × (r .sum ≡ u .sum + cond (leb mean fraction) fraction 0) ⌝ }
@@ -44,7 +44,7 @@ fn upper(u: Upper, mean: u64, i: usize, fraction: u64) -> Upper
     u
 }
 
-// Where the cut is: among the upper ones, or among the others, where they do not do.
+// The half that has the cut: the upper ones, where they are as many as get a leftover, else the lower ones, for the rest.
 fn narrowed(a: Among, u: Upper) -> Among
     requires { ⌜ (a .sum ≤ 70368744161280) × (u .sum ≤ a .sum) × (u .word ≤ a .word) ⌝ }
     requires { ⌜ (0 < onesIn 64 (u .word)) × (onesIn 64 (u .word) < a .leftovers → 0 < onesIn 64 (a .word - u .word)) ⌝ }
@@ -57,7 +57,7 @@ fn narrowed(a: Among, u: Upper) -> Among
     among(a.word - u.word, a.sum - u.sum, a.leftovers - n)
 }
 
-// The cut of the leftovers of an amount over the responses of the word, whose sizes come to the total. The first loop adds up the fractions: they come to as many wholes as there are leftovers.
+// The cut of the leftovers of an amount over the responses of the word, whose sizes come to the total. The first loop adds up the fractions: they come to the total once for each leftover.
 // In the second a turn looks at one more place, or takes the half that has the cut; where all that are left are at the mean, that is it.
 pub(crate) fn cut_of(b: Board, word: u64, amount: u64, total: u64) -> Cut
     requires { ⌜ Short (b .places) word amount total ⌝ }
