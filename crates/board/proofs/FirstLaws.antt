@@ -1,19 +1,17 @@
 -- Laws of the first place in rising order of sequence. Assumes nothing.
 use mathlib.Core.Path.{_≡_, sym, _∙_}
-use mathlib.Core.Bool.{true, false, cond, true≢false}
+use mathlib.Core.Bool.{true, false, true≢false}
 use mathlib.Core.List.{List, [], _∷_}
-use mathlib.Core.Logic.{_⊎_, inl, inr, ⊎-elim}
+use mathlib.Core.Logic.{⊎-elim}
 use Prim.Native.Nat.{ℕ, zero, suc, _+_, _-_, _/_, _%_, _^_, _≤_, _<_, min}
 use native.Mathlib.Nat.{not-suc-le-zero, le-of-suc-le-suc}
 use native.Mathlib.Omega.{arith}
-use lib.Dec.{ltb}
 use lib.ListN.{length}
-use lib.Pow.{pow-pos}
-use borrow.Author.Tests.{lt-ltb, le-ltb, eqb-true, eq-eqb, ne-eqb}
+use borrow.Author.Tests.{eqb-true, eq-eqb, ne-eqb}
 use Rattle.words.specs.rules.Bits.{bitAt, withoutBit, trailingZeros}
 use Rattle.base.proofs.Bools.{bool-or, and-left, and-right, and-both, and-no-left, and-no-right}
 use Rattle.base.proofs.Numbers.{le-or-lt, eq-or}
-use Rattle.words.proofs.BitLaws.{bit-or, bit-zero, bit-half, bit-low, no-bit, add-half, add-odd, cut-same, cut-back, without-set, without-not, without-in, without-other, set-is, some-set, LowestBit}
+use Rattle.words.proofs.BitLaws.{bit-or, bit-zero, bit-half, bit-low, add-half, add-odd, cut-same, cut-back, without-set, without-in, set-is, some-set}
 use Rattle.base.specs.Lists.{Every, Inserts}
 use Rattle.base.specs.Lists.Inserts.{here, there}
 use Rattle.board.specs.rules.Board.{noResponse, responseAt, liveIn, inSequence}
@@ -157,74 +155,3 @@ none-first ps = find-none (bears (lowest (liveIn 0 ps))) ps
 -- it comes first of the live ones in order
 pub first-takes : (ps : List Response) (w k : ℕ) → k ≡ firstInSequence ps w → k < length ps → inSequence (liveIn w ps) ≡ responseAt ps k ∷ inSequence (liveIn (withoutBit w k) ps)
 first-takes ps w k e l = earliest-sequence ps w k l (rw e (first-earliest ps w (rw (← e) l)))
-
--- ---- a loop that finds it: of w the places of rest are still to come, and best is the earliest of the others
-pub record Best (ps : List Response) (w best rest : ℕ) : Type 0 where
-  pub place : best < length ps
-  pub set : bitAt w best ≡ true
-  pub inside : (j : ℕ) → bitAt rest j ≡ true → bitAt w j ≡ true
-  pub ahead : (j : ℕ) → bitAt rest j ≡ true → best < j
-  pub least : (j : ℕ) → j < length ps → bitAt w j ≡ true → bitAt rest j ≡ false → responseAt ps best .sequence ≤ responseAt ps j .sequence
-  pub lowest : (j : ℕ) → j < best → bitAt w j ≡ true → bitAt rest j ≡ false → responseAt ps best .sequence < responseAt ps j .sequence
-
-pub best-end : (ps : List Response) (w best : ℕ) → Best ps w best 0 → firstInSequence ps w ≡ best
-best-end ps w best s =
-    earliest-first ps w best (s .place)
-    (record {
-      set = s .set;
-      least = λ j l b. s .least j l b (no-bit 0 j (pow-pos j));
-      lowest = λ j l b. s .lowest j l b (no-bit 0 j (pow-pos j));
-    })
-
--- a turn: i is the lowest place still to come
-module _ (ps : List Response) (rest i : ℕ) (l : i < length ps) (low : LowestBit rest i) where
-  -- what comes after it is above it
-  above : (j : ℕ) → bitAt (withoutBit rest i) j ≡ true → i < j
-  above j t =
-      let n = without-not rest i j t in
-      ⊎-elim
-      (λ le. ⊎-elim (λ ge. absurd (n (omega arith))) (λ lt. absurd (true≢false (sym (without-in rest i j t) ∙ low .none j lt))) (le-or-lt i j))
-      (λ lt. lt)
-      (le-or-lt j i)
-
-  -- what no longer comes is i, or came before
-  gone : (j : ℕ) → bitAt (withoutBit rest i) j ≡ false → (j ≡ i) ⊎ (bitAt rest j ≡ false)
-  gone j f = ⊎-elim (λ e. inl e) (λ n. inr (sym (without-other rest i j n) ∙ f)) (eq-or j i)
-
-  pub best-start : Best ps rest i (withoutBit rest i)
-  best-start = record {
-    place = l;
-    set = low .set;
-    inside = λ j t. without-in rest i j t;
-    ahead = above;
-    least = λ j h t f.
-        ⊎-elim (λ e. rw e (omega arith)) (λ g. absurd (true≢false (sym t ∙ g))) (gone j f);
-    lowest = λ j h t f. absurd (true≢false (sym t ∙ low .none j h));
-  }
-
-  pub best-step : (w best : ℕ) → Best ps w best rest → Best ps w (cond (ltb (responseAt ps i .sequence) (responseAt ps best .sequence)) i best) (withoutBit rest i)
-  best-step w best s =
-      ⊎-elim
-      (λ le. rw (le-ltb (responseAt ps i .sequence) (responseAt ps best .sequence) le) (stays le))
-      (λ lt. rw (lt-ltb (responseAt ps i .sequence) (responseAt ps best .sequence) lt) (moves lt))
-      (le-or-lt (responseAt ps best .sequence) (responseAt ps i .sequence))
-    where
-      stays : responseAt ps best .sequence ≤ responseAt ps i .sequence → Best ps w best (withoutBit rest i)
-      stays le = record {
-        place = s .place;
-        set = s .set;
-        inside = λ j t. s .inside j (without-in rest i j t);
-        ahead = λ j t. s .ahead j (without-in rest i j t);
-        least = λ j h t f. ⊎-elim (λ e. rw e le) (λ g. s .least j h t g) (gone j f);
-        lowest = λ j h t f. ⊎-elim (λ e. absurd (omega (arith, s .ahead i (low .set)))) (λ g. s .lowest j h t g) (gone j f);
-      }
-
-      moves : responseAt ps i .sequence < responseAt ps best .sequence → Best ps w i (withoutBit rest i)
-      moves lt = record {
-        place = l;
-        set = s .inside i (low .set);
-        inside = λ j t. s .inside j (without-in rest i j t);
-        ahead = above;
-        least = λ j h t f. ⊎-elim (λ e. rw e (omega arith)) (λ g. omega (arith, s .least j h t g)) (gone j f);
-        lowest = λ j h t f. ⊎-elim (λ e. absurd (omega arith)) (λ g. omega (arith, s .least j (omega arith) t g)) (gone j f);
-      }

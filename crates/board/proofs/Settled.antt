@@ -24,8 +24,5 @@ clear κs a = (tt, λ y z v w p q. (p ∙ sym q, refl))
 pub find-gtx : Settled contracts.find_gtx.ended contracts.find_gtx.Reads.Asked contracts.find_gtx.Reads.Learnt
 find-gtx κs a = (tt, λ y z v w p q. (p ∙ sym q, refl))
 
-pub sooner : Settled contracts.sooner.ended contracts.sooner.Reads.Asked contracts.sooner.Reads.Learnt
-sooner κs a = (tt, λ y z v w p q. (p ∙ sym q, refl))
-
 pub response-at : Settled contracts.response_at.ended contracts.response_at.Reads.Asked contracts.response_at.Reads.Learnt
 response-at κs a = (tt, λ y z v w p q. (p ∙ sym q, refl))

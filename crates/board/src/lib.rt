@@ -1,7 +1,5 @@
 // The board: 64 places for responses, and the word that tells which of them are live.
 ghost use mathlib.Core.Path.{_≡_};
-ghost use mathlib.Core.Bool.{cond};
-ghost use lib.Dec.{ltb};
 ghost use Rattle.board.specs.rules.Board.{noResponse, responseAt, emptyBoard, isLive, liveCount, firstFree, seatedAt, cleared, isGtx, foundGtx};
 use words::bits;
 
@@ -102,9 +100,10 @@ pub fn find_gtx(b: Board, sequence: u32) -> Found
     ensures { λ r. ⌜ r ≡ foundGtx b sequence ⌝ }
 {
     let mut rest = b.live;
+    let places = b.places;
     while rest != 0 {
         let i = bits::first_set(rest) as usize;
-        let r = b.places[i];
+        let r = places[i];
         if is_gtx(r, sequence) {
             return Found {
                 place: i,
@@ -117,13 +116,6 @@ pub fn find_gtx(b: Board, sequence: u32) -> Found
         place: 64,
         response: no_response(),
     }
-}
-
-// The place of the lower sequence of two, and the first where they are equal.
-pub fn sooner(s: u32, i: usize, t: u32, j: usize) -> usize
-    ensures { λ r. ⌜ r ≡ cond (ltb t s) j i ⌝ }
-{
-    if t < s { j } else { i }
 }
 
 // What stands at place i; past the last place, what stands where no response was ever placed.

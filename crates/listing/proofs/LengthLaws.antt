@@ -156,9 +156,14 @@ run-kept (e ∷ es) a = run-kept es (stepOf a e .auction) ∙ board-kept (a .boa
 pub closed-kept : (a : Auction) → places (closed a) ≡ places a
 closed-kept a = board-kept (a .board) (closeTurn (a .head) .change)
 
+-- an auction begins with the empty board
+pub accept-empty : (o : Order) → acceptOf o .auction .board ≡ emptyBoard
+unfolding acceptOf openedBy noAuction
+accept-empty o = by (λ (p : Opening). p .auction .board ≡ emptyBoard) (eqb (orderRefusal o) 0) _ _ (λ _. refl) (λ _. refl)
+
 accept-places : (o : Order) → places (acceptOf o .auction) ≡ 64
-unfolding acceptOf openedBy noAuction emptyBoard
-accept-places o = by (λ (p : Opening). places (p .auction) ≡ 64) (eqb (orderRefusal o) 0) _ _ (λ _. refl) (λ _. refl)
+unfolding emptyBoard
+accept-places o = ap (λ (b : Board). length (b .places)) (accept-empty o)
 
 -- ---- the listing
 

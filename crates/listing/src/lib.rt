@@ -2,6 +2,7 @@
 ghost use mathlib.Core.Path.{_≡_};
 ghost use Prim.Native.Nat.{_+_, _*_, _≤_};
 ghost use lib.ListN.{length};
+ghost use Rattle.board.specs.rules.Board.{emptyBoard};
 ghost use Rattle.tape.specs.rules.Tape.{orderIn, recordsOf};
 ghost use Rattle.run.specs.rules.Run.{run, heard, closed, refused, runEntry, runOrder};
 ghost use Rattle.listing.specs.rules.Listing.{eventLines, roomOf, lengthIn, listedOf, bytesOf};
@@ -55,14 +56,15 @@ struct Heard {
     auction: Auction,
 }
 
-// A line for each of the tape's events. The board is the loop's own: what a turn says is seated on it in place.
+// A line for each of the tape's events. The board is the loop's own, and begins empty: what a turn says is seated on it in place.
 fn put_events(tape: &[u8], t: Trailer, a: Auction, out: &mut [u8], start: usize) -> Heard
     requires { ⌜ (t .events ≤ 2045) × (start + 56 * t .events ≤ length (now out)) ⌝ }
+    requires { ⌜ a .board ≡ emptyBoard ⌝ }
     ensures { λ r. ⌜ WroteBytes (now (out .entry)) start (eventLines (heard a (recordsOf (now (tape .entry)) t))) (r .next) (now (out .exit)) ⌝ }
     ensures { λ r. ⌜ (r .auction ≡ closed (run a (recordsOf (now (tape .entry)) t))) × (r .next ≤ start + 56 * t .events) ⌝ }
 {
     let n = t.events as usize;
-    let mut b = a.board;
+    let mut b = board::empty();
     let mut h = a.head;
     let mut w = start;
     let mut k = 0;
@@ -111,6 +113,7 @@ fn list_refused(out: &mut [u8], number: u32) -> Listed
 // An open auction, with the tape's events.
 fn list_auction(tape: &[u8], t: Trailer, a: Auction, out: &mut [u8]) -> Listed
     requires { ⌜ (t .events ≤ 2045) × (roomOf ≤ length (now out)) ⌝ }
+    requires { ⌜ a .board ≡ emptyBoard ⌝ }
     ensures { λ r. ⌜ Lists (runEntry (recordsOf (now (tape .entry)) t) a Entry.Accepted) (now (out .entry)) r (now (out .exit)) ⌝ }
 {
     let opened = a.head;

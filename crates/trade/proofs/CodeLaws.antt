@@ -1,14 +1,13 @@
 -- What the private functions' proofs lean on: laws over numbers and words.
-use mathlib.Core.Path.{_≡_, refl, sym, ap, ap₂, _∙_}
-use mathlib.Core.Bool.{Bool, true, false, cond, not, _&&_}
-use mathlib.Core.Logic.{_≢_}
+use mathlib.Core.Path.{_≡_, refl, ap, _∙_}
+use mathlib.Core.Bool.{Bool, true, false, cond, not}
 use mathlib.Core.List.{List, [], _∷_}
 use Prim.Native.Nat.{ℕ, suc, _+_, _-_, _*_, _/_, _%_, _^_, _≤_, _<_, min, max}
 use native.Mathlib.Omega.{arith}
 use borrow.Author.Tests.{ne-eqb}
 use lib.Dec.{eqb}
 use lib.ListN.{length, getD}
-use Rattle.words.specs.rules.Bits.{bitAt, withBit, withoutBit, trailingZeros}
+use Rattle.words.specs.rules.Bits.{bitAt, withoutBit, trailingZeros}
 use Rattle.words.proofs.BitLaws.{without-lt, lowest-set}
 use Rattle.board.specs.declared.Response.{Response}
 use Rattle.base.specs.Lists.{keep, filter, sum}
@@ -17,8 +16,7 @@ use Rattle.board.proofs.LiveLaws.{none-live, first-live}
 use Rattle.share.specs.rules.Share.{fractions}
 use Rattle.share.specs.rules.Fills.{sizes}
 use Rattle.trade.specs.rules.Trade.{guaranteeOf}
-use Rattle.trade.specs.inside.Code.{sharedOf, contraOf, worksAt, leastOf, lastSequence, Adds, fractionsIn}
-use Rattle.trade.specs.declared.Found.{Found}
+use Rattle.trade.specs.inside.Code.{sharedOf, contraOf, leastOf, fractionsIn}
 
 -- ---- numbers
 
@@ -69,6 +67,16 @@ turn-of ps rest i e p h q =
     let t = lowest-set rest i p h q in
     record { low = t .place; set = t .set; less = without-lt rest i (t .set); cons = first-live rest i ps noResponse (omega (arith, t .place)) t }
 
+-- ---- the places to look at: none, where what is looked for is known
+
+pub unseen-le : (known : Bool) (w : ℕ) → cond known 0 w ≤ w
+unseen-le true w = omega arith
+unseen-le false w = omega arith
+
+-- all, where n is not 0
+pub unseen-all : (n w : ℕ) → 0 < n → cond (eqb n 0) 0 w ≡ w
+unseen-all n w h = ap (λ (b : Bool). cond b 0 w) (ne-eqb n 0 (λ z. omega arith))
+
 -- ---- what a scan has to go
 
 pub least-none : (bound last : ℕ) (ps : List Response) → leastOf bound last (liveIn 0 ps) ≡ last
@@ -94,25 +102,12 @@ sizes-turn t ps rest i k = rw (k .cons) (go (t (getD ps i noResponse)))
     go true = refl
     go false = omega arith
 
-pub last-turn : (t : Response → Bool) (m : ℕ) (ps : List Response) (rest i : ℕ) → Turn ps rest i
-    → lastSequence m (filter t (liveIn rest ps)) ≡ lastSequence (cond (t (getD ps i noResponse)) (getD ps i noResponse .sequence) m) (filter t (liveIn (withoutBit rest i) ps))
-unfolding lastSequence filter
-last-turn t m ps rest i k = rw (k .cons) (go (t (getD ps i noResponse)))
-  where
-    go : (b : Bool) → lastSequence m (keep b (getD ps i noResponse) (filter t (liveIn (withoutBit rest i) ps))) ≡ lastSequence (cond b (getD ps i noResponse .sequence) m) (filter t (liveIn (withoutBit rest i) ps))
-    go true = refl
-    go false = refl
-
 pub fractions-turn : (R T : ℕ) (ps : List Response) (rest i : ℕ) → Turn ps rest i → fractionsIn R T ps rest ≡ (R * getD ps i noResponse .size % T) ∷ fractionsIn R T ps (withoutBit rest i)
 fractions-turn R T ps rest i t = ap (λ (rs : List Response). fractions R T (sizes rs)) (t .cons)
 
 pub sizes-none : (t : Response → Bool) (ps : List Response) → sum (sizes (filter t (liveIn 0 ps))) ≡ 0
 unfolding sum filter
 sizes-none t ps = rw (none-live ps)
-
-pub last-none : (t : Response → Bool) (m : ℕ) (ps : List Response) → lastSequence m (filter t (liveIn 0 ps)) ≡ m
-unfolding lastSequence filter
-last-none t m ps = rw (none-live ps)
 
 pub fractions-none : (R T : ℕ) (ps : List Response) → fractionsIn R T ps 0 ≡ []
 fractions-none R T ps = rw (none-live ps)
@@ -129,23 +124,3 @@ live-short w (p ∷ ps) = go (eqb (w % 2) 1) (live-short (w / 2) ps)
     go : (t : Bool) → length (liveIn (w / 2) ps) ≤ length ps → length (keep t p (liveIn (w / 2) ps)) ≤ suc (length ps)
     go true h = omega arith
     go false h = omega arith
-
--- ---- what a response adds at a price: a says whether it works there, b whether it is a Customer's
-
-pub adds-of : (bound p : ℕ) (r : Response) (i : ℕ) (f n : Found) (a b : Bool) → worksAt bound p r ≡ a → r .customer ≡ b
-    → n .customers ≡ cond (a && b) (withBit (f .customers) i) (f .customers) → n .others ≡ cond (a && not b) (withBit (f .others) i) (f .others)
-    → n .served ≡ f .served + cond (a && b) (r .size) 0 → n .total ≡ f .total + cond (a && not b) (r .size) 0
-    → n .customer ≡ cond (a && b) (r .sequence) (f .customer) → n .other ≡ cond (a && not b) (r .sequence) (f .other)
-    → Adds bound p r i f n
-adds-of bound p r i f n a b e g c o s t lc lo =
-    record {
-      customers = c ∙ ap₂ (λ (x y : Bool). cond (x && y) (withBit (f .customers) i) (f .customers)) (sym e) (sym g);
-      others = o ∙ ap₂ (λ (x y : Bool). cond (x && not y) (withBit (f .others) i) (f .others)) (sym e) (sym g);
-      served = s ∙ ap₂ (λ (x y : Bool). f .served + cond (x && y) (r .size) 0) (sym e) (sym g);
-      total = t ∙ ap₂ (λ (x y : Bool). f .total + cond (x && not y) (r .size) 0) (sym e) (sym g);
-      customer = lc ∙ ap₂ (λ (x y : Bool). cond (x && y) (r .sequence) (f .customer)) (sym e) (sym g);
-      other = lo ∙ ap₂ (λ (x y : Bool). cond (x && not y) (r .sequence) (f .other)) (sym e) (sym g);
-    }
-
-pub adds-none : (bound p : ℕ) (r : Response) (i : ℕ) (f : Found) → max (r .price) bound ≢ p → Adds bound p r i f f
-adds-none bound p r i f h = adds-of bound p r i f f false (r .customer) (ne-eqb (max (r .price) bound) p h) refl refl refl (omega arith) (omega arith) refl refl

@@ -7,7 +7,7 @@ use Prim.Native.Nat.{ℕ, suc, _+_, _-_, _^_, _≤_, _<_, min}
 use native.Mathlib.Omega.{arith}
 use borrow.Author.Tests.{le-leb}
 use lib.Dec.{leb, ltb}
-use lib.ListN.{length, length-append}
+use lib.ListN.{length}
 use Rattle.board.specs.declared.Response.{Response}
 use Rattle.base.specs.Lists.{keep, filter, sum}
 use Rattle.board.specs.rules.Board.{liveIn, inSequence}
@@ -20,12 +20,14 @@ use Rattle.trade.specs.declared.Deal.{Deal}
 use Rattle.trade.specs.declared.Found.{Found}
 use Rattle.trade.specs.declared.Price.{Price}
 use Rattle.trade.specs.declared.Walked.{Walked}
+use Rattle.trade.specs.rules.Plan.{Plan}
 use Rattle.trade.specs.rules.Trade.{fromCustomer, fromOther, Level, customers, others, shared, given, first, contra, levelFills, traded, flat, working, top, entry, next, guarantee, sizeHere}
 use Rattle.trade.specs.rules.Write.{reportedPrice, reported}
-use Rattle.trade.specs.inside.Code.{matchOf, lastOf, wantOf, sharedOf, contraOf, leftOf, worksAt, customerAt, otherAt, lastSequence, FoundAt, leastOf, eachFills, dealt, shareFills, placeFills, levelOf, Looks, WalkedOn, walkFrom}
+use Rattle.trade.specs.inside.Code.{sharedOf, contraOf, leftOf, inTurnOf, planBy, worksAt, customerAt, otherAt, rankOf, leastOf, Stands, eachFills, dealt, shareFills, placeFills, levelOf, pricedOf, walkFrom}
 use Rattle.trade.proofs.Lists.{sizes-split}
 use Rattle.trade.proofs.Levels.{given-sum, traded-is}
 use Rattle.trade.proofs.WriteLaws.{sizes-sequence}
+use Rattle.trade.proofs.CodeLaws.{shared-le}
 use Rattle.trade.proofs.StepLaws.{word-parts, word-le, ahead, least-next, walk-turn, from-none, from-past}
 use Rattle.base.proofs.ListLaws.{filter-filter}
 use Rattle.trade.proofs.Walk.{next-above, next-top}
@@ -90,110 +92,128 @@ reported-level sell l =
     ∙ ap₂ {C = List Fill} (λ x y. x ++ y) (reported-by sell (l .price) (customers l) (inTurn (l .left) (sizes (customers l))))
     (reported-append sell b c ∙ ap₂ {C = List Fill} (λ x y. x ++ y) (reported-fill sell 0 (l .price) (contra l)) (reported-by sell (l .price) (others l) (given l)))
 
--- ---- what `level_at` finds
+-- ---- what is made of what was found
 
-module _ (d : Deal) (ps : List Response) (G : ℕ) (s : Walked) (e : length ps ≡ 64) (fit : s .rest < 2 ^ 64) where
-  -- Customers and others at a price
-  customers-word : (p : ℕ) → filter (customerAt (d .bound) p) (liveIn (s .rest) ps) ≡ filter fromCustomer (filter (worksAt (d .bound) p) (liveIn (s .rest) ps))
-  customers-word p = sym (filter-filter fromCustomer (worksAt (d .bound) p) (customerAt (d .bound) p) (liveIn (s .rest) ps) (λ x m. refl))
-
-  others-word : (p : ℕ) → filter (otherAt (d .bound) p) (liveIn (s .rest) ps) ≡ filter fromOther (filter (worksAt (d .bound) p) (liveIn (s .rest) ps))
-  others-word p = sym (filter-filter fromOther (worksAt (d .bound) p) (otherAt (d .bound) p) (liveIn (s .rest) ps) (λ x m. refl))
-
-  pub looks : (l : Price) (f : Found) (m T E : ℕ) → T ≡ top d → E ≡ entry d
-      → l .price ≡ leastOf (d .bound) T (liveIn (s .rest) ps)
-      → FoundAt (d .bound) (l .price) ps (s .rest) f
-      → l .customers ≡ f .customers → l .others ≡ f .others → l .served ≡ f .served → l .total ≡ f .total → l .customer ≡ f .customer → l .other ≡ f .other
-      → m ≡ matchOf (d .mode) G (s .held) (l .served + l .total)
-      → l .last ≡ lastOf E T (l .price) (s .left) (l .served + l .total + m)
-      → l .want ≡ wantOf (l .last) E (l .price) G (s .held) m
-      → l .price ≤ 4294967295 → l .served + l .total + l .want ≤ 1099511627520
-      → Looks d ps G s l
-  unfolding levelOf
-  looks l f m T E et ee ep k ec eo es eT lc lo em el ew low small =
-      let p : l .price ≡ leastOf (d .bound) (top d) (liveIn (s .rest) ps) = ep ∙ ap (λ (n : ℕ). leastOf (d .bound) n (liveIn (s .rest) ps)) et in
-      let xs = filter (worksAt (d .bound) (l .price)) (liveIn (s .rest) ps) in
-      let os = inSequence xs in
-      let cs : liveIn (l .customers) ps ≡ filter fromCustomer xs =
-      ap (λ (n : ℕ). liveIn n ps) (ec ∙ k .customers) ∙ word-filters (customerAt (d .bound) (l .price)) (s .rest) ps ∙ customers-word (l .price) in
-      let ot : liveIn (l .others) ps ≡ filter fromOther xs =
-      ap (λ (n : ℕ). liveIn n ps) (eo ∙ k .others) ∙ word-filters (otherAt (d .bound) (l .price)) (s .rest) ps ∙ others-word (l .price) in
-      let sc : inSequence (liveIn (l .customers) ps) ≡ filter fromCustomer os = ap inSequence cs ∙ sym (sequence-filter fromCustomer xs) in
-      let so : inSequence (liveIn (l .others) ps) ≡ filter fromOther os = ap inSequence ot ∙ sym (sequence-filter fromOther xs) in
-      let t : l .total ≡ sum (sizes (liveIn (l .others) ps)) = eT ∙ k .total ∙ ap (λ (x : List Response). sum (sizes x)) (others-word (l .price) ∙ sym ot) in
-      let c : l .served ≡ sum (sizes (liveIn (l .customers) ps)) = es ∙ k .served ∙ ap (λ (x : List Response). sum (sizes x)) (customers-word (l .price) ∙ sym cs) in
-      let C : l .served ≡ sum (sizes (filter fromCustomer os)) = c ∙ sym (sizes-sequence (liveIn (l .customers) ps)) ∙ ap (λ (x : List Response). sum (sizes x)) sc in
-      let O : l .total ≡ sum (sizes (filter fromOther os)) = t ∙ sym (sizes-sequence (liveIn (l .others) ps)) ∙ ap (λ (x : List Response). sum (sizes x)) so in
-      let A : l .served + l .total ≡ sum (sizes os) = omega (arith, sizes-split os) in
-      let M : m ≡ matchOf (d .mode) G (s .held) (sum (sizes os)) = em ∙ ap (matchOf (d .mode) G (s .held)) A in
-      let F : l .last ≡ lastOf (entry d) (top d) (l .price) (s .left) (sum (sizes os) + matchOf (d .mode) G (s .held) (sum (sizes os))) = rw (← et, ← ee, ← M, ← A) el in
-      let W : l .want ≡ wantOf (lastOf (entry d) (top d) (l .price) (s .left) (sum (sizes os) + matchOf (d .mode) G (s .held) (sum (sizes os)))) (entry d) (l .price) G (s .held) (matchOf (d .mode) G (s .held) (sum (sizes os))) =
-      rw (← F, ← ee, ← M) ew in
-      let gone : l .customers + l .others ≡ wordOf (worksAt (d .bound) (l .price)) (s .rest) ps =
-      ap₂ (λ (x y : ℕ). x + y) (ec ∙ k .customers) (eo ∙ k .others) ∙ word-parts (worksAt (d .bound) (l .price)) fromCustomer (s .rest) ps in
-      record {
-        price-is = p;
-        customers-are = rw (← p) sc;
-        others-are = rw (← p) so;
-        customers-known = record { one-is = lc ∙ k .customer ∙ ap (lastSequence 0) (customers-word (l .price) ∙ sym cs); total-is = c; small = omega arith };
-        others-known = record { one-is = lo ∙ k .other ∙ ap (lastSequence 0) (others-word (l .price) ∙ sym ot); total-is = t; small = omega arith };
-        want-is = rw (← p) W;
-        last-is = rw (← p) F;
-        gone = gone;
-        fits = rw gone (word-le (worksAt (d .bound) (l .price)) (s .rest) ps (rw e fit));
-        low = low;
-        small = small;
-      }
-
--- ---- and what `turn` makes of it
+-- what is known of a price of the walk
+pub record Priced (d : Deal) (ps : List Response) (G : ℕ) (s : Walked) (l : Price) : Type 0 where
+  pub price-is : l .price ≡ levelOf d ps G s .price
+  pub left-is : l .left ≡ s .left
+  pub customers-rank : l .customer ≡ rankOf 0 (liveIn (l .customers) ps)
+  pub others-rank : l .other ≡ rankOf 0 (liveIn (l .others) ps)
+  pub total-is : l .total ≡ sum (sizes (liveIn (l .others) ps))
+  pub total-low : l .total ≤ 274877906880
+  pub in-turn : l .turns ≡ inTurnOf (l .total) (l .shared) (l .others)
+  pub shared-low : l .shared ≤ s .left
+  pub contra-low : l .contra + l .after ≤ s .left
+  pub contra-is : l .contra ≡ contra (levelOf d ps G s)
+  pub after-is : l .after ≡ s .left - traded (levelFills (levelOf d ps G s))
+  -- its places are places of the walk's word
+  pub gone : l .customers + l .others ≡ wordOf (worksAt (d .bound) (levelOf d ps G s .price)) (s .rest) ps
+  pub fits : l .customers + l .others ≤ s .rest
+  pub fills : placeFills (l .reported) (l .left) (inSequence (liveIn (l .customers) ps)) (l .contra) (l .shared) (inSequence (liveIn (l .others) ps)) ≡ reported (d .sell) (levelFills (levelOf d ps G s))
 
 pub left-same : (d : Deal) (ps : List Response) (G : ℕ) (s : Walked) → levelOf d ps G s .left ≡ s .left
 unfolding levelOf
 left-same d ps G s = refl
 
-module _ (d : Deal) (ps : List Response) (G : ℕ) (s : Walked) (l : Price) (k : Looks d ps G s l) where
-  served-all : l .served ≡ sum (sizes (customers (levelOf d ps G s)))
-  served-all = k .customers-known .total-is ∙ sym (sizes-sequence (liveIn (l .customers) ps)) ∙ ap (λ (x : List Response). sum (sizes x)) (k .customers-are)
+pub priced-price : (d : Deal) (G : ℕ) (s : Walked) (f : Found) (l : Price) → l ≡ pricedOf d G s f → l .price ≡ f .price
+unfolding pricedOf
+priced-price d G s f l e = ap (λ (x : Price). x .price) e
 
-  total-all : l .total ≡ sum (sizes (others (levelOf d ps G s)))
-  total-all = k .others-known .total-is ∙ sym (sizes-sequence (liveIn (l .others) ps)) ∙ ap (λ (x : List Response). sum (sizes x)) (k .others-are)
+module _ (d : Deal) (ps : List Response) (G : ℕ) (s : Walked) (e : length ps ≡ 64) (fit : s .rest < 2 ^ 64) (f : Found) (st : Stands (d .bound) (top d) ps (s .rest) f) where
+  abbrev level : Level
+  level = levelOf d ps G s
 
-  pub contra-found : contraOf (s .left) (l .served) (l .total) (l .want) (l .last) ≡ contra (levelOf d ps G s)
+  abbrev here : List Response
+  here = filter (worksAt (d .bound) (f .price)) (liveIn (s .rest) ps)
+
+  price-found : f .price ≡ level .price
   unfolding levelOf
-  contra-found = rw (served-all, total-all, k .want-is, k .last-is) (sym (contra-numbers (levelOf d ps G s)))
+  price-found = st .price-is
 
-  pub left-found : leftOf (s .left) (l .served) (l .total) (l .want) (l .last) ≡ s .left - traded (levelFills (levelOf d ps G s))
+  here-found : level .here ≡ inSequence here
   unfolding levelOf
-  left-found = rw (served-all, total-all, k .want-is, k .last-is) (sym (left-numbers (levelOf d ps G s)))
+  here-found = ap (λ (n : ℕ). inSequence (filter (worksAt (d .bound) n) (liveIn (s .rest) ps))) (sym (st .price-is))
 
-  shared-found : sharedOf (s .left) (l .served) (l .want) ≡ shared (levelOf d ps G s)
+  customers-here : filter (customerAt (d .bound) (f .price)) (liveIn (s .rest) ps) ≡ filter fromCustomer here
+  customers-here = sym (filter-filter fromCustomer (worksAt (d .bound) (f .price)) (customerAt (d .bound) (f .price)) (liveIn (s .rest) ps) (λ x m. refl))
+
+  others-here : filter (otherAt (d .bound) (f .price)) (liveIn (s .rest) ps) ≡ filter fromOther here
+  others-here = sym (filter-filter fromOther (worksAt (d .bound) (f .price)) (otherAt (d .bound) (f .price)) (liveIn (s .rest) ps) (λ x m. refl))
+
+  customers-live : liveIn (f .customers) ps ≡ filter (customerAt (d .bound) (f .price)) (liveIn (s .rest) ps)
+  customers-live = ap (λ (n : ℕ). liveIn n ps) (st .found .customers) ∙ word-filters (customerAt (d .bound) (f .price)) (s .rest) ps
+
+  others-live : liveIn (f .others) ps ≡ filter (otherAt (d .bound) (f .price)) (liveIn (s .rest) ps)
+  others-live = ap (λ (n : ℕ). liveIn n ps) (st .found .others) ∙ word-filters (otherAt (d .bound) (f .price)) (s .rest) ps
+
+  customers-are : inSequence (liveIn (f .customers) ps) ≡ customers level
+  customers-are = ap inSequence (customers-live ∙ customers-here) ∙ sym (sequence-filter fromCustomer here) ∙ ap (filter fromCustomer) (sym here-found)
+
+  others-are : inSequence (liveIn (f .others) ps) ≡ others level
+  others-are = ap inSequence (others-live ∙ others-here) ∙ sym (sequence-filter fromOther here) ∙ ap (filter fromOther) (sym here-found)
+
+  others-sum : f .total ≡ sum (sizes (liveIn (f .others) ps))
+  others-sum = st .found .total ∙ ap (λ (x : List Response). sum (sizes x)) (sym others-live)
+
+  served-all : f .served ≡ sum (sizes (customers level))
+  served-all = st .found .served ∙ ap (λ (x : List Response). sum (sizes x)) (sym customers-live) ∙ sym (sizes-sequence (liveIn (f .customers) ps)) ∙ ap (λ (x : List Response). sum (sizes x)) customers-are
+
+  total-all : f .total ≡ sum (sizes (others level))
+  total-all = others-sum ∙ sym (sizes-sequence (liveIn (f .others) ps)) ∙ ap (λ (x : List Response). sum (sizes x)) others-are
+
+  abbrev plan : ℕ → ℕ → Plan
+  plan p A = planBy (d .mode) (entry d) (top d) G p (s .left) (s .held) A
+
+  plan-found : plan (f .price) (f .served + f .total) ≡ plan (level .price) (sum (sizes (level .here)))
+  plan-found =
+      let A : f .served + f .total ≡ sum (sizes (level .here)) = omega (arith, served-all, total-all, sizes-split (level .here)) in
+      ap₂ {C = Plan} (λ (p n : ℕ). plan p n) price-found A
+
+  want-found : plan (f .price) (f .served + f .total) .want ≡ level .want
   unfolding levelOf
-  shared-found = rw (served-all, k .want-is) (sym (shared-numbers (levelOf d ps G s)))
+  want-found = ap (λ (p : Plan). p .want) plan-found
 
-  pub place-is : (price c : ℕ) → price ≡ reportedPrice (d .sell) (l .price) → c ≡ contraOf (s .left) (l .served) (l .total) (l .want) (l .last)
-      → placeFills price (s .left) (inSequence (liveIn (l .customers) ps)) c (sharedOf (s .left) (l .served) (l .want)) (inSequence (liveIn (l .others) ps))
-      ≡ reported (d .sell) (levelFills (levelOf d ps G s))
+  final-found : plan (f .price) (f .served + f .total) .final ≡ level .final
   unfolding levelOf
-  place-is price c e f =
-      let q : price ≡ reportedPrice (d .sell) (levelOf d ps G s .price) = e ∙ ap (reportedPrice (d .sell)) (k .price-is) in
-      let r : c ≡ contra (levelOf d ps G s) = f ∙ contra-found in
-      rw (q, r, shared-found, k .customers-are, k .others-are) (sym (reported-level (d .sell) (levelOf d ps G s)))
+  final-found = ap (λ (p : Plan). p .final) plan-found
 
-  pub stepped : (r : Walked) → r .from ≡ l .price + 1 → r .rest ≡ s .rest - l .customers - l .others
-      → r .left ≡ leftOf (s .left) (l .served) (l .total) (l .want) (l .last) → r .held ≡ s .held + contraOf (s .left) (l .served) (l .total) (l .want) (l .last)
-      → WalkedOn d ps G s r
-  stepped r a b c e =
-      record {
-        from-is = a ∙ ap (λ (n : ℕ). n + 1) (k .price-is);
-        rest-is = rw (← k .price-is) (omega (arith, k .gone, k .fits));
-        left-is = c ∙ left-found;
-        held-is = e ∙ ap (λ (n : ℕ). s .held + n) contra-found;
-      }
+  contra-found : contraOf (s .left) (f .served) (f .total) (plan (f .price) (f .served + f .total) .want) (plan (f .price) (f .served + f .total) .final) ≡ contra level
+  unfolding levelOf
+  contra-found = rw (want-found, final-found, served-all, total-all) (sym (contra-numbers level))
 
-pub place-length : (p left : ℕ) (cs : List Response) (c R : ℕ) (os : List Response)
-    → length (placeFills p left cs c R os) ≡ length (eachFills p true 0 0 0 left cs) + (length (fillOf 0 p c) + length (shareFills p R os))
-unfolding placeFills
-place-length p left cs c R os = length-append (eachFills p true 0 0 0 left cs) (fillOf 0 p c ++ shareFills p R os) ∙ ap (λ (n : ℕ). length (eachFills p true 0 0 0 left cs) + n) (length-append (fillOf 0 p c) (shareFills p R os))
+  after-found : leftOf (s .left) (f .served) (f .total) (plan (f .price) (f .served + f .total) .want) (plan (f .price) (f .served + f .total) .final) ≡ s .left - traded (levelFills level)
+  unfolding levelOf
+  after-found = rw (want-found, final-found, served-all, total-all) (sym (left-numbers level))
+
+  shared-found : sharedOf (s .left) (f .served) (plan (f .price) (f .served + f .total) .want) ≡ shared level
+  unfolding levelOf
+  shared-found = rw (want-found, served-all) (sym (shared-numbers level))
+
+  pub priced : (l : Price) → l ≡ pricedOf d G s f → Priced d ps G s l
+  unfolding pricedOf levelOf
+  priced l el =
+      let gone : f .customers + f .others ≡ wordOf (worksAt (d .bound) (f .price)) (s .rest) ps =
+      ap₂ (λ (x y : ℕ). x + y) (st .found .customers) (st .found .others) ∙ word-parts (worksAt (d .bound) (f .price)) fromCustomer (s .rest) ps in
+      rw el
+      (record {
+        price-is = price-found;
+        left-is = refl;
+        customers-rank = st .found .customer ∙ ap (rankOf 0) (sym customers-live);
+        others-rank = st .found .other ∙ ap (rankOf 0) (sym others-live);
+        total-is = others-sum;
+        total-low = omega (arith, st .found .small);
+        in-turn = refl;
+        shared-low = shared-le (s .left) (f .served) (plan (f .price) (f .served + f .total) .want);
+        contra-low = contra-within (s .left) (f .served) (f .total) (plan (f .price) (f .served + f .total) .want) (plan (f .price) (f .served + f .total) .final);
+        contra-is = contra-found;
+        after-is = after-found;
+        gone = gone ∙ ap (λ (n : ℕ). wordOf (worksAt (d .bound) n) (s .rest) ps) price-found;
+        fits = rw gone (word-le (worksAt (d .bound) (f .price)) (s .rest) ps (rw e fit));
+        fills =
+            ap (λ (n : ℕ). placeFills (reportedPrice (d .sell) n) (s .left) (inSequence (liveIn (f .customers) ps)) (contraOf (s .left) (f .served) (f .total) (plan (f .price) (f .served + f .total) .want) (plan (f .price) (f .served + f .total) .final)) (sharedOf (s .left) (f .served) (plan (f .price) (f .served + f .total) .want)) (inSequence (liveIn (f .others) ps))) price-found
+            ∙ rw (contra-found, shared-found, customers-are, others-are) (sym (reported-level (d .sell) level));
+      })
 
 -- ---- the loop of the walk
 
@@ -226,7 +246,3 @@ unfolding levelOf
 level-above d ps live G s r h =
     let e : leastOf (d .bound) (top d) (liveIn (s .rest) ps) ≡ next d (s .from) (liveIn live ps) = rw r (least-next d (s .from) (liveIn live ps)) in
     (rw e (next-above d (s .from) h (liveIn live ps)), rw e (next-top d (s .from) (liveIn live ps)))
-
--- what the Contra Order takes and what is left are no more than there was
-pub contra-left : (l : Level) → contra l + (l .left - traded (levelFills l)) ≤ l .left
-contra-left l = rw (contra-numbers l, left-numbers l) (contra-within (l .left) (sum (sizes (customers l))) (sum (sizes (others l))) (l .want) (l .final))

@@ -98,6 +98,18 @@ word-split t w (x ∷ ps) h =
         let n : w % 2 ≢ 1 = eqb-false (w % 2) 1 e in
         omega arith
 
+-- all of a word, where all pass
+pub word-all : {A : Type 0} (t : A → Bool) → ((x : A) → t x ≡ true) → (w : ℕ) (ps : List A) → w < 2 ^ length ps → wordOf t w ps ≡ w
+unfolding wordOf
+word-all t h w [] l = omega arith
+word-all t h w (x ∷ ps) l = rw (h x) (go (eqb (w % 2) 1) refl (word-all t h (w / 2) ps (omega (arith, pow-suc 2 (length ps)))))
+  where
+    go : (b : Bool) → eqb (w % 2) 1 ≡ b → wordOf t (w / 2) ps ≡ w / 2 → cond (b && true) 1 0 + 2 * wordOf t (w / 2) ps ≡ w
+    go true e i = omega (arith, eqb-true (w % 2) 1 e)
+    go false e i =
+        let n : w % 2 ≢ 1 = eqb-false (w % 2) 1 e in
+        omega arith
+
 pub word-le : {A : Type 0} (t : A → Bool) (w : ℕ) (ps : List A) → w < 2 ^ length ps → wordOf t w ps ≤ w
 word-le t w ps h = omega (arith, word-split t w ps h)
 

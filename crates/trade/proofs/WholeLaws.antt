@@ -1,15 +1,17 @@
 -- The market order, all the fills together, and the lent part.
 use mathlib.Core.Path.{_≡_, refl, sym, ap, ap₂, _∙_}
-use mathlib.Core.Bool.{Bool, true, false}
+use mathlib.Core.Bool.{Bool, true, false, cond}
 use mathlib.Core.List.{List, _++_, append-nil}
-use mathlib.Core.Logic.{_≢_}
-use Prim.Native.Nat.{ℕ, _+_, _-_, _*_, _/_, _^_, _≤_, _<_, min}
+use mathlib.Core.Logic.{_≢_, ⊎-elim}
+use Prim.Native.Nat.{ℕ, _+_, _-_, _*_, _/_, _^_, _≤_, _<_, min, max}
 use native.Mathlib.Nat.{le-of-eq, zero-add}
 use native.Mathlib.Omega.{arith}
-use borrow.Author.Tests.{eq-eqb, ne-eqb, le-leb, lt-leb}
+use borrow.Author.Tests.{eq-eqb, ne-eqb, eqb-true, eqb-false, le-leb, lt-leb}
+use lib.Dec.{eqb}
 use borrow.Rule.Slice.PartMut.{putMid}
 use lib.ListN.{length, take, drop, length-drop, drop-of-length-le}
 use lib.Seq.{drop-drop}
+use Rattle.base.proofs.Numbers.{le-or-lt}
 use Rattle.base.proofs.SetsLaws.{rest-is}
 use Rattle.words.specs.rules.Bits.{trailingZeros, onesIn}
 use Rattle.board.specs.declared.Response.{Response}
@@ -25,7 +27,7 @@ use Rattle.trade.specs.declared.Deal.{Deal}
 use Rattle.trade.specs.declared.Filled.the-variants.{Count, Refused}
 use Rattle.trade.specs.rules.Trade.{offers, Level, flat, workingStop, top, next, guaranteeOf, guarantee, marketPrice, marketTakes, marketFill, levels, fills}
 use Rattle.trade.specs.rules.Write.{reportedPrice, reported, fillsOf, roomy, fillAnswer, fillWords}
-use Rattle.trade.specs.inside.Code.{leastOf, walkFrom}
+use Rattle.trade.specs.inside.Code.{leastOf, marketBy, walkFrom}
 use Rattle.trade.proofs.CodeLaws.{turn-of, count-turn, live-short}
 use Rattle.trade.proofs.StepLaws.{least-next, next-sequence, from-start}
 use Rattle.trade.proofs.LevelLaws.{ahead-all, reported-append, reported-length, reported-fill}
@@ -40,22 +42,40 @@ module _ (d : Deal) (ps : List Response) (live low : ℕ) (e : low ≡ leastOf (
   lowest : low ≡ next d 0 (inSequence (liveIn live ps))
   lowest = e ∙ ap (leastOf (d .bound) (top d)) (sym (ahead-all d (liveIn live ps))) ∙ least-next d 0 (liveIn live ps) ∙ sym (next-sequence d 0 (liveIn live ps))
 
-  pub market-mid : d .mode ≡ 2 → live ≡ 0 → (d .initiating + d .bound + 1) / 2 ≡ marketPrice d (inSequence (liveIn live ps))
+  market-mid : d .mode ≡ 2 → live ≡ 0 → (d .initiating + d .bound + 1) / 2 ≡ marketPrice d (inSequence (liveIn live ps))
   unfolding marketPrice
   market-mid m z =
       let n : length (inSequence (liveIn live ps)) ≡ 0 = length-sequence (liveIn live ps) ∙ rw (z, none-live ps) in
       rw (eq-eqb (d .mode) 2 m, eq-eqb (length (inSequence (liveIn live ps))) 0 n)
 
-  pub market-low : d .mode ≡ 2 → length ps ≡ 64 → 0 < live → live < 2 ^ 64 → low ≡ marketPrice d (inSequence (liveIn live ps))
+  market-low : d .mode ≡ 2 → length ps ≡ 64 → 0 < live → live < 2 ^ 64 → low ≡ marketPrice d (inSequence (liveIn live ps))
   unfolding marketPrice
   market-low m l z f =
       let c = count-turn ps live (trailingZeros 64 live) (turn-of ps live (trailingZeros 64 live) l z f refl) in
       let n : length (inSequence (liveIn live ps)) ≢ 0 = λ q. omega (arith, length-sequence (liveIn live ps)) in
       rw (eq-eqb (d .mode) 2 m, ne-eqb (length (inSequence (liveIn live ps))) 0 n) lowest
 
-  pub market-stop : d .mode ≢ 2 → (w : ℕ) → w ≡ workingStop d → min low w ≡ marketPrice d (inSequence (liveIn live ps))
+  market-stop : d .mode ≢ 2 → (w : ℕ) → w ≡ workingStop d → min low w ≡ marketPrice d (inSequence (liveIn live ps))
   unfolding marketPrice
   market-stop m w f = rw (ne-eqb (d .mode) 2 m, f, lowest)
+
+  market-by : length ps ≡ 64 → live < 2 ^ 64 → marketBy d live low ≡ marketPrice d (inSequence (liveIn live ps))
+  unfolding marketBy
+  market-by l f = go (eqb (d .mode) 2) (eqb live 0) refl refl
+    where
+      go : (a b : Bool) → eqb (d .mode) 2 ≡ a → eqb live 0 ≡ b → cond a (cond b ((d .initiating + d .bound + 1) / 2) low) (min low (max (d .stop) (d .bound))) ≡ marketPrice d (inSequence (liveIn live ps))
+      go true true m z = market-mid (eqb-true (d .mode) 2 m) (eqb-true live 0 z)
+      go true false m z = let n : live ≢ 0 = eqb-false live 0 z in market-low (eqb-true (d .mode) 2 m) l (omega arith) f
+      go false b m z = market-stop (eqb-false (d .mode) 2 m) (max (d .stop) (d .bound)) refl
+
+-- its fill: where it takes nothing there is none, whatever the price
+pub market-fill : (d : Deal) (b : Board) (low takes : ℕ) → length (b .places) ≡ 64 → b .live < 2 ^ 64 → (0 < takes → low ≡ leastOf (d .bound) (top d) (liveOf b))
+    → fillOf (d .market) (reportedPrice (d .sell) (marketBy d (b .live) low)) takes ≡ fillOf (d .market) (reportedPrice (d .sell) (marketPrice d (offers b))) takes
+market-fill d b low takes l f lowest =
+    ⊎-elim
+    (λ h. ap {B = List Fill} (λ (p : ℕ). fillOf (d .market) (reportedPrice (d .sell) p) takes) (market-by d (b .places) (b .live) low (lowest h) l f))
+    (λ h. let z : takes ≡ 0 = omega arith in rw z refl)
+    (le-or-lt 1 takes)
 
 -- ---- all the fills
 

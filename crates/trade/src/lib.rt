@@ -1,14 +1,14 @@
 // Who trades when an auction has ended, and the fills written of it.
 ghost use mathlib.Core.Path.{_≡_};
+ghost use mathlib.Core.Bool.{true};
 ghost use Prim.Native.Nat.{_+_, _*_, _≤_, _<_};
 ghost use lib.ListN.{length};
-ghost use Rattle.board.specs.rules.Board.{liveIn, inSequence};
 ghost use Rattle.share.specs.rules.Fills.{fillOf};
 ghost use Rattle.share.specs.inside.Fills.{WroteFills};
-ghost use Rattle.trade.specs.rules.Trade.{offers, levelFills, flat, marketPrice, guarantee};
-ghost use Rattle.trade.specs.rules.Write.{reportedPrice, reported, fillsOf, fillAnswer, fillWords};
-ghost use Rattle.trade.specs.inside.Code.{sharedOf, placeFills, levelOf, Summed, Looks, WalkedOn, walkFrom};
+ghost use Rattle.trade.specs.rules.Write.{reportedPrice, fillsOf, fillAnswer, fillWords};
+ghost use Rattle.trade.specs.inside.Code.{marketBy, pricedOf, passedOf};
 use board::Board;
+use words::bits;
 
 mod leftovers;
 mod numbers;
@@ -36,20 +36,7 @@ pub enum Filled {
     Refused(u32),
 }
 
-// A price of the walk: the words of its Customers and of the others, their sizes, the sequence of the last of each, and the plan.
-struct Price {
-    price: u64,
-    customers: u64,
-    others: u64,
-    served: u64,
-    total: u64,
-    customer: u32,
-    other: u32,
-    want: u64,
-    last: bool,
-}
-
-// What stands at a price: the words of its Customers and of the others, their sizes, and the sequence of the last of each.
+// What stands at a price: the words of its Customers and of the others, their sizes, and the sequence of the last of each: 4,294,967,295 where their places do not stand in rising order of sequence.
 struct Found {
     price: u64,
     customers: u64,
@@ -60,19 +47,29 @@ struct Found {
     other: u32,
 }
 
+// A price of the walk: who stands there, as it was found; the price as it is reported; whether the others are served in turn; the size left on arriving and after it, what the Contra Order gets, and what is left to the others.
+struct Price {
+    price: u64,
+    customers: u64,
+    others: u64,
+    total: u64,
+    left: u64,
+    contra: u64,
+    shared: u64,
+    after: u64,
+    customer: u32,
+    other: u32,
+    reported: u32,
+    turns: bool,
+}
+
 // What one is given, and what is left to give.
 struct Given {
     quantity: u64,
     left: u64,
 }
 
-// Who gets a leftover: one for each fraction above this one, and for the first that are at it, as many as are spare.
-struct Cut {
-    fraction: u64,
-    spare: u64,
-}
-
-// Places among which the cut is looked for: the sum of their fractions, how many of them get a leftover, and the mean of the fractions, rounded up.
+// Places among which the cut of the leftovers is looked for: the sum of their fractions, how many of them get a leftover (0 before that is known), and the mean of the fractions, rounded up.
 struct Among {
     word: u64,
     sum: u64,
@@ -86,116 +83,83 @@ struct Upper {
     sum: u64,
 }
 
-// Where the walk stands: the lowest price to come, the places not yet walked, the size left, what the Contra Order holds, and the next word.
+// Responses to be served, Customers or the others (last) of a price, in turn or pro rata: k is what is left of the amount, or of the leftovers at the cut.
+// The places of `run` stand in rising order of sequence, and come before those of `late` as far as their sequence is below the edge. Those of `unseen` are still to be looked at;
+// while there are any, `first` is the lowest sequence that was seen, and `latest` the last of the run.
+struct Hand {
+    done: bool,
+    last: bool,
+    turns: bool,
+    run: u64,
+    late: u64,
+    unseen: u64,
+    edge: u64,
+    first: u64,
+    latest: u64,
+    k: u64,
+    at: usize,
+}
+
+// Where the walk stands: the lowest price to come, the places not yet walked, the size left, what the Contra Order holds, the next word, and whether the next price is known.
 struct Walked {
     from: u64,
     rest: u64,
     left: u64,
     held: u64,
     at: usize,
+    known: bool,
 }
 
-// The next price.
-fn level_at(d: Deal, b: Board, g: u64, s: Walked) -> Price
-    requires { ⌜ g ≤ 4294967295 ⌝ }
-    ensures { λ r. ⌜ Looks d (b .places) g s r ⌝ }
+// What is found at a price, with the plan of its mode.
+fn price_of(d: Deal, g: u64, s: Walked, f: Found) -> Price
+    requires { ⌜ (g ≤ 4294967295) × (f .price ≤ 4294967295) × (f .served + f .total ≤ 274877906880) ⌝ }
+    ensures { λ r. ⌜ r ≡ pricedOf d g s f ⌝ }
 {
     let top = numbers::top_of(d);
     let entry = numbers::entry_of(d);
-    let f = scan::found_least(b, s.rest, d.bound, top);
-    let price = f.price;
     let a = f.served + f.total;
     let m = numbers::matched(d.mode, g, s.held, a);
-    let last = numbers::is_last(entry, top, price, s.left, a + m);
-    let want = numbers::wanted(last, entry, price, g, s.held, m);
+    let last = numbers::is_last(entry, top, f.price, s.left, a + m);
+    let want = numbers::wanted(last, entry, f.price, g, s.held, m);
+    let shared = numbers::shared_of(s.left, f.served, want);
     Price {
-        price,
+        price: f.price,
         customers: f.customers,
         others: f.others,
-        served: f.served,
         total: f.total,
+        left: s.left,
+        contra: numbers::contra_of(s.left, f.served, f.total, want, last),
+        shared,
+        after: numbers::left_of(s.left, f.served, f.total, want, last),
         customer: f.customer,
         other: f.other,
-        want,
-        last,
+        reported: numbers::reported_price(d.sell, f.price),
+        turns: numbers::in_turn(f.total, shared, f.others),
     }
 }
 
-// The fills of a price: Customers by sequence, the Contra Order, the others pro rata.
-fn write_level(
-    b: Board,
-    l: Price,
-    price: u32,
-    left: u64,
-    contra: u64,
-    out: &mut [u32],
-    at: usize,
-) -> usize
-    requires { ⌜ (left ≤ 4294967295) × (contra ≤ 4294967295) × Summed (b .places) (l .customers) (l .customer) (l .served) × Summed (b .places) (l .others) (l .other) (l .total) ⌝ }
-    requires { ⌜ at + 3 * length (placeFills price left (inSequence (liveIn (l .customers) (b .places))) contra (sharedOf left (l .served) (l .want)) (inSequence (liveIn (l .others) (b .places)))) ≤ length (now out) ⌝ }
-    ensures { λ r. ⌜ WroteFills (now (out .entry)) at (placeFills price left (inSequence (liveIn (l .customers) (b .places))) contra (sharedOf left (l .served) (l .want)) (inSequence (liveIn (l .others) (b .places)))) r (now (out .exit)) ⌝ }
+// The walk stands after a price whose fills end before a word.
+fn passed(s: Walked, l: Price, at: usize) -> Walked
+    requires { ⌜ (l .customers + l .others ≤ s .rest) × (s .held + l .contra < 18446744073709551616) × (l .price < 18446744073709551615) ⌝ }
+    ensures { λ r. ⌜ r ≡ passedOf s l at ⌝ }
 {
-    let a = write::write_turns(b, l.customers, l.customer, l.served, price, left, out, at);
-    let c = write::put_fill(out, a, 0, price, contra);
-    let shared = numbers::shared_of(left, l.served, l.want);
-    write::write_shares(b, l.others, l.other, price, shared, l.total, out, c)
-}
-
-// A price is filled, and the walk stands after it.
-fn turn(d: Deal, b: Board, g: u64, s: Walked, out: &mut [u32]) -> Walked
-    requires { ⌜ (g ≤ 4294967295) × (s .held + s .left ≤ 4294967295) ⌝ }
-    requires { ⌜ s .at + 3 * length (reported (d .sell) (levelFills (levelOf d (b .places) g s))) ≤ length (now out) ⌝ }
-    ensures { λ r. ⌜ WalkedOn d (b .places) g s r ⌝ }
-    ensures { λ r. ⌜ WroteFills (now (out .entry)) (s .at) (reported (d .sell) (levelFills (levelOf d (b .places) g s))) (r .at) (now (out .exit)) ⌝ }
-{
-    let l = level_at(d, b, g, s);
-    let contra = numbers::contra_of(s.left, l.served, l.total, l.want, l.last);
-    let left = numbers::left_of(s.left, l.served, l.total, l.want, l.last);
-    let at = write_level(
-        b,
-        l,
-        numbers::reported_price(d.sell, l.price),
-        s.left,
-        contra,
-        out,
-        s.at,
-    );
     Walked {
         from: l.price + 1,
         rest: s.rest - l.customers - l.others,
-        left,
-        held: s.held + contra,
+        left: l.after,
+        held: s.held + l.contra,
         at,
+        known: !s.known,
     }
 }
 
-// From the lowest working price up, until nothing is left or the last price is passed.
-fn write_walk(d: Deal, b: Board, g: u64, size: u64, out: &mut [u32], at: usize) -> usize
-    requires { ⌜ (size ≤ 4294967295) × (g ≤ 4294967295) × (g ≡ guarantee d (offers b)) ⌝ }
-    requires { ⌜ at + 3 * length (reported (d .sell) (flat (walkFrom d (offers b) 0 size 0))) ≤ length (now out) ⌝ }
-    ensures { λ r. ⌜ WroteFills (now (out .entry)) at (reported (d .sell) (flat (walkFrom d (offers b) 0 size 0))) r (now (out .exit)) ⌝ }
+// The price of the market order that ended the auction: lowest is the lowest working price, if there is a response, but at most the last price of the walk.
+fn market_price(d: Deal, live: u64, lowest: u64) -> u64
+    requires { ⌜ lowest ≤ 4294967295 ⌝ }
+    ensures { λ r. ⌜ (r ≡ marketBy d live lowest) × (r ≤ 4294967295) ⌝ }
 {
-    let top = numbers::top_of(d);
-    let mut s = Walked {
-        from: 0,
-        rest: b.live,
-        left: size,
-        held: 0,
-        at,
-    };
-    while numbers::going(s.left, s.from, top) {
-        s = turn(d, b, g, s, out);
-    }
-    s.at
-}
-
-// The price of the market order that ended the auction.
-fn market_price(d: Deal, b: Board) -> u64
-    ensures { λ r. ⌜ (r ≡ marketPrice d (offers b)) × (r ≤ 4294967295) ⌝ }
-{
-    let lowest = scan::least_price(b, d.bound, numbers::top_of(d));
     if d.mode == 2 {
-        if b.live == 0 {
+        if live == 0 {
             return (base::wide(d.initiating) + base::wide(d.bound) + 1) / 2;
         }
         return lowest;
@@ -203,29 +167,99 @@ fn market_price(d: Deal, b: Board) -> u64
     base::lesser(lowest, numbers::working(d.stop, d.bound))
 }
 
-// The fill of the market order that ended the auction, at the first of the lent words. Where it takes nothing there is none, and no price is looked for.
-fn write_market(d: Deal, b: Board, takes: u64, out: &mut [u32]) -> usize
-    requires { ⌜ (takes ≤ 4294967295) × (3 ≤ length (now out)) ⌝ }
-    ensures { λ r. ⌜ WroteFills (now (out .entry)) 0 (fillOf (d .market) (reportedPrice (d .sell) (marketPrice d (offers b))) takes) r (now (out .exit)) ⌝ }
+// The fill of the market order that ended the auction, at the first of the lent words; where it takes nothing there is none.
+fn write_market(d: Deal, live: u64, lowest: u64, takes: u64, out: &mut [u32]) -> usize
+    requires { ⌜ (lowest ≤ 4294967295) × (takes ≤ 4294967295) × (3 ≤ length (now out)) ⌝ }
+    ensures { λ r. ⌜ WroteFills (now (out .entry)) 0 (fillOf (d .market) (reportedPrice (d .sell) (marketBy d live lowest)) takes) r (now (out .exit)) ⌝ }
 {
-    if takes == 0 {
-        return 0;
-    }
-    let price = numbers::reported_price(d.sell, market_price(d, b));
+    let price = numbers::reported_price(d.sell, market_price(d, live, lowest));
     write::put_fill(out, 0, d.market, price, takes)
 }
 
-// All the fills, from the first of the lent words on. Answers the place after them.
+// All the fills, from the first of the lent words on. Answers the place after them. The board is looked over here alone, and no place of it is copied: what is made of a place is
+// decided of its response, and of words of places.
 fn write_all(d: Deal, b: Board, out: &mut [u32]) -> usize
     requires { ⌜ 390 ≤ length (now out) ⌝ }
     ensures { λ r. ⌜ WroteFills (now (out .entry)) 0 (fillsOf d b) r (now (out .exit)) ⌝ }
 {
+    let top = numbers::top_of(d);
     let size = base::wide(d.size);
+    let g = numbers::guarantee_of(size, bits::ones(b.live));
     let takes = base::lesser(size, base::wide(d.selling));
-    let left = size - takes;
-    let g = numbers::guarantee_of(size, board::live_count(b));
-    let at = write_market(d, b, takes, out);
-    write_walk(d, b, g, left, out, at)
+    // The lowest working price, for the market order alone.
+    let mut lowest = top;
+    let mut word = scan::unseen(takes == 0, b.live);
+    while word != 0 {
+        let i = bits::first_set(word) as usize;
+        lowest = base::lesser(numbers::working(b.places[i].price, d.bound), lowest);
+        word = bits::without_lowest(word);
+    }
+    let at = write_market(d, b.live, lowest, takes, out);
+    let mut s = Walked {
+        from: 0,
+        rest: b.live,
+        left: size - takes,
+        held: 0,
+        at,
+        known: false,
+    };
+    let mut n = scan::nothing(top);
+    // From the lowest working price up, until nothing is left or the last price is passed.
+    while numbers::going(s.left, s.from, top) {
+        // A look finds what stands at the two lowest prices: every other price is known from the look before.
+        let mut f = scan::kept(s.known, n, top);
+        let mut unseen = scan::unseen(s.known, s.rest);
+        n = scan::nothing(top);
+        while unseen != 0 {
+            let i = bits::first_set(unseen) as usize;
+            let r = b.places[i];
+            unseen = bits::without_lowest(unseen);
+            if n.price < base::wide(r.price) {
+                continue;
+            }
+            let p = numbers::working(r.price, d.bound);
+            if p == f.price {
+                f = scan::added(f, r, i);
+                continue;
+            }
+            n = scan::later(f, n, r, p, i);
+            f = scan::found(f, r, p, i);
+        }
+        let l = price_of(d, g, s, f);
+        // The cut of the leftovers: a turn looks at one more place, or takes the half that has the cut.
+        let mut a = leftovers::all_of(l.turns, l.others);
+        let mut u = Upper { word: 0, sum: 0 };
+        let mut rest = a.word;
+        while leftovers::seeking(a, u) {
+            if rest != 0 {
+                let i = bits::first_set(rest) as usize;
+                let fraction = scan::fraction_of(l.shared, l.total, b.places[i].size);
+                u = leftovers::upper(u, a.mean, i, fraction);
+                rest = bits::without_lowest(rest);
+                continue;
+            }
+            a = leftovers::narrowed(a, u, l.total);
+            u = Upper { word: 0, sum: 0 };
+            rest = a.word;
+        }
+        // The fills: a turn looks at one more place for the lowest sequence, or writes the fill of the next in sequence, or goes on to those that come later.
+        let mut h = write::hand_of(false, true, l.customers, l.customer, l.left, s.at);
+        while !h.done {
+            if h.unseen != 0 {
+                let i = bits::first_set(h.unseen) as usize;
+                h = write::met(h, base::wide(b.places[i].sequence), i);
+                continue;
+            }
+            if h.run == 0 {
+                h = write::next(h, l, a.leftovers, out);
+                continue;
+            }
+            let i = bits::first_set(h.run) as usize;
+            h = write::filled(h, l, a.mean, b.places[i], out);
+        }
+        s = passed(s, l, h.at);
+    }
+    s.at
 }
 
 // Writes the fills of an ended auction into the part of the lent words from `start` on, and counts them.

@@ -5,8 +5,9 @@ ghost use Prim.Native.Nat.{_+_, _*_, _/_, _≤_, _<_, min, max};
 ghost use lib.Dec.{leb, ltb, eqb};
 ghost use Rattle.trade.specs.rules.Trade.{top, entry, guaranteeOf};
 ghost use Rattle.trade.specs.rules.Write.{reportedPrice};
-ghost use Rattle.trade.specs.inside.Code.{matchOf, lastOf, wantOf, sharedOf, contraOf, leftOf};
+ghost use Rattle.trade.specs.inside.Code.{inTurnOf, matchOf, lastOf, wantOf, sharedOf, contraOf, leftOf};
 use crate::Deal;
+use words::bits;
 
 // A price under the bound works at the bound.
 pub(crate) fn working(price: u32, bound: u32) -> u64
@@ -125,6 +126,13 @@ pub(crate) fn left_of(left: u64, c: u64, t: u64, want: u64, last: bool) -> u64
         return 0;
     }
     left - base::lesser(left, c + t + want)
+}
+
+// Whether the others are served in turn: where there is enough for all of them, or one alone.
+pub(crate) fn in_turn(total: u64, shared: u64, others: u64) -> bool
+    ensures { λ r. ⌜ r ≡ inTurnOf total shared others ⌝ }
+{
+    (total <= shared) | (bits::without_lowest(others) == 0)
 }
 
 // The walk goes on while something is left and the last price is not passed.

@@ -1,26 +1,79 @@
-// Looks over the places of a word, from the lowest up.
+// What is found of a place that is looked at.
 ghost use mathlib.Core.Path.{_≡_};
-ghost use Prim.Native.Nat.{_+_, _*_, _/_, _%_, _≤_, _<_};
-ghost use Rattle.board.specs.rules.Board.{liveIn, liveOf};
-ghost use Rattle.trade.specs.inside.Code.{leastOf, foundAt, Takes, FoundAt};
+ghost use mathlib.Core.Bool.{cond};
+ghost use Prim.Native.Nat.{_+_, _*_, _/_, _%_, _≤_, _<_, max};
+ghost use Rattle.trade.specs.inside.Code.{nothingAt, foundAt, rankAfter, addedTo, foundWith, laterWith};
 use crate::Found;
-use crate::numbers;
-use board::Board;
 use board::Response;
 use words::bits;
 
-// The least working price, but at most the last.
-pub(crate) fn least_price(b: Board, bound: u32, last: u64) -> u64
-    ensures { λ r. ⌜ (r ≡ leastOf bound last (liveOf b)) × (r ≤ last) ⌝ }
+// Nothing, at a price.
+pub(crate) fn nothing(p: u64) -> Found
+    ensures { λ r. ⌜ r ≡ nothingAt p ⌝ }
 {
-    let mut best = last;
-    let mut rest = b.live;
-    while rest != 0 {
-        let i = bits::first_set(rest) as usize;
-        best = base::lesser(numbers::working(b.places[i].price, bound), best);
-        rest = bits::without_lowest(rest);
+    Found {
+        price: p,
+        customers: 0,
+        others: 0,
+        served: 0,
+        total: 0,
+        customer: 0,
+        other: 0,
     }
-    best
+}
+
+// What is known of the next price before a look: nothing, at the last price, where none is.
+pub(crate) fn kept(known: bool, n: Found, last: u64) -> Found
+    ensures { λ r. ⌜ r ≡ cond known n (nothingAt last) ⌝ }
+{
+    if known {
+        return n;
+    }
+    nothing(last)
+}
+
+// The places to look at: none, where what is looked for is known.
+pub(crate) fn unseen(known: bool, rest: u64) -> u64
+    ensures { λ r. ⌜ r ≡ cond known 0 rest ⌝ }
+{
+    if known {
+        return 0;
+    }
+    rest
+}
+
+// The sequence of the last, after one more.
+fn ranked(m: u32, s: u32) -> u32
+    ensures { λ r. ⌜ r ≡ rankAfter m s ⌝ }
+{
+    if m <= s { s } else { 4294967295 }
+}
+
+// What was found, with a response at place i that works at its price.
+pub(crate) fn added(f: Found, r: Response, i: usize) -> Found
+    requires { ⌜ f .served + f .total ≤ 274877906880 ⌝ }
+    ensures { λ n. ⌜ (n ≡ addedTo f r i) × (n .served + n .total ≤ f .served + f .total + 4294967295) ⌝ }
+{
+    if r.customer {
+        return Found {
+            price: f.price,
+            customers: bits::with_bit(f.customers, i),
+            others: f.others,
+            served: f.served + base::wide(r.size),
+            total: f.total,
+            customer: ranked(f.customer, r.sequence),
+            other: f.other,
+        };
+    }
+    Found {
+        price: f.price,
+        customers: f.customers,
+        others: bits::with_bit(f.others, i),
+        served: f.served,
+        total: f.total + base::wide(r.size),
+        customer: f.customer,
+        other: ranked(f.other, r.sequence),
+    }
 }
 
 // What was found at the price p, which is at most the price of f: nothing yet, where it is lower.
@@ -28,72 +81,31 @@ fn found_at(f: Found, p: u64) -> Found
     ensures { λ r. ⌜ (r ≡ foundAt f p) × (r .served + r .total ≤ f .served + f .total) ⌝ }
 {
     if p < f.price {
-        return Found {
-            price: p,
-            customers: 0,
-            others: 0,
-            served: 0,
-            total: 0,
-            customer: 0,
-            other: 0,
-        };
+        return nothing(p);
     }
     f
 }
 
-// What was found, with a response at place i: one at a lower price stands alone.
-fn found(f: Found, r: Response, bound: u32, i: usize) -> Found
+// What was found at the lowest price, with a response at place i that works at p: one at a lower price stands alone.
+pub(crate) fn found(f: Found, r: Response, p: u64, i: usize) -> Found
     requires { ⌜ f .served + f .total ≤ 274877906880 ⌝ }
-    ensures { λ n. ⌜ Takes bound r i f n ⌝ }
+    ensures { λ n. ⌜ (n ≡ foundWith f r p i) × (n .served + n .total ≤ f .served + f .total + 4294967295) ⌝ }
 {
-    let p = numbers::working(r.price, bound);
     if f.price < p {
         return f;
     }
-    let at = found_at(f, p);
-    if r.customer {
-        return Found {
-            price: p,
-            customers: bits::with_bit(at.customers, i),
-            others: at.others,
-            served: at.served + base::wide(r.size),
-            total: at.total,
-            customer: r.sequence,
-            other: at.other,
-        };
-    }
-    Found {
-        price: p,
-        customers: at.customers,
-        others: bits::with_bit(at.others, i),
-        served: at.served,
-        total: at.total + base::wide(r.size),
-        customer: at.customer,
-        other: r.sequence,
-    }
+    added(found_at(f, p), r, i)
 }
 
-// The least working price, but at most the last, and the places that work at it: Customers and others, their sizes, and the sequence of the last of each.
-pub(crate) fn found_least(b: Board, word: u64, bound: u32, last: u64) -> Found
-    ensures { λ r. ⌜ (r .price ≡ leastOf bound last (liveIn word (b .places))) × (r .price ≤ last) ⌝ }
-    ensures { λ r. ⌜ FoundAt bound (r .price) (b .places) word r ⌝ }
+// What was found at the lowest price but one, with a response that does not work at the lowest, f: where it works at a lower one, that is f.
+pub(crate) fn later(f: Found, n: Found, r: Response, p: u64, i: usize) -> Found
+    requires { ⌜ n .served + n .total ≤ 274877906880 ⌝ }
+    ensures { λ m. ⌜ (m ≡ laterWith f n r p i) × (m .served + m .total ≤ max (f .served + f .total) (n .served + n .total) + 4294967295) ⌝ }
 {
-    let mut f = Found {
-        price: last,
-        customers: 0,
-        others: 0,
-        served: 0,
-        total: 0,
-        customer: 0,
-        other: 0,
-    };
-    let mut rest = word;
-    while rest != 0 {
-        let i = bits::first_set(rest) as usize;
-        f = found(f, b.places[i], bound, i);
-        rest = bits::without_lowest(rest);
+    if p < f.price {
+        return f;
     }
-    f
+    found(n, r, p, i)
 }
 
 // The whole part of amount * size / total.

@@ -2,18 +2,17 @@
 ghost use mathlib.Core.Path.{_≡_};
 ghost use mathlib.Core.Bool.{true, false, cond};
 ghost use Prim.Native.Nat.{_+_, _*_, _≤_, _<_};
-ghost use lib.Dec.{eqb};
+ghost use lib.Dec.{leb};
 ghost use lib.ListN.{length};
-ghost use Rattle.words.specs.rules.Bits.{withoutLowest};
-ghost use Rattle.board.specs.rules.Board.{liveIn, inSequence};
 ghost use Rattle.share.specs.rules.Fills.{fillOf};
 ghost use Rattle.share.specs.inside.Fills.{WroteFills};
 ghost use Rattle.share.specs.inside.Cut.{oneBy, spareBy};
-ghost use Rattle.trade.specs.inside.Code.{eachFills, shareFills, isRising, Summed, Gives};
+ghost use Rattle.trade.specs.inside.Code.{Gives, huntingOf, handOf, runsOn, metOf, nextFills, nextOf, servedFills, servedOf};
 use crate::Given;
-use crate::leftovers;
+use crate::Hand;
+use crate::Price;
 use crate::scan;
-use board::Board;
+use board::Response;
 use words::bits;
 
 // One fill of three words, and none where the quantity is zero. Answers the place after it.
@@ -76,140 +75,150 @@ fn given(turns: bool, amount: u64, total: u64, cut: u64, k: u64, size: u32) -> G
     }
 }
 
-// Whether the places of the word stand in rising order of sequence.
-fn rising(b: Board, word: u64) -> bool
-    ensures { λ r. ⌜ r ≡ isRising 0 (liveIn word (b .places)) ⌝ }
+// The places of a word, to be looked over for the lowest sequence.
+fn hunting(last: bool, turns: bool, word: u64, k: u64, at: usize) -> Hand
+    ensures { λ h. ⌜ h ≡ huntingOf last turns word k at ⌝ }
 {
-    let mut last = 0;
-    let mut rest = word;
-    while rest != 0 {
-        let i = bits::first_set(rest) as usize;
-        if b.places[i].sequence < last {
-            return false;
-        }
-        last = b.places[i].sequence;
-        rest = bits::without_lowest(rest);
-    }
-    true
-}
-
-// The places to look at for the lowest sequence after the first: none, where they stand in rising order.
-fn unseen_of(sorted: bool, rest: u64) -> u64
-    ensures { λ r. ⌜ r ≡ cond sorted 0 (withoutLowest rest) ⌝ }
-{
-    if sorted {
-        return 0;
-    }
-    bits::without_lowest(rest)
-}
-
-// The responses of the word by sequence, each with what it is given. A turn looks at one more place for the lowest sequence, or writes the fill of the place found.
-pub(crate) fn write_each(
-    b: Board,
-    word: u64,
-    price: u32,
-    turns: bool,
-    amount: u64,
-    total: u64,
-    cut: u64,
-    k: u64,
-    out: &mut [u32],
-    at: usize,
-) -> usize
-    requires { ⌜ (amount ≤ 4294967295) × (k ≤ 4294967295) × (turns ≡ false → amount < total) ⌝ }
-    requires { ⌜ at + 3 * length (eachFills price turns amount total cut k (inSequence (liveIn word (b .places)))) ≤ length (now out) ⌝ }
-    ensures { λ r. ⌜ WroteFills (now (out .entry)) at (eachFills price turns amount total cut k (inSequence (liveIn word (b .places)))) r (now (out .exit)) ⌝ }
-{
-    let mut w = at;
-    let mut left = k;
-    let mut rest = word;
-    let sorted = rising(b, word);
-    let mut best = bits::first_set(word) as usize;
-    let mut unseen = unseen_of(sorted, word);
-    while best < 64 {
-        if unseen != 0 {
-            let i = bits::first_set(unseen) as usize;
-            best = board::sooner(b.places[best].sequence, best, b.places[i].sequence, i);
-            unseen = bits::without_lowest(unseen);
-            continue;
-        }
-        let r = b.places[best];
-        let g = given(turns, amount, total, cut, left, r.size);
-        w = put_fill(out, w, r.sequence, price, g.quantity);
-        left = g.left;
-        rest = bits::without_bit(rest, best);
-        best = bits::first_set(rest) as usize;
-        unseen = unseen_of(sorted, rest);
-    }
-    w
-}
-
-// Whether the word has one place at most.
-fn alone(word: u64) -> bool
-    ensures { λ r. ⌜ r ≡ eqb (withoutLowest word) 0 ⌝ }
-{
-    bits::without_lowest(word) == 0
-}
-
-// The responses of the word in turn out of k: one is the sequence of the last of them, and total the sum of their sizes. For one alone, and for none, no place is looked at.
-pub(crate) fn write_turns(
-    b: Board,
-    word: u64,
-    one: u32,
-    total: u64,
-    price: u32,
-    k: u64,
-    out: &mut [u32],
-    at: usize,
-) -> usize
-    requires { ⌜ (k ≤ 4294967295) × Summed (b .places) word one total ⌝ }
-    requires { ⌜ at + 3 * length (eachFills price true 0 0 0 k (inSequence (liveIn word (b .places)))) ≤ length (now out) ⌝ }
-    ensures { λ r. ⌜ WroteFills (now (out .entry)) at (eachFills price true 0 0 0 k (inSequence (liveIn word (b .places)))) r (now (out .exit)) ⌝ }
-{
-    if word == 0 {
-        return at;
-    }
-    if alone(word) {
-        return put_fill(out, at, one, price, base::lesser(k, total));
-    }
-    write_each(b, word, price, true, 0, 0, 0, k, out, at)
-}
-
-// The amount over the responses of the word, pro rata: one and total as for those in turn.
-pub(crate) fn write_shares(
-    b: Board,
-    word: u64,
-    one: u32,
-    price: u32,
-    amount: u64,
-    total: u64,
-    out: &mut [u32],
-    at: usize,
-) -> usize
-    requires { ⌜ (amount ≤ 4294967295) × Summed (b .places) word one total ⌝ }
-    requires { ⌜ at + 3 * length (shareFills price amount (inSequence (liveIn word (b .places)))) ≤ length (now out) ⌝ }
-    ensures { λ r. ⌜ WroteFills (now (out .entry)) at (shareFills price amount (inSequence (liveIn word (b .places)))) r (now (out .exit)) ⌝ }
-{
-    if word == 0 {
-        return at;
-    }
-    if alone(word) {
-        return put_fill(out, at, one, price, base::lesser(amount, total));
-    }
-    if total <= amount {
-        return write_each(b, word, price, true, amount, total, 0, amount, out, at);
-    }
-    let c = leftovers::cut_of(b, word, amount, total);
-    write_each(
-        b,
-        word,
-        price,
-        false,
-        amount,
-        total,
-        c.fraction,
-        c.spare,
-        out,
+    Hand {
+        done: false,
+        last,
+        turns,
+        run: 0,
+        late: 0,
+        unseen: word,
+        edge: 4294967296,
+        first: 4294967296,
+        latest: 0,
+        k,
         at,
+    }
+}
+
+// The places of a word: sequence is that of the last, where they stand in rising order.
+pub(crate) fn hand_of(last: bool, turns: bool, word: u64, sequence: u32, k: u64, at: usize) -> Hand
+    ensures { λ h. ⌜ h ≡ handOf last turns word sequence k at ⌝ }
+{
+    if sequence < 4294967295 {
+        return Hand {
+            done: false,
+            last,
+            turns,
+            run: word,
+            late: 0,
+            unseen: 0,
+            edge: 4294967296,
+            first: 4294967296,
+            latest: 0,
+            k,
+            at,
+        };
+    }
+    hunting(last, turns, word, k, at)
+}
+
+// The run goes on as it says, past the place that was looked at.
+fn with_run(h: Hand, run: u64, late: u64, edge: u64, first: u64, latest: u64) -> Hand
+    ensures { λ r. ⌜ r ≡ runsOn h run late edge first latest ⌝ }
+{
+    Hand {
+        done: false,
+        last: h.last,
+        turns: h.turns,
+        run,
+        late,
+        unseen: bits::without_lowest(h.unseen),
+        edge,
+        first,
+        latest,
+        k: h.k,
+        at: h.at,
+    }
+}
+
+// A place is looked at, whose sequence is t: the run begins anew at the lowest sequence, goes on where it rises, and else the place comes late.
+pub(crate) fn met(h: Hand, t: u64, i: usize) -> Hand
+    requires { ⌜ (t < 4294967296) × (h .run + h .late < 18446744073709551616) ⌝ }
+    ensures { λ r. ⌜ r ≡ metOf h t i ⌝ }
+{
+    if t < h.first {
+        return with_run(h, bits::with_bit(0, i), h.run + h.late, h.first, t, t);
+    }
+    if h.latest <= t {
+        return with_run(h, bits::with_bit(h.run, i), h.late, h.edge, h.first, t);
+    }
+    with_run(
+        h,
+        h.run,
+        bits::with_bit(h.late, i),
+        base::lesser(h.edge, t + 1),
+        h.first,
+        h.latest,
     )
+}
+
+// The Contra Order's fill, and the others after it.
+fn others_of(l: Price, spare: u64, out: &mut [u32], at: usize) -> Hand
+    requires { ⌜ (l .contra ≤ 4294967295) × (at + 3 * length (fillOf 0 (l .reported) (l .contra)) ≤ length (now out)) ⌝ }
+    ensures { λ h. ⌜ WroteFills (now (out .entry)) at (fillOf 0 (l .reported) (l .contra)) (h .at) (now (out .exit)) ⌝ }
+    ensures { λ h. ⌜ h ≡ handOf true (l .turns) (l .others) (l .other) (cond (l .turns) (l .shared) spare) (h .at) ⌝ }
+{
+    let n = put_fill(out, at, 0, l.reported, l.contra);
+    if l.turns {
+        return hand_of(true, true, l.others, l.other, l.shared, n);
+    }
+    hand_of(true, false, l.others, l.other, spare, n)
+}
+
+// Where the run is served: those that come late, or the Contra Order and the others after the Customers, or nothing more.
+pub(crate) fn next(h: Hand, l: Price, spare: u64, out: &mut [u32]) -> Hand
+    requires { ⌜ (l .contra ≤ 4294967295) × (h .at + 3 * length (nextFills h l) ≤ length (now out)) ⌝ }
+    ensures { λ r. ⌜ WroteFills (now (out .entry)) (h .at) (nextFills h l) (r .at) (now (out .exit)) ⌝ }
+    ensures { λ r. ⌜ r ≡ nextOf h l spare (r .at) ⌝ }
+{
+    if h.late != 0 {
+        return hunting(h.last, h.turns, h.late, h.k, h.at);
+    }
+    if !h.last {
+        return others_of(l, spare, out, h.at);
+    }
+    Hand {
+        done: true,
+        last: true,
+        turns: h.turns,
+        run: 0,
+        late: 0,
+        unseen: 0,
+        edge: 0,
+        first: 0,
+        latest: 0,
+        k: 0,
+        at: h.at,
+    }
+}
+
+// The first of the run is served, where its sequence is below the edge; else all are looked over again.
+pub(crate) fn filled(h: Hand, l: Price, cut: u64, r: Response, out: &mut [u32]) -> Hand
+    requires { ⌜ (l .shared ≤ 4294967295) × (h .k ≤ 4294967295) × (h .turns ≡ false → l .shared < l .total) × (h .run + h .late < 18446744073709551616) ⌝ }
+    requires { ⌜ h .at + 3 * length (servedFills h l cut r) ≤ length (now out) ⌝ }
+    ensures { λ n. ⌜ WroteFills (now (out .entry)) (h .at) (servedFills h l cut r) (n .at) (now (out .exit)) ⌝ }
+    ensures { λ n. ⌜ n ≡ servedOf h l cut r (n .at) ⌝ }
+{
+    if h.edge <= base::wide(r.sequence) {
+        return hunting(h.last, h.turns, h.run + h.late, h.k, h.at);
+    }
+    let g = given(h.turns, l.shared, l.total, cut, h.k, r.size);
+    let n = put_fill(out, h.at, r.sequence, l.reported, g.quantity);
+    Hand {
+        done: false,
+        last: h.last,
+        turns: h.turns,
+        run: bits::without_lowest(h.run),
+        late: h.late,
+        unseen: 0,
+        edge: h.edge,
+        first: 4294967296,
+        latest: 0,
+        k: g.left,
+        at: n,
+    }
 }

@@ -22,7 +22,7 @@ put-results-requires c κs =
     let h = c .before .before .before .before .put-events in
     let p = c .before .before .before .before .before .before .before .before .before .before .before .before .before .pre in
     let a = c .before .before .before .before .before .before .before .before .before .before .before .before .before .args in
-    (ap (λ (a : Auction). hasEnded (a .head)) (h .ensures .1 .0) ∙ closed-ended (run (a .a) (recordsOf (now (a .tape)) (a .t))), omega (arith, p .0, p .1, c .before .before .before .before .before .before .before .before .put-auction .ensures .1, h .ensures .1 .1))
+    (ap (λ (a : Auction). hasEnded (a .head)) (h .ensures .1 .0) ∙ closed-ended (run (a .a) (recordsOf (now (a .tape)) (a .t))), omega (arith, p .0, c .before .before .before .before .before .before .before .before .put-auction .ensures .1, h .ensures .1 .1))
 
 same-length : tie.Need-same-length
 same-length c = search needs

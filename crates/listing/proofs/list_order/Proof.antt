@@ -4,6 +4,7 @@ use denote.Ref.{now}
 use Rattle.tape.specs.rules.Tape.{recordsOf}
 use Rattle.auction.specs.declared.Opening.{Opening}
 use Rattle.run.specs.rules.Run.{refused, runEntry}
+use Rattle.listing.proofs.LengthLaws.{accept-empty}
 use Rattle.listing.proofs.ListsLaws.{lists-same}
 use borrow.Author.Needs.{needs}
 use Rattle.listing.proofs.list_order.Statement.{statement}
@@ -16,7 +17,8 @@ enum-told : tie.Need-enum-told
 enum-told c = search needs
 
 list-auction-requires : tie.Need-list-auction-requires
-list-auction-requires c κs = search needs
+list-auction-requires c κs =
+    (c .before .before .before .before .before .before .before .pre, ap (λ (x : Opening). x .auction .board) (c .before .before .before .before .accept .ensures) ∙ accept-empty (c .before .before .before .before .before .before .before .args .o))
 
 enum-known-answer : tie.Need-enum-known-answer
 enum-known-answer c = search needs

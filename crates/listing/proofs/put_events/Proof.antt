@@ -1,4 +1,4 @@
-use mathlib.Core.Path.{_≡_, refl, sym, ap, _∙_}
+use mathlib.Core.Path.{_≡_, refl, sym, ap, ap₂, _∙_}
 use mathlib.Core.Logic.{⊎-elim}
 use Prim.Native.Nat.{_+_, _-_, _*_, _≤_}
 use native.Mathlib.Omega.{arith}
@@ -7,6 +7,7 @@ use lib.ListN.{length}
 use borrow.Author.Needs.{needs}
 use Rattle.run.specs.rules.Run.{run, heard, closed}
 use Rattle.events.specs.rules.Step.{boardAfter, turnOf}
+use Rattle.auction.specs.declared.Auction.{Auction}
 use Rattle.decision.specs.declared.Sight.{Sight}
 use Rattle.tape.specs.declared.event.Event.{Event}
 use mathlib.Core.List.{List, []}
@@ -29,6 +30,9 @@ abbrev μ-loop : tie.MeasureT-loop
 cast-n : tie.Need-cast-n Inv-loop μ-loop
 cast-n c = search needs
 
+empty-requires : tie.Need-empty-requires Inv-loop μ-loop
+empty-requires c κs = search needs
+
 loop-holds : tie.Need-loop-holds Inv-loop μ-loop
 loop-holds c = (omega arith, refl, omega arith, refl, left-start _ _ _, refl)
 
@@ -42,7 +46,7 @@ turn-requires : tie.Need-turn-requires Inv-loop μ-loop
 turn-requires c κs = search needs
 
 put-event-requires : tie.Need-put-event-requires Inv-loop μ-loop
-put-event-requires c κs = search needs
+put-event-requires c κs = omega (arith, c .before .before .before .before .before .before .before .before .before .before .before .pre .0)
 
 enum-known-c : tie.Need-enum-known-c Inv-loop μ-loop
 enum-known-c c = search needs
@@ -72,7 +76,7 @@ enum-told-3 : tie.Need-enum-told-3 Inv-loop μ-loop
 enum-told-3 c = search needs
 
 add-k : tie.Need-add-k Inv-loop μ-loop
-add-k c = omega (arith, c .before .before .before .before .before .before .before .before .before .loop-test .taken, c .before .before .before .before .before .before .before .before .before .before .before .before .before .before .before .before .pre .0)
+add-k c = omega (arith, c .before .before .before .before .before .before .before .before .before .loop-test .taken, c .before .before .before .before .before .before .before .before .before .before .before .before .before .before .before .before .pre .0 .0)
 
 loop-less : tie.Need-loop-less Inv-loop μ-loop
 loop-less c = search needs
@@ -112,14 +116,15 @@ returns c =
     let a = c .before .before .before .before .before .before .before .before .before .args in
     let l = c .before .before .before .loop in
     let s = now (a .tape) in
-    let none : rest s (a .t) (l .k) ≡ [] = rest-none s (a .t) (l .k) (omega arith) in (
+    let none : rest s (a .t) (l .k) ≡ [] = rest-none s (a .t) (l .k) (omega arith) in
+    let first : whole (a .a .head) (c .before .before .before .before .before .empty .result) ≡ a .a = ap (whole (a .a .head)) (c .before .before .before .before .before .empty .ensures ∙ sym (c .before .before .before .before .before .before .before .before .before .pre .1)) in (
       wrote-same (left-done (left-same (l .inv .4) (ap (λ (es : List Event). eventLines (heard (whole (l .h) (l .b)) es)) none)))
-          (ap (λ (es : List Event). eventLines (heard (a .a) es)) (sym (rest-all s (a .t)))),
+          (ap₂ (λ (x : Auction) (es : List Event). eventLines (heard x es)) first (sym (rest-all s (a .t)))),
       (
         closed-whole (l .h) (l .b) (c .before .close-turn .result) (c .before .close-turn .ensures)
             ∙ ap (λ (es : List Event). closed (run (whole (l .h) (l .b)) es)) (sym none)
             ∙ ap closed (l .inv .5)
-            ∙ ap (λ (es : List Event). closed (run (a .a) es)) (sym (rest-all s (a .t))),
+            ∙ ap₂ (λ (x : Auction) (es : List Event). closed (run x es)) first (sym (rest-all s (a .t))),
         omega arith,
       ),
     )
@@ -131,6 +136,7 @@ put-events-spec =
     Inv-loop
     μ-loop
     cast-n
+    empty-requires
     loop-holds
     record-in-requires
     sight-requires

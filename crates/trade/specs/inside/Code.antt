@@ -4,7 +4,7 @@ use mathlib.Core.Bool.{Bool, true, false, cond, not, _&&_, _||_}
 use mathlib.Core.List.{List, [], _∷_, _++_}
 use Prim.Native.Nat.{ℕ, suc, _+_, _-_, _*_, _/_, _%_, _≤_, _<_, min, max}
 use lib.Dec.{leb, ltb, eqb}
-use Rattle.words.specs.rules.Bits.{withBit, onesIn}
+use Rattle.words.specs.rules.Bits.{withBit, withoutLowest, onesIn}
 use Rattle.board.specs.declared.Response.{Response}
 use Rattle.base.specs.Lists.{filter, sum}
 use Rattle.board.specs.rules.Board.{liveIn, inSequence}
@@ -16,11 +16,13 @@ use Rattle.trade.specs.declared.Among.{Among}
 use Rattle.trade.specs.declared.Deal.{Deal}
 use Rattle.trade.specs.declared.Found.{Found}
 use Rattle.trade.specs.declared.Given.{Given}
+use Rattle.trade.specs.declared.Hand.{Hand}
 use Rattle.trade.specs.declared.Price.{Price}
 use Rattle.trade.specs.declared.Upper.{Upper}
 use Rattle.trade.specs.declared.Walked.{Walked}
 use Rattle.trade.specs.rules.Plan.{Plan}
-use Rattle.trade.specs.rules.Trade.{Level, customers, others, contra, levelFills, traded, top, entry, walk}
+use Rattle.trade.specs.rules.Trade.{Level, top, entry, walk}
+use Rattle.trade.specs.rules.Write.{reportedPrice}
 
 -- ---- the plan of a price, without its mode's cases: entry is the price from which on the Contra Order takes part, top the last price
 
@@ -52,6 +54,14 @@ contraOf left C T want last = min (left - C) want + cond last (sharedOf left C w
 unfoldable pub leftOf : ℕ → ℕ → ℕ → ℕ → Bool → ℕ
 leftOf left C T want last = cond last 0 (left - (C + T + want))
 
+-- whether the others are served in turn: T is enough for all, or there is one alone
+unfoldable pub inTurnOf : ℕ → ℕ → ℕ → Bool
+inTurnOf T R word = leb T R || eqb (withoutLowest word) 0
+
+-- the price of the market order, where the lowest working price is given
+unfoldable pub marketBy : Deal → ℕ → ℕ → ℕ
+marketBy d live lowest = cond (eqb (d .mode) 2) (cond (eqb live 0) ((d .initiating + d .bound + 1) / 2) lowest) (min lowest (max (d .stop) (d .bound)))
+
 -- ---- responses under a bound
 
 abbrev pub worksAt : ℕ → ℕ → Response → Bool
@@ -63,35 +73,36 @@ customerAt bound p r = worksAt bound p r && r .customer
 abbrev pub otherAt : ℕ → ℕ → Response → Bool
 otherAt bound p r = worksAt bound p r && not (r .customer)
 
--- the last sequence, and m where there is none
-unfoldable pub lastSequence : ℕ → List Response → ℕ
-lastSequence m [] = m
-lastSequence m (r ∷ rs) = lastSequence (r .sequence) rs
+-- the sequence of the last after m, where they rise; 4,294,967,295 or more where they do not
+unfoldable pub rankAfter : ℕ → ℕ → ℕ
+rankAfter m n = cond (leb m n) n 4294967295
 
--- what is known of the responses of a word: the sequence of the last, and the sum of their sizes
-pub record Summed (places : List Response) (word one total : ℕ) : Type 0 where
-  pub one-is : one ≡ lastSequence 0 (liveIn word places)
-  pub total-is : total ≡ sum (sizes (liveIn word places))
-  pub small : total ≤ 1099511627520
+unfoldable pub rankOf : ℕ → List Response → ℕ
+rankOf m [] = m
+rankOf m (r ∷ rs) = rankOf (rankAfter m (r .sequence)) rs
 
--- what a response at place i adds to what was found at the price p
-pub record Adds (bound p : ℕ) (r : Response) (i : ℕ) (f n : Found) : Type 0 where
-  pub customers : n .customers ≡ cond (customerAt bound p r) (withBit (f .customers) i) (f .customers)
-  pub others : n .others ≡ cond (otherAt bound p r) (withBit (f .others) i) (f .others)
-  pub served : n .served ≡ f .served + cond (customerAt bound p r) (r .size) 0
-  pub total : n .total ≡ f .total + cond (otherAt bound p r) (r .size) 0
-  pub customer : n .customer ≡ cond (customerAt bound p r) (r .sequence) (f .customer)
-  pub other : n .other ≡ cond (otherAt bound p r) (r .sequence) (f .other)
+-- nothing, at the price p
+abbrev pub nothingAt : ℕ → Found
+nothingAt p = record { price = p; customers = 0; others = 0; served = 0; total = 0; customer = 0; other = 0 }
+
+-- what was found, with a response at place i
+unfoldable pub addedTo : Found → Response → ℕ → Found
+addedTo f r i =
+    cond (r .customer)
+    (record { price = f .price; customers = withBit (f .customers) i; others = f .others; served = f .served + r .size; total = f .total; customer = rankAfter (f .customer) (r .sequence); other = f .other })
+    (record { price = f .price; customers = f .customers; others = withBit (f .others) i; served = f .served; total = f .total + r .size; customer = f .customer; other = rankAfter (f .other) (r .sequence) })
 
 -- of what was found, that at the price p, which is at most its price: nothing yet, where p is lower
 unfoldable pub foundAt : Found → ℕ → Found
-foundAt f p = cond (ltb p (f .price)) (record { price = p; customers = 0; others = 0; served = 0; total = 0; customer = 0; other = 0 }) f
+foundAt f p = cond (ltb p (f .price)) (nothingAt p) f
 
--- what is found of one response more, at place i: that at the least price
-pub record Takes (bound : ℕ) (r : Response) (i : ℕ) (f n : Found) : Type 0 where
-  pub price : n .price ≡ min (max (r .price) bound) (f .price)
-  pub adds : Adds bound (n .price) r i (foundAt f (n .price)) n
-  pub small : n .served + n .total ≤ f .served + f .total + 4294967295
+-- what is found at the lowest price with one response more, which works at p
+unfoldable pub foundWith : Found → Response → ℕ → ℕ → Found
+foundWith f r p i = cond (ltb (f .price) p) f (addedTo (foundAt f p) r i)
+
+-- what is found at the lowest price but one, n, with one more that does not work at the lowest, that of f
+unfoldable pub laterWith : Found → Found → Response → ℕ → ℕ → Found
+laterWith f n r p i = cond (ltb p (f .price)) f (foundWith n r p i)
 
 -- what is found at the price p among the places of a word
 pub record FoundAt (bound p : ℕ) (places : List Response) (word : ℕ) (f : Found) : Type 0 where
@@ -99,14 +110,20 @@ pub record FoundAt (bound p : ℕ) (places : List Response) (word : ℕ) (f : Fo
   pub others : f .others ≡ wordOf (otherAt bound p) word places
   pub served : f .served ≡ sum (sizes (filter (customerAt bound p) (liveIn word places)))
   pub total : f .total ≡ sum (sizes (filter (otherAt bound p) (liveIn word places)))
-  pub customer : f .customer ≡ lastSequence 0 (filter (customerAt bound p) (liveIn word places))
-  pub other : f .other ≡ lastSequence 0 (filter (otherAt bound p) (liveIn word places))
+  pub customer : f .customer ≡ rankOf 0 (filter (customerAt bound p) (liveIn word places))
+  pub other : f .other ≡ rankOf 0 (filter (otherAt bound p) (liveIn word places))
   pub small : f .served + f .total ≤ 274877906880
 
 -- the least working price, but at most the last
 unfoldable pub leastOf : ℕ → ℕ → List Response → ℕ
 leastOf bound last [] = last
 leastOf bound last (r ∷ rs) = min (max (r .price) bound) (leastOf bound last rs)
+
+-- what is found at the least working price of the places of a word
+pub record Stands (bound last : ℕ) (places : List Response) (word : ℕ) (f : Found) : Type 0 where
+  pub price-is : f .price ≡ leastOf bound last (liveIn word places)
+  pub low : f .price ≤ last
+  pub found : FoundAt bound (f .price) places word f
 
 -- ---- the fills of some responses at a price
 
@@ -118,15 +135,16 @@ dealt false R T c k ss = plus (floors R T ss) (byCut c k (fractions R T ss))
 unfoldable pub eachFills : ℕ → Bool → ℕ → ℕ → ℕ → ℕ → List Response → List Fill
 eachFills p turns R T c k rs = fillsBy p rs (dealt turns R T c k (sizes rs))
 
--- whether sequences rise, from m on
-unfoldable pub isRising : ℕ → List Response → Bool
-isRising m [] = true
-isRising m (r ∷ rs) = leb m (r .sequence) && isRising (r .sequence) rs
-
 -- what one of the size s gets, and what is left of k
+abbrev pub quantityOf : Bool → ℕ → ℕ → ℕ → ℕ → ℕ → ℕ
+quantityOf turns R T c k s = cond turns (min k s) (R * s / T + oneBy c k (R * s % T))
+
+abbrev pub remainderOf : Bool → ℕ → ℕ → ℕ → ℕ → ℕ → ℕ
+remainderOf turns R T c k s = cond turns (k - min k s) (spareBy c k (R * s % T))
+
 pub record Gives (turns : Bool) (R T c k s : ℕ) (g : Given) : Type 0 where
-  pub quantity : g .quantity ≡ cond turns (min k s) (R * s / T + oneBy c k (R * s % T))
-  pub left : g .left ≡ cond turns (k - min k s) (spareBy c k (R * s % T))
+  pub quantity : g .quantity ≡ quantityOf turns R T c k s
+  pub left : g .left ≡ remainderOf turns R T c k s
   pub small : g .quantity ≤ 4294967295
 
 -- ---- the cut
@@ -142,6 +160,10 @@ pub record Short (places : List Response) (word R T : ℕ) : Type 0 where
   pub small : T ≤ 1099511627520
   pub total-is : T ≡ sum (sizes (liveIn word places))
 
+-- all of them, before their fractions are added up; none, where they are served in turn
+unfoldable pub startOf : Bool → ℕ → Among
+startOf turns word = record { word = cond turns 0 word; sum = 0; leftovers = 0; mean = 0 }
+
 -- the mean of n numbers, rounded up
 unfoldable pub meanOf : ℕ → ℕ → ℕ
 meanOf total n = (total + n - 1) / n
@@ -154,6 +176,10 @@ unfoldable pub narrowedOf : Among → Upper → Among
 narrowedOf a u =
     let n = onesIn 64 (u .word) in
     cond (leb (a .leftovers) n) (amongOf (u .word) (u .sum) (a .leftovers)) (amongOf (a .word - u .word) (a .sum - u .sum) (a .leftovers - n))
+
+-- where all were added up: the fractions come to T once for each leftover
+unfoldable pub countedOf : Upper → ℕ → Among
+countedOf u T = cond (eqb (u .sum / T) 0) (record { word = 0; sum = 0; leftovers = 0; mean = T }) (amongOf (u .word) (u .sum) (u .sum / T))
 
 -- pro rata
 unfoldable pub shareFills : ℕ → ℕ → List Response → List Fill
@@ -181,28 +207,91 @@ levelOf d places G s =
       here = os;
     }
 
--- what the code finds of it
-pub record Looks (d : Deal) (places : List Response) (G : ℕ) (s : Walked) (l : Price) : Type 0 where
-  pub price-is : l .price ≡ levelOf d places G s .price
-  pub customers-are : inSequence (liveIn (l .customers) places) ≡ customers (levelOf d places G s)
-  pub others-are : inSequence (liveIn (l .others) places) ≡ others (levelOf d places G s)
-  pub customers-known : Summed places (l .customers) (l .customer) (l .served)
-  pub others-known : Summed places (l .others) (l .other) (l .total)
-  pub want-is : l .want ≡ levelOf d places G s .want
-  pub last-is : l .last ≡ levelOf d places G s .final
-  -- its places are places of the walk's word
-  pub gone : l .customers + l .others ≡ wordOf (worksAt (d .bound) (l .price)) (s .rest) places
-  pub fits : l .customers + l .others ≤ s .rest
-  pub low : l .price ≤ 4294967295
-  pub small : l .served + l .total + l .want ≤ 1099511627520
+-- what the code makes of what it found
+unfoldable pub pricedOf : Deal → ℕ → Walked → Found → Price
+pricedOf d G s f =
+    let plan = planBy (d .mode) (entry d) (top d) G (f .price) (s .left) (s .held) (f .served + f .total) in
+    let R = sharedOf (s .left) (f .served) (plan .want) in
+    record {
+      price = f .price;
+      customers = f .customers;
+      others = f .others;
+      total = f .total;
+      left = s .left;
+      contra = contraOf (s .left) (f .served) (f .total) (plan .want) (plan .final);
+      shared = R;
+      after = leftOf (s .left) (f .served) (f .total) (plan .want) (plan .final);
+      customer = f .customer;
+      other = f .other;
+      reported = reportedPrice (d .sell) (f .price);
+      turns = inTurnOf (f .total) R (f .others);
+    }
 
--- where the walk stands after it
-pub record WalkedOn (d : Deal) (places : List Response) (G : ℕ) (s r : Walked) : Type 0 where
-  pub from-is : r .from ≡ levelOf d places G s .price + 1
-  pub rest-is : r .rest + wordOf (worksAt (d .bound) (levelOf d places G s .price)) (s .rest) places ≡ s .rest
-  pub left-is : r .left ≡ s .left - traded (levelFills (levelOf d places G s))
-  pub held-is : r .held ≡ s .held + contra (levelOf d places G s)
+-- where the walk stands after a price whose fills end before the word `at`
+unfoldable pub passedOf : Walked → Price → ℕ → Walked
+passedOf s l at = record { from = l .price + 1; rest = s .rest - l .customers - l .others; left = l .after; held = s .held + l .contra; at = at; known = not (s .known) }
 
 -- the walk of the definition from a price on, without fuel
 unfoldable pub walkFrom : Deal → List Response → ℕ → ℕ → ℕ → List Level
 walkFrom d rs from left held = walk d rs (suc (top d) - from) from left held
+
+-- ---- the responses of a price that are served
+
+-- the places of a word, to be looked over for the lowest sequence
+unfoldable pub huntingOf : Bool → Bool → ℕ → ℕ → ℕ → Hand
+huntingOf last turns word k at =
+    record { done = false; last = last; turns = turns; run = 0; late = 0; unseen = word; edge = 4294967296; first = 4294967296; latest = 0; k = k; at = at }
+
+-- the places of a word in their order, where that is by sequence: n is the sequence of the last then
+unfoldable pub handOf : Bool → Bool → ℕ → ℕ → ℕ → ℕ → Hand
+handOf last turns word n k at =
+    cond (ltb n 4294967295)
+    (record { done = false; last = last; turns = turns; run = word; late = 0; unseen = 0; edge = 4294967296; first = 4294967296; latest = 0; k = k; at = at })
+    (huntingOf last turns word k at)
+
+-- nothing is left to write
+unfoldable pub doneAt : Hand → Hand
+doneAt h = record { done = true; last = true; turns = h .turns; run = 0; late = 0; unseen = 0; edge = 0; first = 0; latest = 0; k = 0; at = h .at }
+
+-- the run goes on so, past the place that was looked at
+abbrev pub runsOn : Hand → ℕ → ℕ → ℕ → ℕ → ℕ → Hand
+runsOn h run late edge first latest =
+    record { done = false; last = h .last; turns = h .turns; run = run; late = late; unseen = withoutLowest (h .unseen); edge = edge; first = first; latest = latest; k = h .k; at = h .at }
+
+-- place i is looked at, whose sequence is t
+unfoldable pub metOf : Hand → ℕ → ℕ → Hand
+metOf h t i =
+    cond (ltb t (h .first)) (runsOn h (withBit 0 i) (h .run + h .late) (h .first) t t)
+    (cond (leb (h .latest) t) (runsOn h (withBit (h .run) i) (h .late) (h .edge) (h .first) t)
+    (runsOn h (h .run) (withBit (h .late) i) (min (h .edge) (t + 1)) (h .first) (h .latest)))
+
+-- what is written, and what comes, where the run is served
+unfoldable pub nextFills : Hand → Price → List Fill
+nextFills h l = cond (eqb (h .late) 0) (cond (h .last) [] (fillOf 0 (l .reported) (l .contra))) []
+
+unfoldable pub nextOf : Hand → Price → ℕ → ℕ → Hand
+nextOf h l spare at =
+    cond (eqb (h .late) 0)
+    (cond (h .last) (doneAt h) (handOf true (l .turns) (l .others) (l .other) (cond (l .turns) (l .shared) spare) at))
+    (huntingOf (h .last) (h .turns) (h .late) (h .k) (h .at))
+
+-- and where the first of the run, r, is served, or all are looked over again
+unfoldable pub servedFills : Hand → Price → ℕ → Response → List Fill
+servedFills h l c r = cond (leb (h .edge) (r .sequence)) [] (fillOf (r .sequence) (l .reported) (quantityOf (h .turns) (l .shared) (l .total) c (h .k) (r .size)))
+
+unfoldable pub servedOf : Hand → Price → ℕ → Response → ℕ → Hand
+servedOf h l c r at =
+    cond (leb (h .edge) (r .sequence)) (huntingOf (h .last) (h .turns) (h .run + h .late) (h .k) (h .at))
+    (record {
+      done = false;
+      last = h .last;
+      turns = h .turns;
+      run = withoutLowest (h .run);
+      late = h .late;
+      unseen = 0;
+      edge = h .edge;
+      first = 4294967296;
+      latest = 0;
+      k = remainderOf (h .turns) (l .shared) (l .total) c (h .k) (r .size);
+      at = at;
+    })
