@@ -1,12 +1,12 @@
 -- The search for the cut through the fractions: places that are narrowed down by the mean.
 use mathlib.Core.Path.{_≡_, refl, sym, ap, subst, _∙_}
-use mathlib.Core.Bool.{Bool, true, false, cond, not, _&&_, _||_, false≢true, true≢false}
+use mathlib.Core.Bool.{Bool, true, false, cond, not}
 use mathlib.Core.List.{List, [], _∷_}
-use mathlib.Core.Logic.{_⊎_, inl, inr, ⊎-elim, _≢_}
+use mathlib.Core.Logic.{⊎-elim, _≢_}
 use Prim.Native.Nat.{ℕ, _+_, _-_, _*_, _/_, _%_, _^_, _≤_, _<_}
 use native.Mathlib.Nat.{div-add-mod', mod-lt, mul-div-cancel}
 use native.Mathlib.Omega.{arith}
-use borrow.Author.Tests.{le-leb, lt-leb, eqb-true, eqb-false, eq-eqb, ne-eqb}
+use borrow.Author.Tests.{le-leb, lt-leb, eqb-true, eqb-false}
 use lib.Dec.{leb, ltb, eqb}
 use lib.ListN.{length, getD}
 use Rattle.words.specs.rules.Bits.{withBit, withoutBit, onesIn}
@@ -24,9 +24,9 @@ use Rattle.share.proofs.ShareLaws.{wholes, left-at-most, cut-whole}
 use Rattle.share.proofs.CutLaws.{cut-upper, cut-lower, cut-level, some-upper, upper-lower}
 use Rattle.trade.specs.declared.Among.{Among}
 use Rattle.trade.specs.declared.Upper.{Upper}
-use Rattle.trade.specs.inside.Code.{fractionsIn, Short, startOf, meanOf, amongOf, countedOf, narrowedOf}
+use Rattle.trade.specs.inside.Code.{fractionsIn, Short, noCut, meanOf, amongOf, countedOf, narrowedOf}
 use Rattle.trade.proofs.CodeLaws.{Turn, fractions-turn, fractions-none, live-short}
-use Rattle.trade.proofs.StepLaws.{word-all, word-le, word-rest}
+use Rattle.trade.proofs.StepLaws.{word-le, word-rest}
 
 -- ---- the mean of n numbers, rounded up
 
@@ -263,56 +263,27 @@ module _ (R T : ℕ) (ps : List Response) (e : length ps ≡ 64) where
 
 -- ---- the search over the places of a word
 
--- the loop's test: the cut is looked for
-pub seeks-on : (word leftovers upper : ℕ) → (not (eqb word 0) && (eqb leftovers 0 || not (eqb upper word))) ≡ true → (0 < word) × ((leftovers ≡ 0) ⊎ ((0 < leftovers) × (upper ≢ word)))
-seeks-on word leftovers upper e = go (eqb word 0) (eqb leftovers 0) (eqb upper word) refl refl refl e
-  where
-    go : (a b c : Bool) → eqb word 0 ≡ a → eqb leftovers 0 ≡ b → eqb upper word ≡ c → (not a && (b || not c)) ≡ true → (0 < word) × ((leftovers ≡ 0) ⊎ ((0 < leftovers) × (upper ≢ word)))
-    go true b c p q r e = absurd (false≢true e)
-    go false true c p q r e = let n : word ≢ 0 = eqb-false word 0 p in (omega arith, inl (eqb-true leftovers 0 q))
-    go false false true p q r e = absurd (false≢true e)
-    go false false false p q r e =
-        let n : word ≢ 0 = eqb-false word 0 p in
-        let m : leftovers ≢ 0 = eqb-false leftovers 0 q in
-        (omega arith, inr (omega arith, eqb-false upper word r))
-
--- it is found, or there is none
-pub seeks-off : (word leftovers upper : ℕ) → (not (eqb word 0) && (eqb leftovers 0 || not (eqb upper word))) ≡ false → (word ≡ 0) ⊎ ((0 < leftovers) × (upper ≡ word))
-seeks-off word leftovers upper e = go (eqb word 0) (eqb leftovers 0) (eqb upper word) refl refl refl e
-  where
-    go : (a b c : Bool) → eqb word 0 ≡ a → eqb leftovers 0 ≡ b → eqb upper word ≡ c → (not a && (b || not c)) ≡ false → (word ≡ 0) ⊎ ((0 < leftovers) × (upper ≡ word))
-    go true b c p q r e = inl (eqb-true word 0 p)
-    go false true c p q r e = absurd (true≢false e)
-    go false false true p q r e =
-        let m : leftovers ≢ 0 = eqb-false leftovers 0 q in
-        inr (omega arith, eqb-true upper word r)
-    go false false false p q r e = absurd (true≢false e)
-
--- what the search has still to do: to add the fractions up, and to look at places
+-- what the search has still to do
 abbrev pub seekWork : List Response → Among → ℕ → ℕ
-seekWork ps a rest = cond (eqb (a .leftovers) 0) 10000000000000000000000 0 + a .word * 65 + length (liveIn rest ps)
+seekWork ps a rest = a .word * 65 + length (liveIn rest ps)
+
+abbrev none : Upper
+none = record { word = 0; sum = 0 }
 
 module _ (R T : ℕ) (ps : List Response) (word : ℕ) where
   abbrev leftover : ℕ
   leftover = leftoverCount R (sizes (liveIn word ps))
 
-  abbrev none : Upper
-  none = record { word = 0; sum = 0 }
-
-  -- where the search stands: all are added up, or it is narrowed down, or there are no leftovers
+  -- where the search stands: there are places to look among, or there are no leftovers
   pub record Search (a : Among) (u : Upper) (rest : ℕ) : Type 0 where
     pub fit : a .word < 2 ^ 64
     pub looked : Looked R T ps a u rest
-    pub adding : a .leftovers ≡ 0 → 0 < a .word → (a .word ≡ word) × (a .mean ≡ 0)
-    pub whole : a .word ≡ 0 → Cuts leftover (fs R T ps word) (a .mean) (a .leftovers)
-    pub seeks : 0 < a .leftovers → Seeks R T ps word leftover a
+    pub whole : a .word ≡ 0 → (u .word ≡ 0) × Cuts leftover (fs R T ps word) (a .mean) (a .leftovers)
+    pub seeks : 0 < a .word → Seeks R T ps word leftover a
 
-  -- all were looked at, and it goes on: what `narrowed` asks for, and what it gives
-  pub record Narrows (a : Among) (u : Upper) (n : Among) : Type 0 where
-    pub counts : a .leftovers ≡ 0 → (0 < T) × (u .sum ≤ 70368744161280) × (0 < u .sum / T → 0 < onesIn 64 (u .word))
-    pub halved : 0 < a .leftovers → (a .sum ≤ 70368744161280) × (u .sum ≤ a .sum) × (u .word ≤ a .word) × (0 < onesIn 64 (u .word)) × (onesIn 64 (u .word) < a .leftovers → 0 < onesIn 64 (a .word - u .word))
-    pub search : Search n none (n .word)
-    pub less : seekWork ps n (n .word) < seekWork ps a 0
+  -- where the cut is not found, there are some
+  pub search-some : (a : Among) (u : Upper) (rest : ℕ) → Search a u rest → u .word ≢ a .word → 0 < a .word
+  search-some a u rest k q = ⊎-elim (λ g. g) (λ g. let z : a .word ≡ 0 = omega arith in absurd (q (k .whole z .0 ∙ sym z))) (le-or-lt 1 (a .word))
 
 -- the sizes come to T, which is more than R
 module _ (R T : ℕ) (ps : List Response) (e : length ps ≡ 64) (word : ℕ) (v : Short ps word R T) (fits : word < 2 ^ 64) where
@@ -321,7 +292,7 @@ module _ (R T : ℕ) (ps : List Response) (e : length ps ≡ 64) (word : ℕ) (v
   fractions-low [] = omega arith
   fractions-low (r ∷ rs) = omega (arith, fractions-low rs, mod-lt (R * r .size) {m = T} (omega (arith, v .short)), v .small)
 
-  sum-low : (w : ℕ) → sum (fs R T ps w) ≤ 70368744161280
+  pub sum-low : (w : ℕ) → sum (fs R T ps w) ≤ 70368744161280
   sum-low w = omega (arith, fractions-low (liveIn w ps), live-short w ps)
 
   ones-some : (w : ℕ) → 0 < onesIn 64 w → 0 < w
@@ -332,130 +303,73 @@ module _ (R T : ℕ) (ps : List Response) (e : length ps ≡ 64) (word : ℕ) (v
       absurd (omega (arith, many R T ps e w, fractions-length R T ps e (liveIn w ps), ap (λ (n : ℕ). length (liveIn n ps)) z, ap length (none-live ps))))
       (le-or-lt 1 w)
 
-  word-some : 0 < word
-  unfolding sum
-  word-some =
-      ⊎-elim (λ g. g)
-      (λ g.
-      let z : word ≡ 0 = omega arith in
-      absurd (omega (arith, v .short, v .total-is, ap (λ (n : ℕ). sum (sizes (liveIn n ps))) z, ap (λ (rs : List Response). sum (sizes rs)) (none-live ps))))
-      (le-or-lt 1 word)
+  -- all are added up
+  module _ (total : ℕ) (q : total ≡ sum (fs R T ps word)) where
+    pub counts : (0 < T) × (total ≤ 70368744161280) × (0 < total / T → 0 < onesIn 64 word)
+    counts = (omega (arith, v .short), omega (arith, sum-low word), start-some R T ps e word total v q)
 
-  pub search-start : Search R T ps word (startOf false word) (none R T ps word) word
-  unfolding startOf
-  search-start =
-      record {
-        fit = fits;
-        looked = looked-start R T ps e (startOf false word) word refl fits;
-        adding = λ _ _. (refl, refl);
-        whole = λ z. absurd (omega (arith, word-some));
-        seeks = λ h. absurd (omega arith);
-      }
+    pub search-start : Search R T ps word (countedOf false word total T) none (countedOf false word total T .word)
+    unfolding countedOf noCut amongOf
+    search-start = go (eqb (total / T) 0) refl
+      where
+        go : (b : Bool) → eqb (total / T) 0 ≡ b → Search R T ps word (cond b (noCut T) (amongOf word total (total / T))) none (cond b (noCut T) (amongOf word total (total / T)) .word)
+        go true z =
+            record {
+              fit = omega arith;
+              looked = looked-start R T ps e (noCut T) 0 refl (omega arith);
+              whole = λ _. (refl, rw (sym (wholes-left R T ps e word total v q) ∙ eqb-true (total / T) 0 z) (cut-whole R T (sizes (liveIn word ps)) (omega (arith, v .short))));
+              seeks = λ h. absurd (omega arith);
+            }
+        go false z =
+            let n : total / T ≢ 0 = eqb-false (total / T) 0 z in
+            let some : 0 < word = ones-some word (start-some R T ps e word total v q (omega arith)) in
+            record {
+              fit = fits;
+              looked = looked-start R T ps e (amongOf word total (total / T)) word refl fits;
+              whole = λ h. absurd (omega (arith, some));
+              seeks = λ _. seeks-start R T ps e word total v q (omega (arith, sum-low word)) (omega arith) fits;
+            }
 
   -- what is upper is a sum of fractions
   pub upper-within : (a : Among) (u : Upper) (rest : ℕ) → Search R T ps word a u rest → u .sum ≤ 70368744161280
   upper-within a u rest k = omega (arith, k .looked .upper, sum-split (leb (a .mean)) (fs R T ps (a .word)), sum-low (a .word))
 
-  pub search-look : (a : Among) (u w : Upper) (rest i x : ℕ) → Turn ps rest i → x ≡ R * getD ps i noResponse .size % T
+  pub search-look : (a : Among) (u w : Upper) (rest i x : ℕ) → 0 < a .word → Turn ps rest i → x ≡ R * getD ps i noResponse .size % T
       → w .word ≡ cond (leb (a .mean) x) (withBit (u .word) i) (u .word) → w .sum ≡ u .sum + cond (leb (a .mean) x) x 0
       → Search R T ps word a u rest → Search R T ps word a w (withoutBit rest i)
-  search-look a u w rest i x t q ew es k =
+  search-look a u w rest i x some t q ew es k =
       record {
         fit = k .fit;
         looked = looked-step R T ps e a u w rest i x t q ew es (omega (arith, t .less, k .looked .fit)) (k .looked);
-        adding = k .adding;
-        whole = k .whole;
+        whole = λ z. absurd (omega (arith, some));
         seeks = k .seeks;
       }
 
-  -- it is over
-  pub search-end : (a : Among) (u : Upper) (rest : ℕ) → Search R T ps word a u rest → (not (eqb (a .word) 0) && (eqb (a .leftovers) 0 || not (eqb (u .word) (a .word)))) ≡ false
-      → Cuts (leftover R T ps word) (fs R T ps word) (a .mean) (a .leftovers)
-  search-end a u rest k off =
-      ⊎-elim (λ z. k .whole z) (λ f. cut-found R T ps e word (leftover R T ps word) a (k .seeks (f .0)) u rest (k .looked) (f .1)) (seeks-off (a .word) (a .leftovers) (u .word) off)
+  -- it is found, or there is none
+  pub search-end : (a : Among) (u : Upper) (rest : ℕ) → Search R T ps word a u rest → u .word ≡ a .word → Cuts (leftover R T ps word) (fs R T ps word) (a .mean) (a .leftovers)
+  search-end a u rest k q =
+      ⊎-elim (λ g. cut-found R T ps e word (leftover R T ps word) a (k .seeks g) u rest (k .looked) q) (λ g. let z : a .word ≡ 0 = omega arith in k .whole z .1) (le-or-lt 1 (a .word))
 
-  module _ (a : Among) (u : Upper) (k : Search R T ps word a u 0) (some : 0 < a .word) where
-    -- all are upper while they are added up
-    module _ (z : a .leftovers ≡ 0) where
-      all-word : wordOf (isUpper R T ps (a .mean)) (a .word) ps ≡ a .word
-      all-word = word-all (isUpper R T ps (a .mean)) (λ r. le-leb (a .mean) (R * r .size % T) (omega (arith, k .adding z some .1))) (a .word) ps (rw e (k .fit))
+  -- all were looked at, and it goes on in the half that has the cut
+  module _ (a : Among) (u : Upper) (k : Search R T ps word a u 0) (q : u .word ≢ a .word) where
+    abbrev some : 0 < a .word
+    some = search-some R T ps word a u 0 k q
 
-      upper-all : u .word ≡ word
-      upper-all = sift-end (isUpper R T ps (a .mean)) ps (a .word) (u .word) (k .looked .sifted) ∙ all-word ∙ k .adding z some .0
+    pub search-halves : Halves R T ps word (leftover R T ps word) a u
+    search-halves = halves R T ps e word (leftover R T ps word) a (k .seeks some) u (k .looked) q
 
-      sum-all : u .sum ≡ sum (fs R T ps word)
-      unfolding sum filter
-      sum-all =
-          let f : filter (leb (a .mean)) (fs R T ps (a .word)) ≡ fs R T ps (a .word) =
-          sym (fractions-filter R T ps e (leb (a .mean)) (liveIn (a .word) ps)) ∙ ap (λ (rs : List Response). fractions R T (sizes rs)) (sym (word-filters (isUpper R T ps (a .mean)) (a .word) ps)) ∙ ap (fs R T ps) all-word in
-          omega (arith, k .looked .upper, ap sum f, ap (λ (xs : List ℕ). sum (filter (leb (a .mean)) xs)) (fractions-none R T ps), ap (λ (n : ℕ). sum (fs R T ps n)) (k .adding z some .0))
+    pub search-low : a .sum ≤ 70368744161280
+    search-low = k .seeks some .low
 
-      wholes-are : u .sum / T ≡ (leftover R T ps word)
-      wholes-are = wholes-left R T ps e word (u .sum) v sum-all
-
-      upper-few : u .sum ≤ 70368744161280
-      upper-few = upper-within a u 0 k
-
-      counted-search : Search R T ps word (countedOf u T) (none R T ps word) (countedOf u T .word)
-      unfolding countedOf amongOf
-      counted-search = go (eqb (u .sum / T) 0) refl
-        where
-          go : (b : Bool) → eqb (u .sum / T) 0 ≡ b
-              → Search R T ps word (cond b (record { word = 0; sum = 0; leftovers = 0; mean = T }) (amongOf (u .word) (u .sum) (u .sum / T))) (none R T ps word) (cond b (record { word = 0; sum = 0; leftovers = 0; mean = T }) (amongOf (u .word) (u .sum) (u .sum / T)) .word)
-          go true q =
-              record {
-                fit = omega arith;
-                looked = looked-start R T ps e (record { word = 0; sum = 0; leftovers = 0; mean = T }) 0 refl (omega arith);
-                adding = λ _ h. absurd (omega arith);
-                whole = λ _. rw (sym wholes-are ∙ eqb-true (u .sum / T) 0 q) (cut-whole R T (sizes (liveIn word ps)) (omega (arith, v .short)));
-                seeks = λ h. absurd (omega arith);
-              }
-          go false q =
-              let n : u .sum / T ≢ 0 = eqb-false (u .sum / T) 0 q in
-              let s : Seeks R T ps word (leftover R T ps word) (amongOf (u .word) (u .sum) (u .sum / T)) = rw upper-all (seeks-start R T ps e word (u .sum) v sum-all upper-few (omega arith) fits) in
-              record {
-                fit = rw upper-all fits;
-                looked = looked-start R T ps e (amongOf (u .word) (u .sum) (u .sum / T)) (u .word) refl (rw upper-all fits);
-                adding = λ h _. absurd (omega arith);
-                whole = λ h. absurd (omega (arith, upper-all, word-some));
-                seeks = λ _. s;
-              }
-
-      counted-less : seekWork ps (countedOf u T) (countedOf u T .word) < seekWork ps a 0
-      unfolding countedOf amongOf
-      counted-less = rw (eq-eqb (a .leftovers) 0 z) (go (eqb (u .sum / T) 0) refl)
-        where
-          go : (b : Bool) → eqb (u .sum / T) 0 ≡ b
-              → seekWork ps (cond b (record { word = 0; sum = 0; leftovers = 0; mean = T }) (amongOf (u .word) (u .sum) (u .sum / T))) (cond b (record { word = 0; sum = 0; leftovers = 0; mean = T }) (amongOf (u .word) (u .sum) (u .sum / T)) .word)
-              < 10000000000000000000000 + a .word * 65 + length (liveIn 0 ps)
-          go true q = omega (arith, some)
-          go false q = rw q (omega (arith, upper-all, fits, live-short (u .word) ps))
-
-    pub search-next : (n : Among) → n ≡ cond (eqb (a .leftovers) 0) (countedOf u T) (narrowedOf a u) → (a .leftovers ≡ 0) ⊎ ((0 < a .leftovers) × (u .word ≢ a .word)) → Narrows R T ps word a u n
-    search-next n q (inl z) =
-        let m : n ≡ countedOf u T = q ∙ ap (λ (b : Bool). cond b (countedOf u T) (narrowedOf a u)) (eq-eqb (a .leftovers) 0 z) in
+    pub search-next : Search R T ps word (narrowedOf a u) none (narrowedOf a u .word)
+    search-next =
+        let s = search-halves .seeks in
         record {
-          counts = λ _. (omega (arith, v .short), upper-few z, λ p. rw (upper-all z) (start-some R T ps e word (u .sum) v (sum-all z) p));
-          halved = λ h. absurd (omega arith);
-          search = rw m (counted-search z);
-          less = rw m (counted-less z);
+          fit = s .fit;
+          looked = looked-start R T ps e (narrowedOf a u) (narrowedOf a u .word) refl (s .fit);
+          whole = λ z. absurd (omega (arith, ones-some (narrowedOf a u .word) (omega (arith, s .enough, s .some))));
+          seeks = λ _. s;
         }
-    search-next n q (inr h) =
-        let m : n ≡ narrowedOf a u = q ∙ ap (λ (b : Bool). cond b (countedOf u T) (narrowedOf a u)) (ne-eqb (a .leftovers) 0 (λ z. omega (arith, h .0))) in
-        let s = k .seeks (h .0) in
-        let w = halves R T ps e word (leftover R T ps word) a s u (k .looked) (h .1) in
-        let t : 0 < narrowedOf a u .leftovers = w .seeks .some in
-        record {
-          counts = λ z. absurd (omega (arith, h .0));
-          halved = λ _. (s .low, w .upper-low, w .upper-in, w .upper-some, w .others-some);
-          search =
-              rw m
-              (record {
-                fit = w .seeks .fit;
-                looked = looked-start R T ps e (narrowedOf a u) (narrowedOf a u .word) refl (w .seeks .fit);
-                adding = λ z _. absurd (omega (arith, t));
-                whole = λ z. absurd (omega (arith, ones-some (narrowedOf a u .word) (omega (arith, w .seeks .enough, t))));
-                seeks = λ _. w .seeks;
-              });
-          less = rw (m, ne-eqb (a .leftovers) 0 (λ z. omega (arith, h .0)), ne-eqb (narrowedOf a u .leftovers) 0 (λ z. omega (arith, t))) (omega (arith, w .less, live-short (narrowedOf a u .word) ps));
-        }
+
+    pub search-less : seekWork ps (narrowedOf a u) (narrowedOf a u .word) < seekWork ps a 0
+    search-less = omega (arith, search-halves .less, live-short (narrowedOf a u .word) ps)

@@ -69,7 +69,7 @@ struct Given {
     left: u64,
 }
 
-// Places among which the cut of the leftovers is looked for: the sum of their fractions, how many of them get a leftover (0 before that is known), and the mean of the fractions, rounded up.
+// Places among which the cut of the leftovers is looked for: the sum of their fractions, how many of them get a leftover, and the mean of the fractions, rounded up.
 struct Among {
     word: u64,
     sum: u64,
@@ -226,11 +226,18 @@ fn write_all(d: Deal, b: Board, out: &mut [u32]) -> usize
             f = scan::found(f, r, p, i);
         }
         let l = price_of(d, g, s, f);
-        // The cut of the leftovers: a turn looks at one more place, or takes the half that has the cut.
-        let mut a = leftovers::all_of(l.turns, l.others);
+        // The cut of the leftovers: the fractions are added up, then a turn looks at one more place, or takes the half that has the cut.
+        let mut sum: u64 = 0;
+        let mut rest = scan::unseen(l.turns, l.others);
+        while rest != 0 {
+            let i = bits::first_set(rest) as usize;
+            sum += scan::fraction_of(l.shared, l.total, b.places[i].size);
+            rest = bits::without_lowest(rest);
+        }
+        let mut a = leftovers::counted(l.turns, l.others, sum, l.total);
         let mut u = Upper { word: 0, sum: 0 };
-        let mut rest = a.word;
-        while leftovers::seeking(a, u) {
+        rest = a.word;
+        while u.word != a.word {
             if rest != 0 {
                 let i = bits::first_set(rest) as usize;
                 let fraction = scan::fraction_of(l.shared, l.total, b.places[i].size);
@@ -238,7 +245,7 @@ fn write_all(d: Deal, b: Board, out: &mut [u32]) -> usize
                 rest = bits::without_lowest(rest);
                 continue;
             }
-            a = leftovers::narrowed(a, u, l.total);
+            a = leftovers::narrowed(a, u);
             u = Upper { word: 0, sum: 0 };
             rest = a.word;
         }

@@ -160,10 +160,6 @@ pub record Short (places : List Response) (word R T : ℕ) : Type 0 where
   pub small : T ≤ 1099511627520
   pub total-is : T ≡ sum (sizes (liveIn word places))
 
--- all of them, before their fractions are added up; none, where they are served in turn
-unfoldable pub startOf : Bool → ℕ → Among
-startOf turns word = record { word = cond turns 0 word; sum = 0; leftovers = 0; mean = 0 }
-
 -- the mean of n numbers, rounded up
 unfoldable pub meanOf : ℕ → ℕ → ℕ
 meanOf total n = (total + n - 1) / n
@@ -177,9 +173,13 @@ narrowedOf a u =
     let n = onesIn 64 (u .word) in
     cond (leb (a .leftovers) n) (amongOf (u .word) (u .sum) (a .leftovers)) (amongOf (a .word - u .word) (a .sum - u .sum) (a .leftovers - n))
 
--- where all were added up: the fractions come to T once for each leftover
-unfoldable pub countedOf : Upper → ℕ → Among
-countedOf u T = cond (eqb (u .sum / T) 0) (record { word = 0; sum = 0; leftovers = 0; mean = T }) (amongOf (u .word) (u .sum) (u .sum / T))
+-- no place to look among, and this cut
+unfoldable pub noCut : ℕ → Among
+noCut c = record { word = 0; sum = 0; leftovers = 0; mean = c }
+
+-- the places of a word, whose fractions come to the total: that is T once for each leftover
+unfoldable pub countedOf : Bool → ℕ → ℕ → ℕ → Among
+countedOf turns word total T = cond turns (noCut 0) (cond (eqb (total / T) 0) (noCut T) (amongOf word total (total / T)))
 
 -- pro rata
 unfoldable pub shareFills : ℕ → ℕ → List Response → List Fill

@@ -1,19 +1,65 @@
+use mathlib.Core.Path.{_≡_, ap, _∙_}
+use Prim.Native.Nat.{ℕ, _-_}
 use native.Mathlib.Omega.{arith}
-use borrow.Author.Tests.{eq-eqb, ne-eqb}
+use Rattle.words.specs.rules.Bits.{onesIn}
+use Rattle.trade.specs.inside.Code.{amongOf}
+use Rattle.trade.proofs.NarrowLaws.{narrowed-upper, narrowed-lower}
+use borrow.Author.Needs.{needs}
 use Rattle.trade.proofs.leftovers.narrowed.Statement.{statement}
 use Rattle.trade.proofs.leftovers.narrowed.Tie as tie
 
-counted-requires : tie.Need-counted-requires
-counted-requires c κs = c .before .before .pre .0 (c .if1 .taken)
+ones-requires : tie.Need-ones-requires
+ones-requires c κs = search needs
+
+wide-requires : tie.Need-wide-requires
+wide-requires c κs = search needs
+
+among-requires : tie.Need-among-requires
+among-requires c κs = search needs
+
+-- how many are upper
+many : (c : tie.After-wide) → c .wide .result ≡ onesIn 64 (c .before .before .args .u .word)
+many c = c .wide .ensures .0 ∙ c .before .ones .ensures
 
 returns : tie.Need-returns
-returns c = rw (eq-eqb _ 0 (c .before .if1 .taken)) (c .counted .ensures)
+returns c =
+    let w = c .before .before .before in
+    let a = w .before .before .args in
+    c .among .ensures ∙ narrowed-upper (a .a) (a .u) (omega (arith, many w, c .before .if1 .taken))
 
-half-requires : tie.Need-half-requires
-half-requires c κs = let p = c .before .before .pre .1 (omega (arith, c .if1 .left)) in ((p .0, p .1, p .2), (p .3, p .4))
+sub-among : tie.Need-sub-among
+sub-among c = search needs
+
+sub-among-2 : tie.Need-sub-among-2
+sub-among-2 c = search needs
+
+sub-among-3 : tie.Need-sub-among-3
+sub-among-3 c = search needs
+
+among-requires-2 : tie.Need-among-requires-2
+among-requires-2 c κs =
+    let w = c .before .before .before .before .before .before .before in
+    let s = w .before .before in
+    (s .pre .1 .1 (omega (arith, many w, c .before .before .before .before .before .if1 .left)), omega (arith, s .pre .0))
 
 returns-2 : tie.Need-returns-2
-returns-2 c = rw (ne-eqb _ 0 (c .before .if1 .left)) (c .half .ensures)
+returns-2 c =
+    let w = c .before .before .before .before .before .before .before .before in
+    let a = w .before .before .args in
+    c .among2 .ensures
+    ∙ ap (λ (n : ℕ). amongOf (a .a .word - a .u .word) (a .a .sum - a .u .sum) (a .a .leftovers - n)) (many w)
+    ∙ narrowed-lower (a .a) (a .u) (omega (arith, many w, c .before .before .before .before .before .before .if1 .left))
 
 pub narrowed-spec : {M : Type 1} → statement M
-narrowed-spec = tie.close (tie.spec counted-requires returns half-requires returns-2)
+narrowed-spec =
+    tie.close
+    (tie.spec
+    ones-requires
+    wide-requires
+    among-requires
+    returns
+    sub-among
+    sub-among-2
+    sub-among-3
+    among-requires-2
+    returns-2)
