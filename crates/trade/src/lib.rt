@@ -184,8 +184,9 @@ fn write_all(d: Deal, b: Board, out: &mut [u32]) -> usize
 {
     let top = numbers::top_of(d);
     let size = base::wide(d.size);
-    let g = numbers::guarantee_of(size, bits::ones(b.live));
     let takes = base::lesser(size, base::wide(d.selling));
+    let left = size - takes;
+    let g = numbers::guarantee_of(size, board::live_count(b));
     // The lowest working price, for the market order alone.
     let mut lowest = top;
     let mut word = scan::unseen(takes == 0, b.live);
@@ -198,7 +199,7 @@ fn write_all(d: Deal, b: Board, out: &mut [u32]) -> usize
     let mut s = Walked {
         from: 0,
         rest: b.live,
-        left: size - takes,
+        left,
         held: 0,
         at,
         known: false,

@@ -35,58 +35,58 @@ use Rattle.trade.proofs.write_all.Statement.{statement}
 use Rattle.trade.proofs.write_all.Tie as tie
 
 abbrev Inv-loop : tie.InvT-loop
-Inv-loop d out b top size g takes lowest₀ word₀ lowest word =
+Inv-loop d out b top size takes left g lowest₀ word₀ lowest word =
     (word < 2 ^ 64) × (lowest ≤ 4294967295) × (0 < takes → leastOf (d .bound) top (liveOf b) ≡ min lowest (leastOf (d .bound) top (liveIn word (b .places)))) × (lowest ≤ top)
 
 abbrev μ-loop : tie.MeasureT-loop
-μ-loop d out b top size g takes lowest₀ word₀ lowest word = word
+μ-loop d out b top size takes left g lowest₀ word₀ lowest word = word
 
 abbrev Inv-loop3 : tie.InvT-loop3
-Inv-loop3 d out b top size g takes lowest word at s n₀ f₀ unseen₀ n f unseen =
+Inv-loop3 d out b top size takes left g lowest word at s n₀ f₀ unseen₀ n f unseen =
     (unseen < 2 ^ 64)
     × (s .known ≡ true → (unseen ≡ 0) × (s .from ≤ top → Stands (d .bound) top (b .places) (s .rest) f))
     × (s .known ≡ false → Sees (d .bound) top (b .places) (s .rest) f n unseen)
 
 abbrev μ-loop3 : tie.MeasureT-loop3
-μ-loop3 d out b top size g takes lowest word at s n₀ f₀ unseen₀ n f unseen = unseen
+μ-loop3 d out b top size takes left g lowest word at s n₀ f₀ unseen₀ n f unseen = unseen
 
 abbrev Inv-loop4 : tie.InvT-loop4
-Inv-loop4 d out b top size g takes lowest word at s n unseen l sum₀ rest₀ added rest =
+Inv-loop4 d out b top size takes left g lowest word at s n unseen l sum₀ rest₀ added rest =
     (rest < 2 ^ 64)
     × (l .turns ≡ true → rest ≡ 0)
     × (l .turns ≡ false → sum (fractionsIn (l .shared) (l .total) (b .places) (l .others)) ≡ added + sum (fractionsIn (l .shared) (l .total) (b .places) rest))
 
 abbrev μ-loop4 : tie.MeasureT-loop4
-μ-loop4 d out b top size g takes lowest word at s n unseen l sum₀ rest₀ added rest = rest
+μ-loop4 d out b top size takes left g lowest word at s n unseen l sum₀ rest₀ added rest = rest
 
 abbrev Inv-loop5 : tie.InvT-loop5
-Inv-loop5 d out b top size g takes lowest word at s n unseen l added rest₀ a₀ u₀ rest a u =
+Inv-loop5 d out b top size takes left g lowest word at s n unseen l added rest₀ a₀ u₀ rest a u =
     (l .turns ≡ true → (a .word ≡ 0) × (u .word ≡ 0)) × (l .turns ≡ false → Search (l .shared) (l .total) (b .places) (l .others) a u rest)
 
 abbrev μ-loop5 : tie.MeasureT-loop5
-μ-loop5 d out b top size g takes lowest word at s n unseen l added rest₀ a₀ u₀ rest a u = seekWork (b .places) a rest
+μ-loop5 d out b top size takes left g lowest word at s n unseen l added rest₀ a₀ u₀ rest a u = seekWork (b .places) a rest
 
 abbrev Inv-loop6 : tie.InvT-loop6
-Inv-loop6 d out₀ b top size g takes lowest word at s n unseen l added rest a h₀ out h =
+Inv-loop6 d out₀ b top size takes left g lowest word at s n unseen l added rest a h₀ out h =
     Hands l (a .mean) (b .places) h
     × (length out ≡ length out₀)
     × LeftFills out₀ (s .at) (placeFills (l .reported) (l .left) (inSequence (liveIn (l .customers) (b .places))) (l .contra) (l .shared) (inSequence (liveIn (l .others) (b .places)))) out (h .at) (toServe l (a .mean) (b .places) h)
 
 abbrev μ-loop6 : tie.MeasureT-loop6
-μ-loop6 d out₀ b top size g takes lowest word at s n unseen l added rest a h₀ out h = serveWork h
+μ-loop6 d out₀ b top size takes left g lowest word at s n unseen l added rest a h₀ out h = serveWork h
 
 abbrev Inv-loop2 : tie.InvT-loop2
-Inv-loop2 d out₀ b top size g takes lowest word at s₀ n₀ out s n =
+Inv-loop2 d out₀ b top size takes left g lowest word at s₀ n₀ out s n =
     (s .from ≤ top + 1)
     × (s .held + s .left ≤ 4294967295)
     × (length out ≡ length out₀)
     × (s .rest < 2 ^ 64)
     × (liveIn (s .rest) (b .places) ≡ filter (ahead d (s .from)) (liveOf b))
-    × LeftFills out₀ at (reported (d .sell) (flat (walkFrom d (offers b) 0 (size - takes) 0))) out (s .at) (reported (d .sell) (flat (walkFrom d (offers b) (s .from) (s .left) (s .held))))
+    × LeftFills out₀ at (reported (d .sell) (flat (walkFrom d (offers b) 0 left 0))) out (s .at) (reported (d .sell) (flat (walkFrom d (offers b) (s .from) (s .left) (s .held))))
     × (s .known ≡ true → s .from ≤ top → Stands (d .bound) top (b .places) (s .rest) n)
 
 abbrev μ-loop2 : tie.MeasureT-loop2
-μ-loop2 d out₀ b top size g takes lowest word at s₀ n₀ out s n = top + 1 - s .from
+μ-loop2 d out₀ b top size takes left g lowest word at s₀ n₀ out s n = top + 1 - s .from
 
 len : (c : tie.Start Inv-loop μ-loop Inv-loop3 μ-loop3 Inv-loop4 μ-loop4 Inv-loop5 μ-loop5 Inv-loop6 μ-loop6 Inv-loop2 μ-loop2) → length (c .args .t2 .places) ≡ 64
 len c = search (needs, length-mapped)
@@ -95,7 +95,7 @@ live-fits : (c : tie.Start Inv-loop μ-loop Inv-loop3 μ-loop3 Inv-loop4 μ-loop
 live-fits c = search needs
 
 guarantee-of-requires : tie.Need-guarantee-of-requires Inv-loop μ-loop Inv-loop3 μ-loop3 Inv-loop4 μ-loop4 Inv-loop5 μ-loop5 Inv-loop6 μ-loop6 Inv-loop2 μ-loop2
-guarantee-of-requires c κs = c .before .wide .ensures .1
+guarantee-of-requires c κs = c .before .before .before .wide .ensures .1
 
 done-so : (b : Bool) → not b ≡ false → b ≡ true
 done-so true e = refl
@@ -111,9 +111,9 @@ loop-holds : tie.Need-loop-holds Inv-loop μ-loop Inv-loop3 μ-loop3 Inv-loop4 �
 loop-holds c =
     let a = c .before .before .before .before .before .before .before .before .args in
     let f : a .t2 .live < 2 ^ 64 = search needs in (
-      omega (arith, c .unseen .ensures, unseen-le (eqb (c .before .lesser .result) 0) (a .t2 .live), f),
+      omega (arith, c .unseen .ensures, unseen-le (eqb (c .before .before .before .lesser .result) 0) (a .t2 .live), f),
       c .before .before .before .before .before .before .top-of .ensures .1,
-      λ p. omega (arith, least-le (a .d .bound) (c .before .before .before .before .before .before .top-of .result) (liveOf (a .t2)), ap (λ (n : ℕ). leastOf (a .d .bound) (c .before .before .before .before .before .before .top-of .result) (liveIn n (a .t2 .places))) (c .unseen .ensures ∙ unseen-all (c .before .lesser .result) (a .t2 .live) p)),
+      λ p. omega (arith, least-le (a .d .bound) (c .before .before .before .before .before .before .top-of .result) (liveOf (a .t2)), ap (λ (n : ℕ). leastOf (a .d .bound) (c .before .before .before .before .before .before .top-of .result) (liveIn n (a .t2 .places))) (c .unseen .ensures ∙ unseen-all (c .before .before .before .lesser .result) (a .t2 .live) p)),
       omega arith,
     )
 
@@ -150,33 +150,33 @@ loop-again c =
     )
 
 write-market-requires : tie.Need-write-market-requires Inv-loop μ-loop Inv-loop3 μ-loop3 Inv-loop4 μ-loop4 Inv-loop5 μ-loop5 Inv-loop6 μ-loop6 Inv-loop2 μ-loop2
-write-market-requires c κs = (c .before .before .loop .inv .1, omega (arith, c .before .before .before .before .lesser .ensures, c .before .before .before .before .before .before .before .before .wide .ensures .1), omega (arith, c .before .before .before .before .before .before .before .before .before .before .before .pre))
+write-market-requires c κs = (c .before .before .loop .inv .1, omega (arith, c .before .before .before .before .before .before .lesser .ensures, c .before .before .before .before .before .before .before .before .wide .ensures .1), omega (arith, c .before .before .before .before .before .before .before .before .before .before .before .pre))
 
-sub-t42 : tie.Need-sub-t42 Inv-loop μ-loop Inv-loop3 μ-loop3 Inv-loop4 μ-loop4 Inv-loop5 μ-loop5 Inv-loop6 μ-loop6 Inv-loop2 μ-loop2
-sub-t42 c = omega (arith, c .before .before .before .before .before .before .before .lesser .ensures)
+sub-left : tie.Need-sub-left Inv-loop μ-loop Inv-loop3 μ-loop3 Inv-loop4 μ-loop4 Inv-loop5 μ-loop5 Inv-loop6 μ-loop6 Inv-loop2 μ-loop2
+sub-left c = omega (arith, c .lesser .ensures)
 
 -- ---- the walk
 
-guaranteed : (c : tie.After-guarantee-of Inv-loop μ-loop Inv-loop3 μ-loop3 Inv-loop4 μ-loop4 Inv-loop5 μ-loop5 Inv-loop6 μ-loop6 Inv-loop2 μ-loop2) → c .guarantee-of .result ≡ trade.guarantee (c .before .before .before .before .before .args .d) (offers (c .before .before .before .before .before .args .t2))
-guaranteed c = guarantee-found (c .before .before .before .before .before .args .d) (c .before .before .before .before .before .args .t2 .places) (c .before .before .before .before .before .args .t2 .live) _ _ _ (len (c .before .before .before .before .before)) (c .before .before .wide .ensures .0) (c .before .ones .ensures) (c .guarantee-of .ensures .0)
+guaranteed : (c : tie.After-guarantee-of Inv-loop μ-loop Inv-loop3 μ-loop3 Inv-loop4 μ-loop4 Inv-loop5 μ-loop5 Inv-loop6 μ-loop6 Inv-loop2 μ-loop2) → c .guarantee-of .result ≡ trade.guarantee (c .before .before .before .before .before .before .before .args .d) (offers (c .before .before .before .before .before .before .before .args .t2))
+guaranteed c = guarantee-found (c .before .before .before .before .before .before .before .args .d) (c .before .before .before .before .before .before .before .args .t2 .places) (c .before .before .before .before .before .before .before .args .t2 .live) _ _ _ (len (c .before .before .before .before .before .before .before)) (c .before .before .before .before .wide .ensures .0) (c .before .live-count .ensures) (c .guarantee-of .ensures .0)
 
 -- all the fills: the market order's, and those of the walk
 
-fills-are : (c : tie.After-lesser Inv-loop μ-loop Inv-loop3 μ-loop3 Inv-loop4 μ-loop4 Inv-loop5 μ-loop5 Inv-loop6 μ-loop6 Inv-loop2 μ-loop2) → fillsOf (c .before .before .before .before .before .before .before .args .d) (c .before .before .before .before .before .before .before .args .t2) ≡ fillOf (c .before .before .before .before .before .before .before .args .d .market) (reportedPrice (c .before .before .before .before .before .before .before .args .d .sell) (marketPrice (c .before .before .before .before .before .before .before .args .d) (offers (c .before .before .before .before .before .before .before .args .t2)))) (c .lesser .result) ++ reported (c .before .before .before .before .before .before .before .args .d .sell) (flat (walkFrom (c .before .before .before .before .before .before .before .args .d) (offers (c .before .before .before .before .before .before .before .args .t2)) 0 (c .before .before .before .before .wide .result - c .lesser .result) 0))
-fills-are c = all-fills (c .before .before .before .before .before .before .before .args .d) (c .before .before .before .before .before .before .before .args .t2) _ _ (c .lesser .ensures ∙ ap₂ (λ (x y : ℕ). min x y) (c .before .before .before .before .wide .ensures .0) (c .before .wide2 .ensures .0)) (ap (λ (n : ℕ). n - c .lesser .result) (c .before .before .before .before .wide .ensures .0))
+fills-are : (c : tie.After-lesser Inv-loop μ-loop Inv-loop3 μ-loop3 Inv-loop4 μ-loop4 Inv-loop5 μ-loop5 Inv-loop6 μ-loop6 Inv-loop2 μ-loop2) → fillsOf (c .before .before .before .before .before .args .d) (c .before .before .before .before .before .args .t2) ≡ fillOf (c .before .before .before .before .before .args .d .market) (reportedPrice (c .before .before .before .before .before .args .d .sell) (marketPrice (c .before .before .before .before .before .args .d) (offers (c .before .before .before .before .before .args .t2)))) (c .lesser .result) ++ reported (c .before .before .before .before .before .args .d .sell) (flat (walkFrom (c .before .before .before .before .before .args .d) (offers (c .before .before .before .before .before .args .t2)) 0 (c .before .before .wide .result - c .lesser .result) 0))
+fills-are c = all-fills (c .before .before .before .before .before .args .d) (c .before .before .before .before .before .args .t2) _ _ (c .lesser .ensures ∙ ap₂ (λ (x y : ℕ). min x y) (c .before .before .wide .ensures .0) (c .before .wide2 .ensures .0)) (ap (λ (n : ℕ). n - c .lesser .result) (c .before .before .wide .ensures .0))
 
-market : (c : tie.After-loop Inv-loop μ-loop Inv-loop3 μ-loop3 Inv-loop4 μ-loop4 Inv-loop5 μ-loop5 Inv-loop6 μ-loop6 Inv-loop2 μ-loop2) → fillOf (c .before .before .before .before .before .before .before .before .before .before .args .d .market) (reportedPrice (c .before .before .before .before .before .before .before .before .before .before .args .d .sell) (marketBy (c .before .before .before .before .before .before .before .before .before .before .args .d) (c .before .before .before .before .before .before .before .before .before .before .args .t2 .live) (c .before .loop .lowest))) (c .before .before .before .lesser .result) ≡ fillOf (c .before .before .before .before .before .before .before .before .before .before .args .d .market) (reportedPrice (c .before .before .before .before .before .before .before .before .before .before .args .d .sell) (marketPrice (c .before .before .before .before .before .before .before .before .before .before .args .d) (offers (c .before .before .before .before .before .before .before .before .before .before .args .t2)))) (c .before .before .before .lesser .result)
+market : (c : tie.After-loop Inv-loop μ-loop Inv-loop3 μ-loop3 Inv-loop4 μ-loop4 Inv-loop5 μ-loop5 Inv-loop6 μ-loop6 Inv-loop2 μ-loop2) → fillOf (c .before .before .before .before .before .before .before .before .before .before .args .d .market) (reportedPrice (c .before .before .before .before .before .before .before .before .before .before .args .d .sell) (marketBy (c .before .before .before .before .before .before .before .before .before .before .args .d) (c .before .before .before .before .before .before .before .before .before .before .args .t2 .live) (c .before .loop .lowest))) (c .before .before .before .before .before .lesser .result) ≡ fillOf (c .before .before .before .before .before .before .before .before .before .before .args .d .market) (reportedPrice (c .before .before .before .before .before .before .before .before .before .before .args .d .sell) (marketPrice (c .before .before .before .before .before .before .before .before .before .before .args .d) (offers (c .before .before .before .before .before .before .before .before .before .before .args .t2)))) (c .before .before .before .before .before .lesser .result)
 market c =
     let a = c .before .before .before .before .before .before .before .before .before .before .args in
     let z : c .before .loop .word ≡ 0 = omega arith in
     let l : c .before .loop .lowest ≤ c .before .before .before .before .before .before .before .before .top-of .result = c .before .loop .inv .3 in
-    market-fill (a .d) (a .t2) (c .before .loop .lowest) (c .before .before .before .lesser .result) (len (c .before .before .before .before .before .before .before .before .before .before)) (search needs)
+    market-fill (a .d) (a .t2) (c .before .loop .lowest) (c .before .before .before .before .before .lesser .result) (len (c .before .before .before .before .before .before .before .before .before .before)) (search needs)
     (λ p. rw (← c .before .before .before .before .before .before .before .before .top-of .ensures .0) (omega (arith, c .before .loop .inv .2 p, l, ap (λ (n : ℕ). leastOf (a .d .bound) (c .before .before .before .before .before .before .before .before .top-of .result) (liveIn n (a .t2 .places))) z, least-none (a .d .bound) (c .before .before .before .before .before .before .before .before .top-of .result) (a .t2 .places))))
 
 -- what is still to be written fits
 
 walk-room : (c : tie.At-loop2 Inv-loop μ-loop Inv-loop3 μ-loop3 Inv-loop4 μ-loop4 Inv-loop5 μ-loop5 Inv-loop6 μ-loop6 Inv-loop2 μ-loop2) → c .loop2 .s .at + 3 * length (reported (c .before .before .before .before .before .before .before .before .before .before .before .before .before .before .before .before .args .d .sell) (flat (walkFrom (c .before .before .before .before .before .before .before .before .before .before .before .before .before .before .before .before .args .d) (offers (c .before .before .before .before .before .before .before .before .before .before .before .before .before .before .before .before .args .t2)) (c .loop2 .s .from) (c .loop2 .s .left) (c .loop2 .s .held)))) ≤ 390
-walk-room c = omega (arith, c .loop2 .inv .5 .place, c .before .before .before .before .write-market .ensures .place, ap length (market (c .before .before .before .before .before .before)), simp length-append at (ap length (fills-are (c .before .before .before .before .before .before .before .before .before))), fills-few (c .before .before .before .before .before .before .before .before .before .before .before .before .before .before .before .before .args .d) (c .before .before .before .before .before .before .before .before .before .before .before .before .before .before .before .before .args .t2) (len (c .before .before .before .before .before .before .before .before .before .before .before .before .before .before .before .before)))
+walk-room c = omega (arith, c .loop2 .inv .5 .place, c .before .before .before .before .write-market .ensures .place, ap length (market (c .before .before .before .before .before .before)), simp length-append at (ap length (fills-are (c .before .before .before .before .before .before .before .before .before .before .before))), fills-few (c .before .before .before .before .before .before .before .before .before .before .before .before .before .before .before .before .args .d) (c .before .before .before .before .before .before .before .before .before .before .before .before .before .before .before .before .args .t2) (len (c .before .before .before .before .before .before .before .before .before .before .before .before .before .before .before .before)))
 
 loop2-holds : tie.Need-loop2-holds Inv-loop μ-loop Inv-loop3 μ-loop3 Inv-loop4 μ-loop4 Inv-loop5 μ-loop5 Inv-loop6 μ-loop6 Inv-loop2 μ-loop2
 loop2-holds c =
@@ -197,8 +197,8 @@ on c =
     let g = goes (c .before .before .loop2 .s .left) (c .before .before .loop2 .s .from) (c .before .before .before .before .before .before .before .before .before .before .before .before .before .before .before .before .top-of .result) (sym (c .before .going .ensures) ∙ c .if1 .taken) in
     (g .0, omega (arith, g .1, c .before .before .before .before .before .before .before .before .before .before .before .before .before .before .before .before .top-of .ensures .0), g .1)
 
-above : (c : tie.Then1 Inv-loop μ-loop Inv-loop3 μ-loop3 Inv-loop4 μ-loop4 Inv-loop5 μ-loop5 Inv-loop6 μ-loop6 Inv-loop2 μ-loop2) → (c .before .before .loop2 .s .from ≤ levelOf (c .before .before .before .before .before .before .before .before .before .before .before .before .before .before .before .before .before .before .args .d) (c .before .before .before .before .before .before .before .before .before .before .before .before .before .before .before .before .before .before .args .t2 .places) (c .before .before .before .before .before .before .before .before .before .before .before .before .before .guarantee-of .result) (c .before .before .loop2 .s) .price) × (levelOf (c .before .before .before .before .before .before .before .before .before .before .before .before .before .before .before .before .before .before .args .d) (c .before .before .before .before .before .before .before .before .before .before .before .before .before .before .before .before .before .before .args .t2 .places) (c .before .before .before .before .before .before .before .before .before .before .before .before .before .guarantee-of .result) (c .before .before .loop2 .s) .price ≤ trade.top (c .before .before .before .before .before .before .before .before .before .before .before .before .before .before .before .before .before .before .args .d))
-above c = level-above (c .before .before .before .before .before .before .before .before .before .before .before .before .before .before .before .before .before .before .args .d) (c .before .before .before .before .before .before .before .before .before .before .before .before .before .before .before .before .before .before .args .t2 .places) (c .before .before .before .before .before .before .before .before .before .before .before .before .before .before .before .before .before .before .args .t2 .live) (c .before .before .before .before .before .before .before .before .before .before .before .before .before .guarantee-of .result) (c .before .before .loop2 .s) (c .before .before .loop2 .inv .4) (on c .1)
+above : (c : tie.Then1 Inv-loop μ-loop Inv-loop3 μ-loop3 Inv-loop4 μ-loop4 Inv-loop5 μ-loop5 Inv-loop6 μ-loop6 Inv-loop2 μ-loop2) → (c .before .before .loop2 .s .from ≤ levelOf (c .before .before .before .before .before .before .before .before .before .before .before .before .before .before .before .before .before .before .args .d) (c .before .before .before .before .before .before .before .before .before .before .before .before .before .before .before .before .before .before .args .t2 .places) (c .before .before .before .before .before .before .before .before .before .before .before .guarantee-of .result) (c .before .before .loop2 .s) .price) × (levelOf (c .before .before .before .before .before .before .before .before .before .before .before .before .before .before .before .before .before .before .args .d) (c .before .before .before .before .before .before .before .before .before .before .before .before .before .before .before .before .before .before .args .t2 .places) (c .before .before .before .before .before .before .before .before .before .before .before .guarantee-of .result) (c .before .before .loop2 .s) .price ≤ trade.top (c .before .before .before .before .before .before .before .before .before .before .before .before .before .before .before .before .before .before .args .d))
+above c = level-above (c .before .before .before .before .before .before .before .before .before .before .before .before .before .before .before .before .before .before .args .d) (c .before .before .before .before .before .before .before .before .before .before .before .before .before .before .before .before .before .before .args .t2 .places) (c .before .before .before .before .before .before .before .before .before .before .before .before .before .before .before .before .before .before .args .t2 .live) (c .before .before .before .before .before .before .before .before .before .before .before .guarantee-of .result) (c .before .before .loop2 .s) (c .before .before .loop2 .inv .4) (on c .1)
 
 -- ---- a look: what stands at the two lowest prices
 
@@ -295,10 +295,10 @@ stands c =
 price-of-requires : tie.Need-price-of-requires Inv-loop μ-loop Inv-loop3 μ-loop3 Inv-loop4 μ-loop4 Inv-loop5 μ-loop5 Inv-loop6 μ-loop6 Inv-loop2 μ-loop2
 price-of-requires c κs =
     let k = stands c in
-    (c .before .before .before .before .before .before .before .before .before .before .before .before .before .before .before .before .before .before .guarantee-of .ensures .1, omega (arith, k .low, c .before .before .before .before .before .before .before .before .before .before .before .before .before .before .before .before .before .before .before .before .before .top-of .ensures .1), k .found .small)
+    (c .before .before .before .before .before .before .before .before .before .before .before .before .before .before .before .before .guarantee-of .ensures .1, omega (arith, k .low, c .before .before .before .before .before .before .before .before .before .before .before .before .before .before .before .before .before .before .before .before .before .top-of .ensures .1), k .found .small)
 
-price : (c : tie.After-price-of Inv-loop μ-loop Inv-loop3 μ-loop3 Inv-loop4 μ-loop4 Inv-loop5 μ-loop5 Inv-loop6 μ-loop6 Inv-loop2 μ-loop2) → Priced (c .before .before .before .before .before .before .before .before .before .before .before .before .before .before .before .before .before .before .before .before .before .before .before .before .args .d) (c .before .before .before .before .before .before .before .before .before .before .before .before .before .before .before .before .before .before .before .before .before .before .before .before .args .t2 .places) (c .before .before .before .before .before .before .before .before .before .before .before .before .before .before .before .before .before .before .before .guarantee-of .result) (c .before .before .before .before .before .before .before .before .loop2 .s) (c .price-of .result)
-price c = priced (c .before .before .before .before .before .before .before .before .before .before .before .before .before .before .before .before .before .before .before .before .before .before .before .before .args .d) (c .before .before .before .before .before .before .before .before .before .before .before .before .before .before .before .before .before .before .before .before .before .before .before .before .args .t2 .places) (c .before .before .before .before .before .before .before .before .before .before .before .before .before .before .before .before .before .before .before .guarantee-of .result) (c .before .before .before .before .before .before .before .before .loop2 .s) (len (c .before .before .before .before .before .before .before .before .before .before .before .before .before .before .before .before .before .before .before .before .before .before .before .before)) (c .before .before .before .before .before .before .before .before .loop2 .inv .3) (c .before .before .loop3 .f) (rw (c .before .before .before .before .before .before .before .before .before .before .before .before .before .before .before .before .before .before .before .before .before .before .top-of .ensures .0) at (stands (c .before))) _ (c .price-of .ensures)
+price : (c : tie.After-price-of Inv-loop μ-loop Inv-loop3 μ-loop3 Inv-loop4 μ-loop4 Inv-loop5 μ-loop5 Inv-loop6 μ-loop6 Inv-loop2 μ-loop2) → Priced (c .before .before .before .before .before .before .before .before .before .before .before .before .before .before .before .before .before .before .before .before .before .before .before .before .args .d) (c .before .before .before .before .before .before .before .before .before .before .before .before .before .before .before .before .before .before .before .before .before .before .before .before .args .t2 .places) (c .before .before .before .before .before .before .before .before .before .before .before .before .before .before .before .before .before .guarantee-of .result) (c .before .before .before .before .before .before .before .before .loop2 .s) (c .price-of .result)
+price c = priced (c .before .before .before .before .before .before .before .before .before .before .before .before .before .before .before .before .before .before .before .before .before .before .before .before .args .d) (c .before .before .before .before .before .before .before .before .before .before .before .before .before .before .before .before .before .before .before .before .before .before .before .before .args .t2 .places) (c .before .before .before .before .before .before .before .before .before .before .before .before .before .before .before .before .before .guarantee-of .result) (c .before .before .before .before .before .before .before .before .loop2 .s) (len (c .before .before .before .before .before .before .before .before .before .before .before .before .before .before .before .before .before .before .before .before .before .before .before .before)) (c .before .before .before .before .before .before .before .before .loop2 .inv .3) (c .before .before .loop3 .f) (rw (c .before .before .before .before .before .before .before .before .before .before .before .before .before .before .before .before .before .before .before .before .before .before .top-of .ensures .0) at (stands (c .before))) _ (c .price-of .ensures)
 
 others-fit : (c : tie.After-price-of Inv-loop μ-loop Inv-loop3 μ-loop3 Inv-loop4 μ-loop4 Inv-loop5 μ-loop5 Inv-loop6 μ-loop6 Inv-loop2 μ-loop2) → c .price-of .result .others < 2 ^ 64
 others-fit c = omega (arith, price c .fits, c .before .before .before .before .before .before .before .before .loop2 .inv .3)
@@ -311,11 +311,11 @@ short c = λ k. let p = price c in short-of (c .before .before .before .before .
 
 -- what is to be written: this price's fills, and those of the rest of the walk
 
-level-fills : (c : tie.After-price-of Inv-loop μ-loop Inv-loop3 μ-loop3 Inv-loop4 μ-loop4 Inv-loop5 μ-loop5 Inv-loop6 μ-loop6 Inv-loop2 μ-loop2) → reported (c .before .before .before .before .before .before .before .before .before .before .before .before .before .before .before .before .before .before .before .before .before .before .before .before .args .d .sell) (flat (walkFrom (c .before .before .before .before .before .before .before .before .before .before .before .before .before .before .before .before .before .before .before .before .before .before .before .before .args .d) (offers (c .before .before .before .before .before .before .before .before .before .before .before .before .before .before .before .before .before .before .before .before .before .before .before .before .args .t2)) (c .before .before .before .before .before .before .before .before .loop2 .s .from) (c .before .before .before .before .before .before .before .before .loop2 .s .left) (c .before .before .before .before .before .before .before .before .loop2 .s .held))) ≡ reported (c .before .before .before .before .before .before .before .before .before .before .before .before .before .before .before .before .before .before .before .before .before .before .before .before .args .d .sell) (levelFills (levelOf (c .before .before .before .before .before .before .before .before .before .before .before .before .before .before .before .before .before .before .before .before .before .before .before .before .args .d) (c .before .before .before .before .before .before .before .before .before .before .before .before .before .before .before .before .before .before .before .before .before .before .before .before .args .t2 .places) (c .before .before .before .before .before .before .before .before .before .before .before .before .before .before .before .before .before .before .before .guarantee-of .result) (c .before .before .before .before .before .before .before .before .loop2 .s))) ++ reported (c .before .before .before .before .before .before .before .before .before .before .before .before .before .before .before .before .before .before .before .before .before .before .before .before .args .d .sell) (flat (walkFrom (c .before .before .before .before .before .before .before .before .before .before .before .before .before .before .before .before .before .before .before .before .before .before .before .before .args .d) (offers (c .before .before .before .before .before .before .before .before .before .before .before .before .before .before .before .before .before .before .before .before .before .before .before .before .args .t2)) (c .price-of .result .price + 1) (c .price-of .result .after) (c .before .before .before .before .before .before .before .before .loop2 .s .held + c .price-of .result .contra)))
+level-fills : (c : tie.After-price-of Inv-loop μ-loop Inv-loop3 μ-loop3 Inv-loop4 μ-loop4 Inv-loop5 μ-loop5 Inv-loop6 μ-loop6 Inv-loop2 μ-loop2) → reported (c .before .before .before .before .before .before .before .before .before .before .before .before .before .before .before .before .before .before .before .before .before .before .before .before .args .d .sell) (flat (walkFrom (c .before .before .before .before .before .before .before .before .before .before .before .before .before .before .before .before .before .before .before .before .before .before .before .before .args .d) (offers (c .before .before .before .before .before .before .before .before .before .before .before .before .before .before .before .before .before .before .before .before .before .before .before .before .args .t2)) (c .before .before .before .before .before .before .before .before .loop2 .s .from) (c .before .before .before .before .before .before .before .before .loop2 .s .left) (c .before .before .before .before .before .before .before .before .loop2 .s .held))) ≡ reported (c .before .before .before .before .before .before .before .before .before .before .before .before .before .before .before .before .before .before .before .before .before .before .before .before .args .d .sell) (levelFills (levelOf (c .before .before .before .before .before .before .before .before .before .before .before .before .before .before .before .before .before .before .before .before .before .before .before .before .args .d) (c .before .before .before .before .before .before .before .before .before .before .before .before .before .before .before .before .before .before .before .before .before .before .before .before .args .t2 .places) (c .before .before .before .before .before .before .before .before .before .before .before .before .before .before .before .before .before .guarantee-of .result) (c .before .before .before .before .before .before .before .before .loop2 .s))) ++ reported (c .before .before .before .before .before .before .before .before .before .before .before .before .before .before .before .before .before .before .before .before .before .before .before .before .args .d .sell) (flat (walkFrom (c .before .before .before .before .before .before .before .before .before .before .before .before .before .before .before .before .before .before .before .before .before .before .before .before .args .d) (offers (c .before .before .before .before .before .before .before .before .before .before .before .before .before .before .before .before .before .before .before .before .before .before .before .before .args .t2)) (c .price-of .result .price + 1) (c .price-of .result .after) (c .before .before .before .before .before .before .before .before .loop2 .s .held + c .price-of .result .contra)))
 level-fills c =
     let p = price c in
     let t = on (c .before .before .before .before .before .before) in
-    walk-fills (c .before .before .before .before .before .before .before .before .before .before .before .before .before .before .before .before .before .before .before .before .before .before .before .before .args .d) (c .before .before .before .before .before .before .before .before .before .before .before .before .before .before .before .before .before .before .before .before .before .before .before .before .args .t2 .places) (c .before .before .before .before .before .before .before .before .before .before .before .before .before .before .before .before .before .before .before .before .before .before .before .before .args .t2 .live) (c .before .before .before .before .before .before .before .before .before .before .before .before .before .before .before .before .before .before .before .guarantee-of .result) (c .before .before .before .before .before .before .before .before .loop2 .s) (guaranteed (c .before .before .before .before .before .before .before .before .before .before .before .before .before .before .before .before .before .before .before)) (c .before .before .before .before .before .before .before .before .loop2 .inv .4) (t .1) (t .0) _ _ _ (ap (λ (n : ℕ). n + 1) (p .price-is)) (p .after-is) (ap (λ (n : ℕ). c .before .before .before .before .before .before .before .before .loop2 .s .held + n) (p .contra-is))
+    walk-fills (c .before .before .before .before .before .before .before .before .before .before .before .before .before .before .before .before .before .before .before .before .before .before .before .before .args .d) (c .before .before .before .before .before .before .before .before .before .before .before .before .before .before .before .before .before .before .before .before .before .before .before .before .args .t2 .places) (c .before .before .before .before .before .before .before .before .before .before .before .before .before .before .before .before .before .before .before .before .before .before .before .before .args .t2 .live) (c .before .before .before .before .before .before .before .before .before .before .before .before .before .before .before .before .before .guarantee-of .result) (c .before .before .before .before .before .before .before .before .loop2 .s) (guaranteed (c .before .before .before .before .before .before .before .before .before .before .before .before .before .before .before .before .before)) (c .before .before .before .before .before .before .before .before .loop2 .inv .4) (t .1) (t .0) _ _ _ (ap (λ (n : ℕ). n + 1) (p .price-is)) (p .after-is) (ap (λ (n : ℕ). c .before .before .before .before .before .before .before .before .loop2 .s .held + n) (p .contra-is))
 
 -- ---- the cut: the fractions are added up
 
@@ -605,12 +605,12 @@ loop2-again c =
       omega (arith, p .contra-low, c .before .before .before .before .before .before .before .before .before .before .before .before .before .before .before .before .before .before .before .before .before .loop2 .inv .1),
       omega (arith, c .before .before .before .loop6 .inv .1, c .before .before .before .before .before .before .before .before .before .before .before .before .before .before .before .before .before .before .before .before .before .loop2 .inv .2),
       omega (arith, c .before .before .before .before .before .before .before .before .before .before .before .before .before .before .before .before .before .before .before .before .before .loop2 .inv .3),
-      rw (p .price-is) (rest-is (a .d) (a .t2 .places) (a .t2 .live) (c .before .before .before .before .before .before .before .before .before .before .before .before .before .before .before .before .before .before .before .before .before .before .before .before .before .before .before .before .before .before .before .before .guarantee-of .result) s (guaranteed (c .before .before .before .before .before .before .before .before .before .before .before .before .before .before .before .before .before .before .before .before .before .before .before .before .before .before .before .before .before .before .before .before)) (c .before .before .before .before .before .before .before .before .before .before .before .before .before .before .before .before .before .before .before .before .before .loop2 .inv .4) (on (c .before .before .before .before .before .before .before .before .before .before .before .before .before .before .before .before .before .before .before) .1) (s .rest - c .before .before .before .before .before .before .before .before .before .before .before .before .before .price-of .result .customers - c .before .before .before .before .before .before .before .before .before .before .before .before .before .price-of .result .others) (len (c .before .before .before .before .before .before .before .before .before .before .before .before .before .before .before .before .before .before .before .before .before .before .before .before .before .before .before .before .before .before .before .before .before .before .before .before .before)) (c .before .before .before .before .before .before .before .before .before .before .before .before .before .before .before .before .before .before .before .before .before .loop2 .inv .3) (omega (arith, p .gone, p .fits))),
+      rw (p .price-is) (rest-is (a .d) (a .t2 .places) (a .t2 .live) (c .before .before .before .before .before .before .before .before .before .before .before .before .before .before .before .before .before .before .before .before .before .before .before .before .before .before .before .before .before .before .guarantee-of .result) s (guaranteed (c .before .before .before .before .before .before .before .before .before .before .before .before .before .before .before .before .before .before .before .before .before .before .before .before .before .before .before .before .before .before)) (c .before .before .before .before .before .before .before .before .before .before .before .before .before .before .before .before .before .before .before .before .before .loop2 .inv .4) (on (c .before .before .before .before .before .before .before .before .before .before .before .before .before .before .before .before .before .before .before) .1) (s .rest - c .before .before .before .before .before .before .before .before .before .before .before .before .before .price-of .result .customers - c .before .before .before .before .before .before .before .before .before .before .before .before .before .price-of .result .others) (len (c .before .before .before .before .before .before .before .before .before .before .before .before .before .before .before .before .before .before .before .before .before .before .before .before .before .before .before .before .before .before .before .before .before .before .before .before .before)) (c .before .before .before .before .before .before .before .before .before .before .before .before .before .before .before .before .before .before .before .before .before .loop2 .inv .3) (omega (arith, p .gone, p .fits))),
       left-turn (rw f at (c .before .before .before .before .before .before .before .before .before .before .before .before .before .before .before .before .before .before .before .before .before .loop2 .inv .5)) w,
       λ k h.
           let z = looked-all (c .before .before .before .before .before .before .before .before .before .before .before .before .before .before) in
           let n : s .known ≡ false = turned (s .known) k in
-          let q : c .before .before .before .before .before .before .before .before .before .before .before .before .before .before .before .loop3 .f .price ≡ levelOf (a .d) (a .t2 .places) (c .before .before .before .before .before .before .before .before .before .before .before .before .before .before .before .before .before .before .before .before .before .before .before .before .before .before .before .before .before .before .before .before .guarantee-of .result) s .price = sym (priced-price (a .d) (c .before .before .before .before .before .before .before .before .before .before .before .before .before .before .before .before .before .before .before .before .before .before .before .before .before .before .before .before .before .before .before .before .guarantee-of .result) s (c .before .before .before .before .before .before .before .before .before .before .before .before .before .before .before .loop3 .f) (c .before .before .before .before .before .before .before .before .before .before .before .before .before .price-of .result) (c .before .before .before .before .before .before .before .before .before .before .before .before .before .price-of .ensures)) ∙ p .price-is in
+          let q : c .before .before .before .before .before .before .before .before .before .before .before .before .before .before .before .loop3 .f .price ≡ levelOf (a .d) (a .t2 .places) (c .before .before .before .before .before .before .before .before .before .before .before .before .before .before .before .before .before .before .before .before .before .before .before .before .before .before .before .before .before .before .guarantee-of .result) s .price = sym (priced-price (a .d) (c .before .before .before .before .before .before .before .before .before .before .before .before .before .before .before .before .before .before .before .before .before .before .before .before .before .before .before .before .before .before .guarantee-of .result) s (c .before .before .before .before .before .before .before .before .before .before .before .before .before .before .before .loop3 .f) (c .before .before .before .before .before .before .before .before .before .before .before .before .before .price-of .result) (c .before .before .before .before .before .before .before .before .before .before .before .before .before .price-of .ensures)) ∙ p .price-is in
           sees-second (a .d .bound) (c .before .before .before .before .before .before .before .before .before .before .before .before .before .before .before .before .before .before .before .before .before .before .before .before .before .before .before .before .before .before .before .before .before .before .before .top-of .result) (a .t2 .places) (s .rest) (c .before .before .before .before .before .before .before .before .before .before .before .before .before .before .before .loop3 .f) (c .before .before .before .before .before .before .before .before .before .before .before .before .before .before .before .loop3 .n) (rw z at (c .before .before .before .before .before .before .before .before .before .before .before .before .before .before .before .loop3 .inv .2 n)) (len (c .before .before .before .before .before .before .before .before .before .before .before .before .before .before .before .before .before .before .before .before .before .before .before .before .before .before .before .before .before .before .before .before .before .before .before .before .before)) (c .before .before .before .before .before .before .before .before .before .before .before .before .before .before .before .before .before .before .before .before .before .loop2 .inv .3) _ (rw q (omega (arith, p .gone, p .fits))) (omega (arith, q, p .price-is, h)),
     )
 
@@ -621,7 +621,7 @@ returns c =
     let a = c .before .before .before .before .before .before .before .before .before .before .before .before .before .before .before .before .before .before .args in
     let e = stays (c .before .before .loop2 .s .left) (c .before .before .loop2 .s .from) (c .before .before .before .before .before .before .before .before .before .before .before .before .before .before .before .before .top-of .result) (sym (c .before .going .ensures) ∙ c .if1 .left) in
     let w = left-done (rw (walk-done (a .d) (offers (a .t2)) (c .before .before .loop2 .s .from) (c .before .before .loop2 .s .left) (c .before .before .loop2 .s .held) (⊎-elim (λ z. inl z) (λ z. inr (omega (arith, c .before .before .before .before .before .before .before .before .before .before .before .before .before .before .before .before .top-of .ensures .0))) e)) at (c .before .before .loop2 .inv .5)) in
-    rw (fills-are (c .before .before .before .before .before .before .before .before .before .before .before)) (wrote-append (rw (market (c .before .before .before .before .before .before .before .before)) at (c .before .before .before .before .before .before .write-market .ensures)) w)
+    rw (fills-are (c .before .before .before .before .before .before .before .before .before .before .before .before .before)) (wrote-append (rw (market (c .before .before .before .before .before .before .before .before)) at (c .before .before .before .before .before .before .write-market .ensures)) w)
 
 top-of-requires : tie.Need-top-of-requires Inv-loop μ-loop Inv-loop3 μ-loop3 Inv-loop4 μ-loop4 Inv-loop5 μ-loop5 Inv-loop6 μ-loop6 Inv-loop2 μ-loop2
 top-of-requires c κs = search needs
@@ -629,14 +629,14 @@ top-of-requires c κs = search needs
 wide-requires : tie.Need-wide-requires Inv-loop μ-loop Inv-loop3 μ-loop3 Inv-loop4 μ-loop4 Inv-loop5 μ-loop5 Inv-loop6 μ-loop6 Inv-loop2 μ-loop2
 wide-requires c κs = search needs
 
-ones-requires : tie.Need-ones-requires Inv-loop μ-loop Inv-loop3 μ-loop3 Inv-loop4 μ-loop4 Inv-loop5 μ-loop5 Inv-loop6 μ-loop6 Inv-loop2 μ-loop2
-ones-requires c κs = search needs
-
 wide-requires-2 : tie.Need-wide-requires-2 Inv-loop μ-loop Inv-loop3 μ-loop3 Inv-loop4 μ-loop4 Inv-loop5 μ-loop5 Inv-loop6 μ-loop6 Inv-loop2 μ-loop2
 wide-requires-2 c κs = search needs
 
 lesser-requires : tie.Need-lesser-requires Inv-loop μ-loop Inv-loop3 μ-loop3 Inv-loop4 μ-loop4 Inv-loop5 μ-loop5 Inv-loop6 μ-loop6 Inv-loop2 μ-loop2
 lesser-requires c κs = search needs
+
+live-count-requires : tie.Need-live-count-requires Inv-loop μ-loop Inv-loop3 μ-loop3 Inv-loop4 μ-loop4 Inv-loop5 μ-loop5 Inv-loop6 μ-loop6 Inv-loop2 μ-loop2
+live-count-requires c κs = search needs
 
 unseen-requires : tie.Need-unseen-requires Inv-loop μ-loop Inv-loop3 μ-loop3 Inv-loop4 μ-loop4 Inv-loop5 μ-loop5 Inv-loop6 μ-loop6 Inv-loop2 μ-loop2
 unseen-requires c κs = search needs
@@ -728,10 +728,11 @@ write-all-spec =
     μ-loop2
     top-of-requires
     wide-requires
-    ones-requires
-    guarantee-of-requires
     wide-requires-2
     lesser-requires
+    sub-left
+    live-count-requires
+    guarantee-of-requires
     unseen-requires
     loop-holds
     first-set-requires
@@ -744,7 +745,6 @@ write-all-spec =
     loop-less
     loop-again
     write-market-requires
-    sub-t42
     nothing-requires
     loop2-holds
     going-requires
