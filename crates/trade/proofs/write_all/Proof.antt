@@ -95,7 +95,7 @@ live-fits : (c : tie.Start Inv-loop μ-loop Inv-loop3 μ-loop3 Inv-loop4 μ-loop
 live-fits c = search needs
 
 guarantee-of-requires : tie.Need-guarantee-of-requires Inv-loop μ-loop Inv-loop3 μ-loop3 Inv-loop4 μ-loop4 Inv-loop5 μ-loop5 Inv-loop6 μ-loop6 Inv-loop2 μ-loop2
-guarantee-of-requires c κs = c .before .before .before .wide .ensures .1
+guarantee-of-requires c κs = omega (arith, c .before .before .before .wide .ensures .1)
 
 done-so : (b : Bool) → not b ≡ false → b ≡ true
 done-so true e = refl
