@@ -10,7 +10,7 @@ use borrow.Author.Tests.{lt-ltb, le-ltb, le-leb, lt-leb, eq-eqb, ne-eqb}
 use lib.Dec.{leb, ltb, eqb}
 use lib.ListN.{length, getD}
 use lib.Pow.{pow-pos}
-use Rattle.base.proofs.Bools.{bool-or, and-both, and-no-left, and-no-right}
+use Rattle.base.proofs.Bools.{by, bool-or, and-both, and-no-left, and-no-right}
 use Rattle.base.proofs.Numbers.{le-or-lt, eq-or}
 use Rattle.words.specs.rules.Bits.{bitAt, withBit, withoutBit, trailingZeros, withoutLowest}
 use Rattle.words.proofs.BitLaws.{bit-or, bit-half, bit-low, bit-le, no-bit, past-bit, with-clear, with-same, with-other, without-set, without-not, without-in, without-lt, without-lowest, lowest-set, LowestBit}
@@ -35,52 +35,71 @@ wrote-none : (words : List ℕ) (at next : ℕ) → next ≡ at → WroteFills w
 unfolding written
 wrote-none words at next e = record { words = refl; place = omega arith }
 
-pub hunting-at : (last turns : Bool) (word k at : ℕ) → huntingOf last turns word k at .at ≡ at
-unfolding huntingOf
-hunting-at last turns word k at = refl
+-- what is kept by a look, and what a hand is made with
+abbrev pub Kept : Bool → Bool → ℕ → ℕ → Hand → Type 0
+Kept last turns k at n = (n .last ≡ last) × (n .turns ≡ turns) × (n .k ≡ k) × (n .at ≡ at) × (n .done ≡ false)
 
-pub hand-at : (last turns : Bool) (word n k at : ℕ) → handOf last turns word n k at .at ≡ at
-unfolding handOf huntingOf
-hand-at last turns word n k at = go (ltb n 4294967295)
-  where
-    go : (b : Bool) → cond b (record { done = false; last = last; turns = turns; run = word; late = 0; unseen = 0; edge = 4294967296; first = 4294967296; latest = 0; k = k; at = at }) (huntingOf last turns word k at) .at ≡ at
-    go true = refl
-    go false = refl
+pub hunting-kept : (last turns : Bool) (word k at : ℕ) → Kept last turns k at (huntingOf last turns word k at)
+unfolding huntingOf
+hunting-kept last turns word k at = (refl, refl, refl, refl, refl)
+
+pub hand-kept : (last turns : Bool) (word n k at : ℕ) → Kept last turns k at (handOf last turns word n k at)
+unfolding handOf
+hand-kept last turns word n k at = by (Kept last turns k at) (ltb n 4294967295) _ _ (λ _. (refl, refl, refl, refl, refl)) (λ _. hunting-kept last turns word k at)
+
+-- where the run is served
+module _ (h : Hand) (l : Price) (spare at : ℕ) where
+  pub late-is : (h .late ≡ 0 → ⊥) → (nextOf h l spare at ≡ huntingOf (h .last) (h .turns) (h .late) (h .k) (h .at)) × (nextFills h l ≡ [])
+  unfolding nextOf nextFills
+  late-is n = let p = ne-eqb (h .late) 0 n in (rw p refl, rw p refl)
+
+  pub done-is : h .late ≡ 0 → h .last ≡ true → (nextOf h l spare at ≡ doneAt h) × (nextFills h l ≡ [])
+  unfolding nextOf nextFills
+  done-is e q =
+      let p = eq-eqb (h .late) 0 e in (
+        ap₂ {C = Hand} (λ (a b : Bool). cond a (cond b (doneAt h) (handOf true (l .turns) (l .others) (l .other) (cond (l .turns) (l .shared) spare) at)) (huntingOf (h .last) (h .turns) (h .late) (h .k) (h .at))) p q,
+        ap₂ {C = List Fill} (λ (a b : Bool). cond a (cond b [] (fillOf 0 (l .reported) (l .contra))) []) p q,
+      )
+
+  pub others-is : h .late ≡ 0 → h .last ≡ false → (nextOf h l spare at ≡ handOf true (l .turns) (l .others) (l .other) (cond (l .turns) (l .shared) spare) at) × (nextFills h l ≡ fillOf 0 (l .reported) (l .contra))
+  unfolding nextOf nextFills
+  others-is e q =
+      let p = eq-eqb (h .late) 0 e in (
+        ap₂ {C = Hand} (λ (a b : Bool). cond a (cond b (doneAt h) (handOf true (l .turns) (l .others) (l .other) (cond (l .turns) (l .shared) spare) at)) (huntingOf (h .last) (h .turns) (h .late) (h .k) (h .at))) p q,
+        ap₂ {C = List Fill} (λ (a b : Bool). cond a (cond b [] (fillOf 0 (l .reported) (l .contra))) []) p q,
+      )
 
 -- the others, after the Contra Order's fill, which ends before n
 pub others-are : (turns : Bool) (word m shared spare n : ℕ) (words : List ℕ) (at : ℕ) (fs : List Fill) (ys : List ℕ) (h : Hand) (b : Bool) → turns ≡ b → WroteFills words at fs n ys → h ≡ handOf true b word m (cond b shared spare) n
     → WroteFills words at fs (h .at) ys × (h ≡ handOf true turns word m (cond turns shared spare) (h .at))
 others-are turns word m shared spare n words at fs ys h b e w q =
-    let f : h .at ≡ n = ap (λ (x : Hand). x .at) q ∙ hand-at true b word m (cond b shared spare) n in
+    let f : h .at ≡ n = ap (λ (x : Hand). x .at) q ∙ hand-kept true b word m (cond b shared spare) n .3 in
     (rw f w, rw e (q ∙ ap (handOf true b word m (cond b shared spare)) (sym f)))
 
 module _ (h : Hand) (l : Price) where
   pub next-late : (spare : ℕ) (words : List ℕ) (r : Hand) → (h .late ≡ 0 → ⊥) → r ≡ huntingOf (h .last) (h .turns) (h .late) (h .k) (h .at)
       → WroteFills words (h .at) (nextFills h l) (r .at) words × (r ≡ nextOf h l spare (r .at))
-  unfolding nextFills nextOf
   next-late spare words r n e =
-      let f : r .at ≡ h .at = ap (λ (x : Hand). x .at) e ∙ hunting-at (h .last) (h .turns) (h .late) (h .k) (h .at) in
-      rw (ne-eqb (h .late) 0 n) (wrote-none words (h .at) (r .at) f, e)
+      let f : r .at ≡ h .at = ap (λ (x : Hand). x .at) e ∙ hunting-kept (h .last) (h .turns) (h .late) (h .k) (h .at) .3 in
+      let x = late-is h l spare (r .at) n in
+      (rw (x .1) (wrote-none words (h .at) (r .at) f), e ∙ sym (x .0))
 
   pub next-writes : h .late ≡ 0 → h .last ≡ false → nextFills h l ≡ fillOf 0 (l .reported) (l .contra)
-  unfolding nextFills
-  next-writes e f = rw (e, f)
+  next-writes e f = others-is h l 0 0 e f .1
 
   pub next-others : (spare : ℕ) (words ys : List ℕ) (r : Hand) → h .late ≡ 0 → h .last ≡ false → WroteFills words (h .at) (fillOf 0 (l .reported) (l .contra)) (r .at) ys
       → r ≡ handOf true (l .turns) (l .others) (l .other) (cond (l .turns) (l .shared) spare) (r .at)
       → WroteFills words (h .at) (nextFills h l) (r .at) ys × (r ≡ nextOf h l spare (r .at))
-  unfolding nextOf
-  next-others spare words ys r e f w q = (rw (next-writes e f) w, rw (eq-eqb (h .late) 0 e, f) q)
+  next-others spare words ys r e f w q = let x = others-is h l spare (r .at) e f in (rw (x .1) w, q ∙ sym (x .0))
 
   pub next-done : (spare : ℕ) (words : List ℕ) → h .late ≡ 0 → h .last ≡ true → WroteFills words (h .at) (nextFills h l) (h .at) words × (doneAt h ≡ nextOf h l spare (h .at))
-  unfolding nextFills nextOf
-  next-done spare words e f = rw (eq-eqb (h .late) 0 e, f) (wrote-none words (h .at) (h .at) refl, refl)
+  next-done spare words e f = let x = done-is h l spare (h .at) e f in (rw (x .1) (wrote-none words (h .at) (h .at) refl), sym (x .0))
 
   pub served-again : (c : ℕ) (r : Response) (words : List ℕ) (n : Hand) → h .edge ≤ r .sequence → n ≡ huntingOf (h .last) (h .turns) (h .run + h .late) (h .k) (h .at)
       → WroteFills words (h .at) (servedFills h l c r) (n .at) words × (n ≡ servedOf h l c r (n .at))
   unfolding servedFills servedOf
   served-again c r words n le e =
-      let f : n .at ≡ h .at = ap (λ (x : Hand). x .at) e ∙ hunting-at (h .last) (h .turns) (h .run + h .late) (h .k) (h .at) in
+      let f : n .at ≡ h .at = ap (λ (x : Hand). x .at) e ∙ hunting-kept (h .last) (h .turns) (h .run + h .late) (h .k) (h .at) .3 in
       rw (le-leb (h .edge) (r .sequence) le) (wrote-none words (h .at) (n .at) f, e)
 
   pub served-writes : (c : ℕ) (r : Response) (g : Given) → r .sequence < h .edge → Gives (h .turns) (l .shared) (l .total) c (h .k) (r .size) g → servedFills h l c r ≡ fillOf (r .sequence) (l .reported) (g .quantity)
@@ -699,28 +718,20 @@ module _ (ps : List Response) (h : Hand) (size : length ps ≡ 64) (s : Serves p
       (le-or-lt (h .edge) (r .sequence))
 
   -- those that come late, the others, or nothing
-  late-is : (l : Price) (spare at : ℕ) → (h .late ≡ 0 → ⊥) → nextOf h l spare at ≡ huntingOf (h .last) (h .turns) (h .late) (h .k) (h .at)
-  unfolding nextOf
-  late-is l spare at n = rw (ne-eqb (h .late) 0 n)
-
-  done-is : (l : Price) (spare at : ℕ) → h .late ≡ 0 → h .last ≡ true → serveWork (nextOf h l spare at) ≡ 0
-  unfolding nextOf doneAt serveWork
-  done-is l spare at e f = rw (eq-eqb (h .late) 0 e, f)
-
-  others-is : (l : Price) (spare at : ℕ) → h .late ≡ 0 → h .last ≡ false → nextOf h l spare at ≡ handOf true (l .turns) (l .others) (l .other) (cond (l .turns) (l .shared) spare) at
-  unfolding nextOf
-  others-is l spare at e f = rw (eq-eqb (h .late) 0 e, f)
+  done-work : serveWork (doneAt h) ≡ 0
+  unfolding doneAt serveWork
+  done-work = refl
 
   pub work-next : (l : Price) (spare at : ℕ) → h .run ≡ 0 → l .others < 2 ^ 64 → serveWork (nextOf h l spare at) < serveWork h
   work-next l spare at gone fits =
       ⊎-elim
       (λ e.
       ⊎-elim
-      (λ f. omega (arith, done-is l spare at e f, work-of h going))
-      (λ f. rw (others-is l spare at e f) (others-work e f))
+      (λ f. rw (done-is h l spare at e f .0) (omega (arith, done-work, work-of h going)))
+      (λ f. rw (others-is h l spare at e f .0) (others-work e f))
       (bool-or (h .last)))
       (λ n.
-      hunting-work (nextOf h l spare at) h (h .turns) (h .late) (h .k) (h .at) (late-is l spare at n) (omega arith) (omega (arith, s .fits)) going (omega arith)
+      hunting-work (nextOf h l spare at) h (h .turns) (h .late) (h .k) (h .at) (late-is h l spare at n .0) (omega arith) (omega (arith, s .fits)) going (omega arith)
       (is-idle h (first-high n) none) none)
       (eq-or (h .late) 0)
     where

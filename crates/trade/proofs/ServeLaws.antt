@@ -25,7 +25,7 @@ use Rattle.trade.specs.declared.Price.{Price}
 use Rattle.trade.specs.inside.Code.{inTurnOf, rankOf, quantityOf, remainderOf, dealt, eachFills, shareFills, placeFills, fractionsIn, Short, huntingOf, handOf, doneAt, metOf, nextFills, nextOf, servedFills, servedOf}
 use Rattle.trade.proofs.CodeLaws.{turn-of, live-short}
 use Rattle.trade.proofs.WriteLaws.{Pick, each-pick, each-none, shares-all, shares-parts, only, remainder-le}
-use Rattle.trade.proofs.RunLaws.{restOf, Serves, serves-hand, serves-met, serves-pick, serves-served, serves-again, serves-next, serves-others, serves-done}
+use Rattle.trade.proofs.RunLaws.{Kept, hunting-kept, hand-kept, late-is, done-is, others-is, restOf, Serves, serves-hand, serves-met, serves-pick, serves-served, serves-again, serves-next, serves-others, serves-done}
 
 -- ---- one response alone
 
@@ -128,18 +128,6 @@ module _ (l : Price) (c : ℕ) (ps : List Response) where
 
 -- ---- the turns of the loop that serves
 
--- what is kept by a look, and what a hand is made with
-abbrev Kept : Bool → Bool → ℕ → ℕ → Hand → Type 0
-Kept last turns k at n = (n .last ≡ last) × (n .turns ≡ turns) × (n .k ≡ k) × (n .at ≡ at) × (n .done ≡ false)
-
-hunting-kept : (last turns : Bool) (word k at : ℕ) → Kept last turns k at (huntingOf last turns word k at)
-unfolding huntingOf
-hunting-kept last turns word k at = (refl, refl, refl, refl, refl)
-
-hand-kept : (last turns : Bool) (word n k at : ℕ) → Kept last turns k at (handOf last turns word n k at)
-unfolding handOf
-hand-kept last turns word n k at = by (Kept last turns k at) (ltb n 4294967295) _ _ (λ _. (refl, refl, refl, refl, refl)) (λ _. hunting-kept last turns word k at)
-
 met-kept : (h : Hand) (t i : ℕ) → Kept (h .last) (h .turns) (h .k) (h .at) (metOf h t i)
 unfolding metOf
 met-kept h t i =
@@ -157,26 +145,6 @@ done-turns h = refl
 done-last : (h : Hand) → doneAt h .last ≡ true
 unfolding doneAt
 done-last h = refl
-
--- where the run is served
-module _ (h : Hand) (l : Price) (spare at : ℕ) where
-  next-late : eqb (h .late) 0 ≡ false → (nextOf h l spare at ≡ huntingOf (h .last) (h .turns) (h .late) (h .k) (h .at)) × (nextFills h l ≡ [])
-  unfolding nextOf nextFills
-  next-late p = (rw p refl, rw p refl)
-
-  next-done : eqb (h .late) 0 ≡ true → h .last ≡ true → (nextOf h l spare at ≡ doneAt h) × (nextFills h l ≡ [])
-  unfolding nextOf nextFills
-  next-done p q = (
-    ap₂ {C = Hand} (λ (a b : Bool). cond a (cond b (doneAt h) (handOf true (l .turns) (l .others) (l .other) (cond (l .turns) (l .shared) spare) at)) (huntingOf (h .last) (h .turns) (h .late) (h .k) (h .at))) p q,
-    ap₂ {C = List Fill} (λ (a b : Bool). cond a (cond b [] (fillOf 0 (l .reported) (l .contra))) []) p q,
-  )
-
-  next-others : eqb (h .late) 0 ≡ true → h .last ≡ false → (nextOf h l spare at ≡ handOf true (l .turns) (l .others) (l .other) (cond (l .turns) (l .shared) spare) at) × (nextFills h l ≡ fillOf 0 (l .reported) (l .contra))
-  unfolding nextOf nextFills
-  next-others p q = (
-    ap₂ {C = Hand} (λ (a b : Bool). cond a (cond b (doneAt h) (handOf true (l .turns) (l .others) (l .other) (cond (l .turns) (l .shared) spare) at)) (huntingOf (h .last) (h .turns) (h .late) (h .k) (h .at))) p q,
-    ap₂ {C = List Fill} (λ (a b : Bool). cond a (cond b [] (fillOf 0 (l .reported) (l .contra))) []) p q,
-  )
 
 module _ (l : Price) (c : ℕ) (ps : List Response) where
   -- what a hand has still to write
@@ -264,20 +232,20 @@ module _ (l : Price) (c : ℕ) (ps : List Response) where
           go : (a b : Bool) → eqb (h .late) 0 ≡ a → h .last ≡ b → Hands (nextOf h l spare at) × (toServe h ≡ nextFills h l ++ toServe (nextOf h l spare at))
           go false b p q =
               let v = serves-next ps h e (g .serves) l spare at z y (eqb-false (h .late) 0 p) in
-              let x = next-late h l spare at p in
+              let x = late-is h l spare at (eqb-false (h .late) 0 p) in
               let k = hunting-kept (h .last) (h .turns) (h .late) (h .k) (h .at) in
               rw (x .0, x .1) (hands-of _ (h .last) (h .turns) (h .k) (h .at) k (rw (x .0) at (v .0)) (g .low) (g .short), sym (to-serve (huntingOf (h .last) (h .turns) (h .late) (h .k) (h .at)) (h .last) (h .turns) (h .k) (h .at) (restOf h) k (rw (x .0) at (v .1))))
           go true true p q =
               let v = serves-done ps h in
               let n : restOf h ≡ 0 = rest-late ∙ eqb-true (h .late) 0 p in
-              let x = next-done h l spare at p q in
+              let x = done-is h l spare at (eqb-true (h .late) 0 p) q in
               rw (x .0, x .1) (
                 record { serves = v .0; low = done-low h; short = λ f. g .short (sym (done-turns h) ∙ f); done = λ _. (done-last h, v .1) },
                 ap₂ {C = List Fill} (λ (b : Bool) (r : ℕ). serveFills l c ps b (h .turns) (h .k) r) q n ∙ serve-done l c ps (h .turns) (h .k) ∙ sym (done-serve h),
               )
           go true false p q =
               let v = serves-others ps h l spare at e (eqb-true (h .late) 0 p) q fits rank in
-              let x = next-others h l spare at p q in
+              let x = others-is h l spare at (eqb-true (h .late) 0 p) q in
               let n : restOf h ≡ 0 = rest-late ∙ eqb-true (h .late) 0 p in
               let m = cond (l .turns) (l .shared) spare in
               let k = hand-kept true (l .turns) (l .others) (l .other) m at in

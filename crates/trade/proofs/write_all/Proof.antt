@@ -8,6 +8,7 @@ use native.Mathlib.Omega.{arith}
 use lib.Dec.{eqb}
 use lib.ListN.{length, getD, length-append}
 use borrow.Author.Needs.{needs}
+use borrow.Author.Tests.{not-true, not-false}
 use Rattle.base.specs.Lists.{filter, sum}
 use Rattle.base.proofs.Bools.{bool-or}
 use Rattle.base.proofs.ListLaws.{length-mapped}
@@ -96,14 +97,6 @@ live-fits c = search needs
 
 guarantee-of-requires : tie.Need-guarantee-of-requires Inv-loop μ-loop Inv-loop3 μ-loop3 Inv-loop4 μ-loop4 Inv-loop5 μ-loop5 Inv-loop6 μ-loop6 Inv-loop2 μ-loop2
 guarantee-of-requires c κs = omega (arith, c .before .before .before .wide .ensures .1)
-
-done-so : (b : Bool) → not b ≡ false → b ≡ true
-done-so true e = refl
-done-so false e = absurd (true≢false e)
-
-turned : (b : Bool) → not b ≡ true → b ≡ false
-turned true e = absurd (false≢true e)
-turned false e = refl
 
 -- ---- the lowest working price, for the market order
 
@@ -481,7 +474,7 @@ loop6-holds c =
 -- not done yet
 
 going-on : (c : tie.Then6 Inv-loop μ-loop Inv-loop3 μ-loop3 Inv-loop4 μ-loop4 Inv-loop5 μ-loop5 Inv-loop6 μ-loop6 Inv-loop2 μ-loop2) → c .before .before .loop6 .h .done ≡ false
-going-on c = turned (c .before .before .loop6 .h .done) (c .if6 .taken)
+going-on c = not-true (c .before .before .loop6 .h .done) (c .if6 .taken)
 
 met-place : (c : tie.After-first-set5 Inv-loop μ-loop Inv-loop3 μ-loop3 Inv-loop4 μ-loop4 Inv-loop5 μ-loop5 Inv-loop6 μ-loop6 Inv-loop2 μ-loop2) → Turn (c .before .before .before .before .before .before .before .before .before .before .before .before .before .before .before .before .before .before .before .before .before .before .before .before .before .before .before .before .before .before .before .before .before .before .before .before .before .before .before .args .t2 .places) (c .before .before .before .before .before .loop6 .h .unseen) (c .first-set5 .result)
 met-place c = turn-of (c .before .before .before .before .before .before .before .before .before .before .before .before .before .before .before .before .before .before .before .before .before .before .before .before .before .before .before .before .before .before .before .before .before .before .before .before .before .before .before .args .t2 .places) (c .before .before .before .before .before .loop6 .h .unseen) _ (len (c .before .before .before .before .before .before .before .before .before .before .before .before .before .before .before .before .before .before .before .before .before .before .before .before .before .before .before .before .before .before .before .before .before .before .before .before .before .before .before)) (omega (arith, c .before .if7 .taken)) (omega (arith, c .before .before .before .before .before .loop6 .inv .0 .serves .fits)) (c .first-set5 .ensures)
@@ -597,7 +590,7 @@ loop2-again c =
     let s = c .before .before .before .before .before .before .before .before .before .before .before .before .before .before .before .before .before .before .before .before .before .loop2 .s in
     let p = price (c .before .before .before .before .before .before .before .before .before .before .before .before .before) in
     let u = above (c .before .before .before .before .before .before .before .before .before .before .before .before .before .before .before .before .before .before .before) in
-    let e = to-serve-done (c .before .before .before .before .before .before .before .before .before .before .before .before .before .price-of .result) (c .before .before .before .before .before .before .before .before .loop5 .a .mean) (a .t2 .places) (c .before .before .before .loop6 .h) (c .before .before .before .loop6 .inv .0) (done-so (c .before .before .before .loop6 .h .done) (c .before .if6 .left)) in
+    let e = to-serve-done (c .before .before .before .before .before .before .before .before .before .before .before .before .before .price-of .result) (c .before .before .before .before .before .before .before .before .loop5 .a .mean) (a .t2 .places) (c .before .before .before .loop6 .h) (c .before .before .before .loop6 .inv .0) (not-false (c .before .before .before .loop6 .h .done) (c .before .if6 .left)) in
     let w = rw (p .fills) at (left-done (rw e at (c .before .before .before .loop6 .inv .2))) in
     let f = level-fills (c .before .before .before .before .before .before .before .before .before .before .before .before .before) in
     rw (c .passed .ensures) (
@@ -609,7 +602,7 @@ loop2-again c =
       left-turn (rw f at (c .before .before .before .before .before .before .before .before .before .before .before .before .before .before .before .before .before .before .before .before .before .loop2 .inv .5)) w,
       λ k h.
           let z = looked-all (c .before .before .before .before .before .before .before .before .before .before .before .before .before .before) in
-          let n : s .known ≡ false = turned (s .known) k in
+          let n : s .known ≡ false = not-true (s .known) k in
           let q : c .before .before .before .before .before .before .before .before .before .before .before .before .before .before .before .loop3 .f .price ≡ levelOf (a .d) (a .t2 .places) (c .before .before .before .before .before .before .before .before .before .before .before .before .before .before .before .before .before .before .before .before .before .before .before .before .before .before .before .before .before .before .guarantee-of .result) s .price = sym (priced-price (a .d) (c .before .before .before .before .before .before .before .before .before .before .before .before .before .before .before .before .before .before .before .before .before .before .before .before .before .before .before .before .before .before .guarantee-of .result) s (c .before .before .before .before .before .before .before .before .before .before .before .before .before .before .before .loop3 .f) (c .before .before .before .before .before .before .before .before .before .before .before .before .before .price-of .result) (c .before .before .before .before .before .before .before .before .before .before .before .before .before .price-of .ensures)) ∙ p .price-is in
           sees-second (a .d .bound) (c .before .before .before .before .before .before .before .before .before .before .before .before .before .before .before .before .before .before .before .before .before .before .before .before .before .before .before .before .before .before .before .before .before .before .before .top-of .result) (a .t2 .places) (s .rest) (c .before .before .before .before .before .before .before .before .before .before .before .before .before .before .before .loop3 .f) (c .before .before .before .before .before .before .before .before .before .before .before .before .before .before .before .loop3 .n) (rw z at (c .before .before .before .before .before .before .before .before .before .before .before .before .before .before .before .loop3 .inv .2 n)) (len (c .before .before .before .before .before .before .before .before .before .before .before .before .before .before .before .before .before .before .before .before .before .before .before .before .before .before .before .before .before .before .before .before .before .before .before .before .before)) (c .before .before .before .before .before .before .before .before .before .before .before .before .before .before .before .before .before .before .before .before .before .loop2 .inv .3) _ (rw q (omega (arith, p .gone, p .fits))) (omega (arith, q, p .price-is, h)),
     )
