@@ -33,6 +33,15 @@ class Around(Case):
         if shutil.which("c++"):
             subprocess.run(["c++", "-x", "c++", "-fsyntax-only", "-Wall", "-Werror", os.path.join(ROOT, "include", "cube.h")], check=True)
 
+    def test_the_stack_of_a_listing(self):
+        """At most 3 KB, whatever number of prices there is, as the header says; and what measures it fails above that."""
+        if platform.machine() != "x86_64":
+            raise unittest.SkipTest("the static library is for x86-64")
+        made = subprocess.run([os.path.join(ROOT, "bench", "run"), "--stack"], cwd=ROOT, stdout=subprocess.PIPE, stderr=subprocess.STDOUT, text=True)
+        self.assertEqual(made.returncode, 0, made.stdout[-2000:])
+        for prices in ("1 price", "8 prices", "64 prices"):
+            self.assertRegex(made.stdout, r"(?m)^\| the price walk, %s \| [0-9,]+ \|" % prices)
+
     def test_gnu_parallel(self):
         """docs/SCALE.md's command gives the bytes of one run."""
         if shutil.which("parallel") is None:
