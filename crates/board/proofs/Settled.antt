@@ -21,6 +21,9 @@ seated κs a = (tt, λ y z v w p q. (p ∙ sym q, refl))
 pub clear : Settled contracts.clear.ended contracts.clear.Reads.Asked contracts.clear.Reads.Learnt
 clear κs a = (tt, λ y z v w p q. (p ∙ sym q, refl))
 
+pub is-gtx : Settled contracts.is_gtx.ended contracts.is_gtx.Reads.Asked contracts.is_gtx.Reads.Learnt
+is-gtx κs a = (tt, λ y z v w p q. (p ∙ sym q, refl))
+
 pub find-gtx : Settled contracts.find_gtx.ended contracts.find_gtx.Reads.Asked contracts.find_gtx.Reads.Learnt
 find-gtx κs a = (tt, λ y z v w p q. (p ∙ sym q, refl))
 

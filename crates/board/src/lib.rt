@@ -89,7 +89,7 @@ pub fn clear(b: Board, i: usize) -> Board
 }
 
 // Whether a response is a GTX response with this sequence.
-fn is_gtx(r: Response, sequence: u32) -> bool
+pub fn is_gtx(r: Response, sequence: u32) -> bool
     ensures { λ t. ⌜ t ≡ isGtx sequence r ⌝ }
 {
     r.gtx & (r.sequence == sequence)
@@ -100,10 +100,9 @@ pub fn find_gtx(b: Board, sequence: u32) -> Found
     ensures { λ r. ⌜ r ≡ foundGtx b sequence ⌝ }
 {
     let mut rest = b.live;
-    let places = b.places;
     while rest != 0 {
         let i = bits::first_set(rest) as usize;
-        let r = places[i];
+        let r = b.places[i];
         if is_gtx(r, sequence) {
             return Found {
                 place: i,

@@ -1,2 +1,3 @@
 -- Laws and theorems of `events`.
+pub mod SightLaws
 pub mod Settled

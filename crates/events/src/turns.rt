@@ -1,6 +1,8 @@
 // One turn: what an event does to an auction's head, and what becomes of the board. No board is copied.
 ghost use mathlib.Core.Path.{_≡_};
-ghost use mathlib.Core.Bool.{cond};
+ghost use mathlib.Core.Bool.{cond, _||_};
+ghost use lib.Dec.{eqb};
+ghost use Rattle.words.specs.rules.Bits.{clearIn};
 ghost use Rattle.auction.specs.rules.Range.{isOpen};
 ghost use Rattle.events.specs.rules.Step.{sightOf, eventRefusal, quotesAfter, marketAfter, offeredAfter, stays, endedByTime, headAfter, carried, turnOf, closeTurn};
 use crate::Answer;
@@ -12,6 +14,7 @@ use auction::Quotes;
 use auction::is_open;
 use auction::moved_offer;
 use board::Board;
+use board::Found;
 use decision::Change;
 use decision::Outcome;
 use decision::Sight;
@@ -19,19 +22,38 @@ use decision::decide;
 use mirror::buy_event;
 use tape::Event;
 
+// Whether the event names a response: a cancel and an amend do.
+pub fn names(e: Event) -> bool
+    ensures { λ r. ⌜ r ≡ (eqb (e .kind) 2 || eqb (e .kind) 6) ⌝ }
+{
+    (e.kind == 2) | (e.kind == 6)
+}
+
+// What the word of live places tells of an event, and the response that it names, as it was found.
+pub fn sight_of(live: u64, named: Found) -> Sight
+    ensures { λ r. ⌜ r ≡ record { at = clearIn 64 live; found = named .place; old = named .response } ⌝ }
+{
+    let at = words::bits::first_clear(live) as usize;
+    let found = named.place;
+    let old = named.response;
+    Sight { at, found, old }
+}
+
 // What the board tells of an event: it is looked over for a cancel and an amend alone.
 pub fn sight(b: Board, e: Event) -> Sight
     ensures { λ r. ⌜ r ≡ sightOf b e ⌝ }
 {
-    let at = board::first_free(b) as usize;
-    if (e.kind == 2) | (e.kind == 6) {
-        let named = board::find_gtx(b, e.f12);
-        let found = named.place;
-        let old = named.response;
-        return Sight { at, found, old };
+    if names(e) {
+        return sight_of(b.live, board::find_gtx(b, e.f12));
     }
-    let old = board::response_at(b, 64);
-    Sight { at, found: 64, old }
+    let response = board::response_at(b, 64);
+    sight_of(
+        b.live,
+        Found {
+            place: 64,
+            response,
+        },
+    )
 }
 
 // 31 to 34; 0 where none of them refuses the event.

@@ -2,6 +2,7 @@
 pub mod WroteLaws
 pub mod DecimalLaws
 pub mod FillLaws
+pub mod LookLaws
 pub mod RunLaws
 pub mod LengthLaws
 pub mod ListsLaws

@@ -9,6 +9,8 @@ use borrow.Author.Tests.{lt-ltb, le-ltb}
 use lib.ListN.{set}
 use Rattle.words.specs.rules.Bits.{withBit, withoutBit}
 use Rattle.board.specs.rules.Board.{seatedAt}
+use Rattle.board.specs.promises.Board.{Good}
+use Rattle.board.proofs.BoardLaws.{seated-good, cleared-good}
 use Rattle.board.specs.declared.Board.{Board}
 use Rattle.board.specs.declared.Response.{Response}
 use Rattle.tape.specs.declared.event.Event.{Event}
@@ -22,7 +24,7 @@ use Rattle.auction.specs.declared.Head.{Head}
 use Rattle.events.specs.declared.Stepped.{Stepped}
 use Rattle.events.specs.declared.Turn.{Turn}
 use Rattle.decision.specs.declared.Change.{Change}
-use Rattle.decision.specs.declared.Change.the-variants.{Seat, Free}
+use Rattle.decision.specs.declared.Change.the-variants.{Nothing, Seat, Free, Quote, Sell}
 use Rattle.events.specs.declared.Answer.the-variants.{Late, Refused}
 use Rattle.events.specs.rules.Step.{sightOf, boardAfter, stays, endedByTime, turnOf, closeTurn, gives, seatedOn, stepOf}
 use Rattle.auction.specs.rules.Range.{isOpen}
@@ -77,6 +79,13 @@ module _ (b after : Board) (c : Change) where
 
   pub seat-none : (d : Change) → c ≡ d → boardAfter b d ≡ b → after ≡ b → after ≡ boardAfter b c
   seat-none d e k f = f ∙ sym k ∙ ap (boardAfter b) (sym e)
+
+pub good-after : (b : Board) (c : Change) → Good b → Good (boardAfter b c)
+good-after b Nothing g = g
+good-after b (Seat i r gone) g = seated-good b i r g
+good-after b (Free i gone) g = cleared-good b i g
+good-after b (Quote q) g = g
+good-after b (Sell m) g = g
 
 module _ (s : List ℕ) (t : Trailer) where
   abbrev pub rest : ℕ → List Event

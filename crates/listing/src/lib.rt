@@ -1,5 +1,6 @@
 // The runner's listing of a tape, into lent bytes.
 ghost use mathlib.Core.Path.{_≡_};
+ghost use mathlib.Core.Bool.{cond};
 ghost use Prim.Native.Nat.{_+_, _*_, _≤_};
 ghost use lib.ListN.{length};
 ghost use Rattle.board.specs.rules.Board.{emptyBoard};
@@ -10,6 +11,7 @@ ghost use Rattle.listing.specs.inside.Code.{Lists, WroteBytes};
 use auction::Auction;
 use auction::Ending;
 use auction::Entry;
+use board::Found;
 use decision::Change;
 use events::turns;
 use lines::put_auction;
@@ -56,6 +58,16 @@ struct Heard {
     auction: Auction,
 }
 
+// The places to look over for the response that an event names: the live ones where it names one.
+fn sought(names: bool, live: u64) -> u64
+    ensures { λ r. ⌜ r ≡ cond names live 0 ⌝ }
+{
+    if names {
+        return live;
+    }
+    0
+}
+
 // A line for each of the tape's events. The board is the loop's own, and begins empty: what a turn says is seated on it in place.
 fn put_events(tape: &[u8], t: Trailer, a: Auction, out: &mut [u8], start: usize) -> Heard
     requires { ⌜ (t .events ≤ 2045) × (start + 56 * t .events ≤ length (now out)) ⌝ }
@@ -70,7 +82,27 @@ fn put_events(tape: &[u8], t: Trailer, a: Auction, out: &mut [u8], start: usize)
     let mut k = 0;
     while k < n {
         let e = tape::record_in(tape, t, k);
-        let v = turns::sight(b, e);
+        // The response that a cancel or an amend names is looked for on the board itself.
+        let nobody = board::response_at(b, 64);
+        let mut named = Found {
+            place: 64,
+            response: nobody,
+        };
+        let mut rest = sought(turns::names(e), b.live);
+        while rest != 0 {
+            let i = bits::first_set(rest) as usize;
+            let r = b.places[i];
+            if board::is_gtx(r, e.f12) {
+                named = Found {
+                    place: i,
+                    response: r,
+                };
+                rest = 0;
+                continue;
+            }
+            rest = bits::without_lowest(rest);
+        }
+        let v = turns::sight_of(b.live, named);
         let u = turns::turn(h, v, e);
         let answer = u.answer;
         w = put_event(out, w, e.sequence, answer);

@@ -14,13 +14,13 @@ use Rattle.board.proofs.find_gtx.Statement.{statement}
 use Rattle.board.proofs.find_gtx.Tie as tie
 
 abbrev Inv-loop : tie.InvT-loop
-Inv-loop sequence rest₀ places rest =
-    (rest < 2 ^ 64) × (findIn (isGtx sequence) rest places ≡ findIn (isGtx sequence) rest₀ places)
+Inv-loop sequence b rest₀ rest =
+    (rest < 2 ^ 64) × (findIn (isGtx sequence) rest (b .places) ≡ findGtx b sequence)
 
 abbrev μ-loop : tie.MeasureT-loop
-μ-loop sequence rest₀ places rest = rest
+μ-loop sequence b rest₀ rest = rest
 
-len : (c : tie.Start Inv-loop μ-loop) → length (c .args .b .places) ≡ 64
+len : (c : tie.Start Inv-loop μ-loop) → length (c .args .t1 .places) ≡ 64
 len c = search (needs, length-mapped)
 
 -- the place that a turn looks at
@@ -39,8 +39,8 @@ cast-i c = search needs
 mul-r : tie.Need-mul-r Inv-loop μ-loop
 mul-r c = omega (arith, low c .place)
 
-array-copy-out-r : tie.Need-array-copy-out-r Inv-loop μ-loop
-array-copy-out-r c = low c .place
+element-copy-out-r : tie.Need-element-copy-out-r Inv-loop μ-loop
+element-copy-out-r c = low c .place
 
 is-gtx-requires : tie.Need-is-gtx-requires Inv-loop μ-loop
 is-gtx-requires c κs = search needs
@@ -48,11 +48,11 @@ is-gtx-requires c κs = search needs
 returns : tie.Need-returns Inv-loop μ-loop
 returns c =
     let f = c .before .before .before in
-    let s = f .before .before .before .before in
+    let s = f .before .before .before in
     let i = f .first-set .result in
-    let h : i < length (s .args .b .places) = omega (arith, len s, low f .place) in
-    ap (λ (j : ℕ). record { place = j; response = responseAt (s .args .b .places) j })
-    (sym (find-low (isGtx (s .args .sequence)) (f .before .before .loop .rest) (s .args .b .places) noResponse i h (low f) (sym (c .before .is-gtx .ensures) ∙ c .if1 .taken))
+    let h : i < length (s .args .t1 .places) = omega (arith, len s, low f .place) in
+    ap (λ (j : ℕ). record { place = j; response = responseAt (s .args .t1 .places) j })
+    (sym (find-low (isGtx (s .args .sequence)) (f .before .before .loop .rest) (s .args .t1 .places) noResponse i h (low f) (sym (c .before .is-gtx .ensures) ∙ c .if1 .taken))
     ∙ f .before .before .loop .inv .1)
 
 without-lowest-requires : tie.Need-without-lowest-requires Inv-loop μ-loop
@@ -71,9 +71,9 @@ loop-again : tie.Need-loop-again Inv-loop μ-loop
 loop-again c =
     let f = c .before .before .before .before in
     let l = f .before .before in
-    let s = l .before .before in
+    let s = l .before in
     let t = isGtx (s .args .sequence) in
-    let ps = s .args .b .places in (
+    let ps = s .args .t1 .places in (
       omega (arith, left c, without-le (l .loop .rest) (f .first-set .result)),
       ap (λ (v : ℕ). findIn t v ps) (left c)
           ∙ find-rest t (l .loop .rest) ps noResponse (f .first-set .result) (sym (c .before .before .is-gtx .ensures) ∙ c .before .if1 .left)
@@ -86,10 +86,10 @@ no-response-requires c κs = search needs
 returns-2 : tie.Need-returns-2 Inv-loop μ-loop
 returns-2 c =
     let e = c .before in
-    let s = e .before .before .before in
+    let s = e .before .before in
     let t = isGtx (s .args .sequence) in
-    let ps = s .args .b .places in
-    let none : 64 ≡ findGtx (s .args .b) (s .args .sequence) = sym (ap (λ (v : ℕ). findIn t v ps) (e .loop-test .left) ∙ find-none t ps ∙ len s) ∙ e .before .loop .inv .1 in
+    let ps = s .args .t1 .places in
+    let none : 64 ≡ findGtx (s .args .t1) (s .args .sequence) = sym (ap (λ (v : ℕ). findIn t v ps) (e .loop-test .left) ∙ find-none t ps ∙ len s) ∙ e .before .loop .inv .1 in
     let nobody : c .no-response .result ≡ responseAt ps 64 = c .no-response .ensures ∙ sym (List·getD-eq-default ps noResponse (omega (arith, len s))) in
     ap (λ (r : Response). record { place = 64; response = r }) nobody ∙ ap (λ (j : ℕ). record { place = j; response = responseAt ps j }) none
 
@@ -103,7 +103,7 @@ find-gtx-spec =
     first-set-requires
     cast-i
     mul-r
-    array-copy-out-r
+    element-copy-out-r
     is-gtx-requires
     returns
     without-lowest-requires

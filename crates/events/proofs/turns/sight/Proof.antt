@@ -1,35 +1,43 @@
-use Rattle.events.specs.rules.Step.{sightOf}
+use mathlib.Core.Path.{ap}
+use Rattle.board.specs.declared.Response.{Response}
 use borrow.Author.Needs.{needs}
+use Rattle.events.proofs.SightLaws.{sight-named, sight-unnamed}
 use Rattle.events.proofs.turns.sight.Statement.{statement}
 use Rattle.events.proofs.turns.sight.Tie as tie
 
-first-free-requires : tie.Need-first-free-requires
-first-free-requires c κs = search needs
-
-cast-at : tie.Need-cast-at
-cast-at c = search needs
+names-requires : tie.Need-names-requires
+names-requires c κs = search needs
 
 find-gtx-requires : tie.Need-find-gtx-requires
 find-gtx-requires c κs = search needs
 
+sight-of-requires : tie.Need-sight-of-requires
+sight-of-requires c κs = search needs
+
 returns : tie.Need-returns
-unfolding sightOf
-returns c = simp (c .before .before .if1 .taken, c .before .before .before .before .before .first-free .ensures, c .before .find-gtx .ensures)
+returns c =
+    let a = c .before .before .before .before .args in
+    sight-named (a .b) (a .e) _ _ _ (c .before .before .before .names .ensures) (c .sight-of .ensures) (c .before .before .if1 .taken) (c .before .find-gtx .ensures)
 
 response-at-requires : tie.Need-response-at-requires
 response-at-requires c κs = search needs
 
+sight-of-requires-2 : tie.Need-sight-of-requires-2
+sight-of-requires-2 c κs = search needs
+
 returns-2 : tie.Need-returns-2
-unfolding sightOf
-returns-2 c = simp (c .before .if1 .left, c .before .before .before .before .first-free .ensures, c .response-at .ensures)
+returns-2 c =
+    let a = c .before .before .before .before .args in
+    sight-unnamed (a .b) (a .e) _ _ _ (c .before .before .before .names .ensures) (c .sight-of2 .ensures) (c .before .before .if1 .left) (ap (λ (r : Response). record { place = 64; response = r }) (c .before .response-at .ensures))
 
 pub sight-spec : {M : Type 1} → statement M
 sight-spec =
     tie.close
     (tie.spec
-    first-free-requires
-    cast-at
+    names-requires
     find-gtx-requires
+    sight-of-requires
     returns
     response-at-requires
+    sight-of-requires-2
     returns-2)
