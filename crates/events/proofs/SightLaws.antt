@@ -2,13 +2,13 @@
 use mathlib.Core.Path.{_≡_, sym, ap, _∙_}
 use mathlib.Core.Bool.{Bool, true, false, cond, _||_}
 use Prim.Native.Nat.{ℕ}
-use lib.Dec.{eqb}
 use Rattle.words.specs.rules.Bits.{clearIn}
 use Rattle.board.specs.declared.Board.{Board}
 use Rattle.board.specs.declared.Found.{Found}
 use Rattle.board.specs.rules.Board.{responseAt, findGtx, foundGtx}
 use Rattle.tape.specs.declared.event.Event.{Event}
 use Rattle.decision.specs.declared.Sight.{Sight}
+use Rattle.decision.specs.rules.Decide.{isCancel, isAmend}
 use Rattle.events.specs.rules.Step.{foundFor, sightOf}
 
 -- the response at a place, as it was found
@@ -24,7 +24,7 @@ unfolding sightOf
 sight-found b e f s es ef = es ∙ ap (sightBy (b .live)) ef
 
 -- an event that names one, and one that names none
-module _ (b : Board) (e : Event) (names : Bool) (f : Found) (s : Sight) (en : names ≡ (eqb (e .kind) 2 || eqb (e .kind) 6)) (es : s ≡ sightBy (b .live) f) where
+module _ (b : Board) (e : Event) (names : Bool) (f : Found) (s : Sight) (en : names ≡ (isCancel e || isAmend e)) (es : s ≡ sightBy (b .live) f) where
   by-name : (t : Bool) → names ≡ t → foundAt b (cond t (findGtx b (e .f12)) 64) ≡ foundAt b (foundFor b e)
   by-name t et = ap (λ (n : Bool). foundAt b (cond n (findGtx b (e .f12)) 64)) (sym et ∙ en)
 

@@ -1,9 +1,9 @@
 // One turn: what an event does to an auction's head, and what becomes of the board. No board is copied.
 ghost use mathlib.Core.Path.{_≡_};
 ghost use mathlib.Core.Bool.{cond, _||_};
-ghost use lib.Dec.{eqb};
 ghost use Rattle.words.specs.rules.Bits.{clearIn};
 ghost use Rattle.auction.specs.rules.Range.{isOpen};
+ghost use Rattle.decision.specs.rules.Decide.{isCancel, isAmend};
 ghost use Rattle.events.specs.rules.Step.{sightOf, eventRefusal, quotesAfter, marketAfter, offeredAfter, stays, endedByTime, headAfter, carried, turnOf, closeTurn};
 use crate::Answer;
 use crate::Turn;
@@ -24,7 +24,7 @@ use tape::Event;
 
 // Whether the event names a response: a cancel and an amend do.
 pub fn names(e: Event) -> bool
-    ensures { λ r. ⌜ r ≡ (eqb (e .kind) 2 || eqb (e .kind) 6) ⌝ }
+    ensures { λ r. ⌜ r ≡ (isCancel e || isAmend e) ⌝ }
 {
     (e.kind == 2) | (e.kind == 6)
 }

@@ -15,6 +15,7 @@ use Rattle.board.specs.promises.Board.{Good}
 use Rattle.board.specs.rules.Board.{noResponse, responseAt, findIn, isGtx}
 use Rattle.board.proofs.FindLaws.{find-low, find-rest, find-none}
 use Rattle.tape.specs.declared.event.Event.{Event}
+use Rattle.decision.specs.rules.Decide.{isCancel, isAmend}
 use Rattle.events.specs.rules.Step.{foundFor}
 use Rattle.events.proofs.SightLaws.{foundAt}
 
@@ -39,7 +40,7 @@ module _ (b : Board) (g : Good b) where
       (bool-or (eqb i 64))
 
   -- before the first place
-  pub look-start : (e : Event) (names : Bool) (named : Found) (w : ℕ) → names ≡ (eqb (e .kind) 2 || eqb (e .kind) 6) → w ≡ cond names (b .live) 0 → named ≡ foundAt b 64 → looked b (e .f12) named w ≡ foundAt b (foundFor b e)
+  pub look-start : (e : Event) (names : Bool) (named : Found) (w : ℕ) → names ≡ (isCancel e || isAmend e) → w ≡ cond names (b .live) 0 → named ≡ foundAt b 64 → looked b (e .f12) named w ≡ foundAt b (foundFor b e)
   look-start e names named w en ew ef =
       ap₂ (looked b (e .f12)) ef ew
       ∙ at-place (findIn (isGtx (e .f12)) (cond names (b .live) 0) (b .places))
