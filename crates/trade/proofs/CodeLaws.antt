@@ -112,6 +112,10 @@ sizes-none t ps = rw (none-live ps)
 pub fractions-none : (R T : ℕ) (ps : List Response) → fractionsIn R T ps 0 ≡ []
 fractions-none R T ps = rw (none-live ps)
 
+pub fractions-length : (R T : ℕ) (rs : List Response) → length (fractions R T (sizes rs)) ≡ length rs
+fractions-length R T [] = refl
+fractions-length R T (r ∷ rs) = omega (arith, fractions-length R T rs)
+
 -- one place less to go
 pub count-turn : (ps : List Response) (rest i : ℕ) → Turn ps rest i → length (liveIn rest ps) ≡ suc (length (liveIn (withoutBit rest i) ps))
 count-turn ps rest i t = rw (t .cons)

@@ -25,7 +25,7 @@ use Rattle.share.proofs.CutLaws.{cut-upper, cut-lower, cut-level, some-upper, u
 use Rattle.trade.specs.declared.Among.{Among}
 use Rattle.trade.specs.declared.Upper.{Upper}
 use Rattle.trade.specs.inside.Code.{fractionsIn, Short, noCut, meanOf, amongOf, countedOf, narrowedOf}
-use Rattle.trade.proofs.CodeLaws.{Turn, fractions-turn, fractions-none, live-short}
+use Rattle.trade.proofs.CodeLaws.{Turn, fractions-turn, fractions-none, fractions-length, live-short}
 use Rattle.trade.proofs.StepLaws.{word-le, word-rest}
 
 -- ---- the mean of n numbers, rounded up
@@ -113,12 +113,8 @@ module _ (R T : ℕ) (ps : List Response) (e : length ps ≡ 64) where
       go true i = ap {B = List ℕ} (λ xs. (R * r .size % T) ∷ xs) i
       go false i = i
 
-  fractions-length : (rs : List Response) → length (fractions R T (sizes rs)) ≡ length rs
-  fractions-length [] = refl
-  fractions-length (r ∷ rs) = omega (arith, fractions-length rs)
-
   many : (w : ℕ) → length (fs R T ps w) ≡ onesIn 64 w
-  many w = fractions-length (liveIn w ps) ∙ sym (ap (λ (n : ℕ). onesIn n w) (sym e) ∙ count-live w ps)
+  many w = fractions-length R T (liveIn w ps) ∙ sym (ap (λ (n : ℕ). onesIn n w) (sym e) ∙ count-live w ps)
 
   seeks-of : (word k w total leftovers : ℕ) → w < 2 ^ 64 → total ≡ sum (fs R T ps w) → total ≤ 70368744161280 → 0 < leftovers → leftovers ≤ onesIn 64 w
       → ((c s : ℕ) → 0 < s → Cuts leftovers (fs R T ps w) c s → Cuts k (fs R T ps word) c s) → Seeks R T ps word k (amongOf w total leftovers)
@@ -256,7 +252,7 @@ module _ (R T : ℕ) (ps : List Response) (e : length ps ≡ 64) where
 
           not-empty : 0 < u .word
           not-empty =
-              ⊎-elim (λ g. g) (λ g. absurd (omega (arith, upper-some, many (u .word), fractions-length (liveIn (u .word) ps), none (u .word) (omega arith)))) (le-or-lt 1 (u .word))
+              ⊎-elim (λ g. g) (λ g. absurd (omega (arith, upper-some, many (u .word), fractions-length R T (liveIn (u .word) ps), none (u .word) (omega arith)))) (le-or-lt 1 (u .word))
 
       pub halves : Halves R T ps word k a u
       halves = record { upper-in = upper-in; upper-low = upper-low u 0 l; upper-some = upper-some; others-some = others-some; seeks = narrowed-seeks; less = narrowed-less }
@@ -300,7 +296,7 @@ module _ (R T : ℕ) (ps : List Response) (e : length ps ≡ 64) (word : ℕ) (v
       ⊎-elim (λ g. g)
       (λ g.
       let z : w ≡ 0 = omega arith in
-      absurd (omega (arith, many R T ps e w, fractions-length R T ps e (liveIn w ps), ap (λ (n : ℕ). length (liveIn n ps)) z, ap length (none-live ps))))
+      absurd (omega (arith, many R T ps e w, fractions-length R T (liveIn w ps), ap (λ (n : ℕ). length (liveIn n ps)) z, ap length (none-live ps))))
       (le-or-lt 1 w)
 
   -- all are added up

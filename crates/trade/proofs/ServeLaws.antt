@@ -16,14 +16,14 @@ use Rattle.base.proofs.Numbers.{le-or-lt}
 use Rattle.board.specs.declared.Response.{Response}
 use Rattle.board.specs.rules.Board.{noResponse, liveIn, inserted, inSequence}
 use Rattle.board.proofs.LiveLaws.{none-live}
-use Rattle.share.specs.rules.Share.{fractions, leftoverCount, shares}
+use Rattle.share.specs.rules.Share.{leftoverCount, shares}
 use Rattle.share.specs.rules.Fills.{Fill, fillOf, sizes}
 use Rattle.share.specs.inside.Cut.{Cuts}
 use Rattle.share.proofs.ShareLaws.{shares-sum, shares-length}
 use Rattle.trade.specs.declared.Hand.{Hand}
 use Rattle.trade.specs.declared.Price.{Price}
 use Rattle.trade.specs.inside.Code.{inTurnOf, rankOf, quantityOf, remainderOf, dealt, eachFills, shareFills, placeFills, fractionsIn, Short, huntingOf, handOf, doneAt, metOf, nextFills, nextOf, servedFills, servedOf}
-use Rattle.trade.proofs.CodeLaws.{turn-of, live-short}
+use Rattle.trade.proofs.CodeLaws.{turn-of, fractions-length, live-short}
 use Rattle.trade.proofs.WriteLaws.{Pick, each-pick, each-none, shares-all, shares-parts, only, remainder-le}
 use Rattle.trade.proofs.RunLaws.{Kept, hunting-kept, hand-kept, late-is, done-is, others-is, restOf, Serves, serves-hand, serves-met, serves-pick, serves-served, serves-again, serves-next, serves-others, serves-done}
 
@@ -120,11 +120,7 @@ module _ (l : Price) (c : ℕ) (ps : List Response) where
       where
         go : (b : Bool) → l .turns ≡ b → cond b (l .shared) spare ≤ 4294967295
         go true q = h
-        go false q = omega (arith, cuts q .enough, filter-length (eqb c) (fractionsIn (l .shared) (l .total) ps (l .others)), few (liveIn (l .others) ps), live-short (l .others) ps)
-          where
-            few : (rs : List Response) → length (fractions (l .shared) (l .total) (sizes rs)) ≡ length rs
-            few [] = refl
-            few (r ∷ rs) = omega (arith, few rs)
+        go false q = omega (arith, cuts q .enough, filter-length (eqb c) (fractionsIn (l .shared) (l .total) ps (l .others)), fractions-length (l .shared) (l .total) (liveIn (l .others) ps), live-short (l .others) ps)
 
 -- ---- the turns of the loop that serves
 

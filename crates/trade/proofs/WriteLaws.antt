@@ -10,14 +10,14 @@ use lib.Dec.{ltb, eqb}
 use lib.ListN.{length, getD}
 use Rattle.words.specs.rules.Bits.{withoutBit}
 use Rattle.board.specs.declared.Response.{Response}
-use Rattle.base.specs.Lists.{Inserts, Shuffles, keep, sum}
+use Rattle.base.specs.Lists.{Inserts, Shuffles, sum}
 use Rattle.base.specs.Lists.Inserts.{here, there}
 use Rattle.base.specs.Lists.Shuffles.{none, more}
 use Rattle.board.specs.rules.Board.{noResponse, liveIn, inSequence}
 use Rattle.board.proofs.LiveLaws.{none-live}
 use Rattle.board.proofs.SequenceLaws.{sequence-shuffles}
 use Rattle.share.specs.rules.Share.{floors, fractions, leftoverCount, howMany, oneEach, shares, inTurn}
-use Rattle.share.specs.rules.Fills.{fill, fillOf, sizes}
+use Rattle.share.specs.rules.Fills.{fillOf, sizes}
 use Rattle.share.specs.inside.Cut.{oneBy, spareBy, byCut, Cuts}
 use Rattle.share.proofs.ShareLaws.{room}
 use Rattle.share.proofs.CutLaws.{many-cons, one-each-cut}
@@ -53,13 +53,6 @@ each-none p turns R T c k ps = rw (none-left ps)
 
 pub fill-some : (k p q : ℕ) → 0 < q → length (fillOf k p q) ≡ 1
 fill-some k p q h = rw (lt-ltb 0 q h)
-
-pub fill-few : (k p q : ℕ) → length (fillOf k p q) ≤ 1
-fill-few k p q = go (ltb 0 q)
-  where
-    go : (b : Bool) → length (keep b (fill k p q) []) ≤ 1
-    go true = omega arith
-    go false = omega arith
 
 -- one member's part, and one more, is at most its size, and at most one where it has none
 pub part-fits : (R T s : ℕ) → R < T → R * s / T + 1 ≤ max s 1

@@ -1,6 +1,6 @@
 use native.Mathlib.Omega.{arith}
 use borrow.Author.Needs.{needs}
-use Rattle.trade.proofs.WriteLaws.{fill-few}
+use Rattle.trade.proofs.Counts.{length-fill}
 use Rattle.trade.proofs.write_market.Statement.{statement}
 use Rattle.trade.proofs.write_market.Tie as tie
 
@@ -11,7 +11,7 @@ reported-price-requires : tie.Need-reported-price-requires
 reported-price-requires c κs = search needs
 
 put-fill-requires : tie.Need-put-fill-requires
-put-fill-requires c κs = let s = c .before .before .before .before in (s .pre .1, omega (arith, s .pre .2, fill-few (s .args .d .market) (c .before .reported-price .result) (s .args .takes)))
+put-fill-requires c κs = let s = c .before .before .before .before in (s .pre .1, omega (arith, s .pre .2, length-fill (s .args .d .market) (c .before .reported-price .result) (s .args .takes)))
 
 same-length : tie.Need-same-length
 same-length c = search needs
