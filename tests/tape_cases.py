@@ -1,5 +1,5 @@
 #!/usr/bin/env python3
-"""The cases of crates/tape_cases and what they must print, from document 01 and document 02's W-201 alone (it knows nothing of the crates).
+"""The cases of crates/tape_cases and what they must print, from document 01 and document 02's W-201 and W-205 alone (it knows nothing of the crates).
 
     tests/tape_cases.py            writes crates/tape_cases/stdin and stdout
     tests/tape_cases.py --check    says whether the two files are what it would write; exit status 1 where they are not
@@ -13,11 +13,11 @@ WHAT = {"order": 1, "event": 2, "trailer": 3, "open": 4, "put order": 5, "put ev
 U32 = 2 ** 32 - 1
 DAY = 86400000
 
-# ---- document 01, "The tape", and W-201 for kind 6
+# ---- document 01, "The tape", W-201 for kind 6 and W-205 for the order's fields 48 and 52
 
-ORDER = ["side", "mode", "marks", "size", "limit", "stop", "nbb", "nbo", "bb", "bo", "time", "open", "close", "L"]
+ORDER = ["side", "mode", "marks", "size", "limit", "stop", "nbb", "nbo", "bb", "bo", "time", "open", "close", "L", "displayed", "collar"]
 ORDER_AT = {"side": 0, "mode": 1, "marks": 2, "size": 4, "limit": 8, "stop": 12, "nbb": 16, "nbo": 20, "bb": 24, "bo": 28,
-            "time": 32, "open": 36, "close": 40, "L": 44}
+            "time": 32, "open": 36, "close": 40, "L": 44, "displayed": 48, "collar": 52}
 EVENT = ["sequence", "time", "kind", "marks", "side", "f12", "f16", "f20", "f24"]
 EVENT_AT = {"sequence": 0, "time": 4, "kind": 8, "marks": 9, "side": 10, "f12": 12, "f16": 16, "f20": 20, "f24": 24}
 SMALL = {"side", "mode", "marks", "kind"}
@@ -31,12 +31,19 @@ def price(x):
     return 1 <= x <= 999999
 
 
+def collar_formed(o):
+    if o["displayed"] == 0 and o["collar"] == 0:
+        return True
+    result = o["displayed"] - o["collar"] if o["side"] == 1 else o["displayed"] + o["collar"]
+    return price(o["displayed"]) and price(o["collar"]) and price(result)
+
+
 def order_formed(o):
     stop = o["stop"] == 0 if o["mode"] == 2 else price(o["stop"])
     return (o["side"] in (1, 2) and o["mode"] in (1, 2, 3) and o["marks"] < 16 and o["size"] <= 100000 and price(o["limit"])
             and stop and price(o["nbb"]) and price(o["nbo"]) and 0 <= o["bb"] <= 999999 and 1 <= o["bo"] <= 1000000
             and o["time"] <= DAY and o["open"] <= DAY and o["close"] <= DAY and o["open"] < o["close"]
-            and 100 <= o["L"] <= 1000)
+            and 100 <= o["L"] <= 1000 and collar_formed(o))
 
 
 def event_formed(e):
@@ -90,7 +97,7 @@ def read(b, length, places, names, formed, spare, number, word):
 
 
 def read_order(b):
-    return read(b, 64, ORDER_AT, ORDER, order_formed, [3] + list(range(48, 64)), 1, "order")
+    return read(b, 64, ORDER_AT, ORDER, order_formed, [3] + list(range(56, 64)), 1, "order")
 
 
 def read_event(b):
@@ -162,14 +169,20 @@ def filler(n):
 
 
 GOOD = dict(side=1, mode=3, marks=5, size=100, limit=110, stop=105, nbb=100, nbo=110, bb=99, bo=111, time=34200000,
-            open=34200000, close=57600000, L=100)
+            open=34200000, close=57600000, L=100, displayed=0, collar=0)
 GOOD_ORDERS = [GOOD, dict(GOOD, side=2, mode=2, stop=0, marks=15, size=0, bb=0, bo=1000000, L=1000),
-               dict(GOOD, mode=1, limit=999999, stop=1, nbb=1, nbo=999999, bb=999999, bo=1, open=0, close=DAY, time=DAY)]
+               dict(GOOD, mode=1, limit=999999, stop=1, nbb=1, nbo=999999, bb=999999, bo=1, open=0, close=DAY, time=DAY),
+               dict(GOOD, displayed=109, collar=3), dict(GOOD, side=2, displayed=101, collar=3)]
 EDGES = {"side": [0, 1, 2, 3, 255], "mode": [0, 1, 2, 3, 4, 255], "marks": [0, 1, 2, 4, 8, 15, 16, 32, 64, 128],
          "size": [0, 1, 100000, 100001, U32], "limit": [0, 1, 999999, 1000000, U32], "stop": [0, 1, 999999, 1000000, U32],
          "nbb": [0, 1, 999999, 1000000, U32], "nbo": [0, 1, 999999, 1000000, U32], "bb": [0, 1, 999999, 1000000, U32],
          "bo": [0, 1, 1000000, 1000001, U32], "time": [0, DAY, DAY + 1, U32], "L": [0, 99, 100, 101, 999, 1000, 1001, U32],
-         "open": [0, 57599999, 57600000, 57600001, U32], "close": [0, 34199999, 34200000, 34200001, DAY, DAY + 1, U32]}
+         "open": [0, 57599999, 57600000, 57600001, U32], "close": [0, 34199999, 34200000, 34200001, DAY, DAY + 1, U32],
+         "displayed": [0, 1, 2, 3, 4, 999998, 999999, 1000000, U32], "collar": [0, 1, 2, 108, 109, 110, 999898, 999899, 999999, 1000000, U32]}
+# displayed price and collar: either alone, either end of both, either end of the result, and sums that pass 32 bits
+COLLARS = [(0, 0), (0, 1), (1, 0), (1, 1), (2, 1), (1, 2), (999999, 1), (1, 999999), (999999, 999998), (999999, 999999), (999998, 1), (999998, 2),
+           (1, 999998), (500000, 499999), (500000, 500000), (1000000, 1), (1000001, 1), (1, 1000000), (U32, 1), (1, U32), (U32, U32), (U32, 2), (2, U32),
+           (2 ** 31, 2 ** 31), (U32 - 999998, 999999), (999999, U32 - 999998)]
 
 GOOD_EVENTS = [dict(sequence=1, time=20, kind=1, marks=1, side=2, f12=3, f16=105, f20=0, f24=0),
                dict(sequence=U32, time=0, kind=2, marks=0, side=0, f12=U32, f16=0, f20=0, f24=0),
@@ -188,11 +201,17 @@ def make():
         try_order(order_bytes(o) + filler(9))
         for n in (64, 65, 80):
             try_put_order(o, filler(n))
-    for base in (GOOD, GOOD_ORDERS[1]):
+    for base in (GOOD, GOOD_ORDERS[1], GOOD_ORDERS[3], GOOD_ORDERS[4]):
         for name in ORDER:
             for v in EDGES[name]:
                 try_order(order_bytes(dict(base, **{name: v})))
                 try_put_order(dict(base, **{name: v}), filler(66))
+    for displayed, collar in COLLARS:
+        for side in (1, 2):
+            o = dict(GOOD, side=side, displayed=displayed, collar=collar)
+            try_order(order_bytes(o))
+            try_put_order(o, filler(66))
+            try_order(order_bytes(dict(o, size=1)))
     for i in [3] + list(range(48, 64)):
         for v in (1, 128):
             try_order(order_bytes(GOOD)[:i] + bytes([v]) + order_bytes(GOOD)[i + 1:])

@@ -1,2 +1,4 @@
 -- Laws and theorems of `auction`.
+pub mod Accepted
+pub mod CollaredLaws
 pub mod Settled

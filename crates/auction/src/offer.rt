@@ -1,9 +1,9 @@
 // The contracts on offer: the sum of the live responses' sizes, kept in the auction and moved by each event that places, cancels or amends a response.
 ghost use mathlib.Core.Path.{_≡_};
-ghost use Prim.Native.Nat.{_-_};
 ghost use Rattle.auction.specs.rules.Offer.{onOffer, movedOffer};
 use crate::Auction;
 use crate::bounds::to_word;
+use base::less;
 use base::wide;
 
 // The contracts on offer. The board is not looked at.
@@ -12,13 +12,6 @@ pub fn on_offer(a: Auction) -> u32
 {
     let h = a.head;
     h.offered
-}
-
-// What is left of n; none where more is gone.
-fn less(n: u32, gone: u32) -> u32
-    ensures { λ r. ⌜ r ≡ n - gone ⌝ }
-{
-    if n < gone { 0 } else { n - gone }
 }
 
 // A sum of sizes, of which one is gone and another has come: never below 0, at most the largest u32.

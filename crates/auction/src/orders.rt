@@ -1,8 +1,8 @@
-// Acceptance: the numbers 1 to 12, and the auction that an accepted order opens.
+// Acceptance: the numbers 1 to 13, and the auction that an accepted order opens.
 ghost use mathlib.Core.Path.{_≡_};
-ghost use Prim.Native.Nat.{_+_, _-_, _≤_};
+ghost use Prim.Native.Nat.{_+_, _≤_};
 ghost use lib.Dec.{eqb};
-ghost use Rattle.auction.specs.rules.Accept.{initiatingOf, tickOf, boundOf, firstBound, guaranteedOf, rangeRefusal, buyRefusal, orderRefusal, termsOf, quotesOf, openedBy, noAuction, acceptOf};
+ghost use Rattle.auction.specs.rules.Accept.{offerOf, initiatingOf, tickOf, boundOf, firstBound, guaranteedOf, rangeRefusal, buyRefusal, orderRefusal, termsOf, quotesOf, openedBy, noAuction, acceptOf};
 use crate::Auction;
 use crate::Ending;
 use crate::Entry;
@@ -12,24 +12,28 @@ use crate::Opening;
 use crate::Quotes;
 use crate::Terms;
 use base::greater;
+use base::less;
 use base::lower;
 use base::wide;
 use mirror::buy_order;
 use tape::Order;
 use words::bits::mark;
 
-// One cent below.
-fn below(x: u32) -> u32
-    ensures { λ r. ⌜ r ≡ x - 1 ⌝ }
+// What counts as BO in the initiating price: BO, or the price of a collared order on the other side.
+fn offer(o: Order) -> u32
+    ensures { λ r. ⌜ r ≡ offerOf o ⌝ }
 {
-    if x == 0 { 0 } else { x - 1 }
+    if o.displayed == 0 {
+        return o.bo;
+    }
+    less(o.displayed, o.collar)
 }
 
 fn initiating(o: Order) -> u32
     ensures { λ r. ⌜ r ≡ initiatingOf o ⌝ }
 {
     if o.size < 50 {
-        return lower(lower(o.limit, o.nbo), below(o.bo));
+        return lower(lower(o.limit, o.nbo), less(offer(o), 1));
     }
     lower(o.limit, o.nbo)
 }
@@ -73,14 +77,20 @@ fn is_next(x: u64, y: u32) -> bool
     wide(y) == x + 1
 }
 
-// 10 to 12.
+// 10, 13, 11 and 12.
 fn range_refusal(o: Order) -> u32
     ensures { λ r. ⌜ r ≡ rangeRefusal o ⌝ }
 {
-    if wide(o.limit) < first_bound(o) {
+    let low = first_bound(o);
+    let price = initiating(o);
+    let high = wide(price);
+    if wide(o.limit) < low {
         return 10;
     }
-    if initiating(o) < o.stop {
+    if high < low {
+        return 13;
+    }
+    if price < o.stop {
         return 11;
     }
     if (o.size < 50) & is_next(wide(o.nbb), o.nbo) & !is_next(guaranteed(o), o.nbo) {
@@ -89,7 +99,7 @@ fn range_refusal(o: Order) -> u32
     0
 }
 
-// 2 to 12, of a buy in form.
+// 2 to 13, of a buy in form.
 fn buy_refusal(o: Order) -> u32
     ensures { λ r. ⌜ r ≡ buyRefusal o ⌝ }
 {

@@ -37,6 +37,10 @@ pub or-right : (a b : Bool) → (a || b) ≡ false → b ≡ false
 or-right true b e = no e
 or-right false b e = e
 
+pub or-either : (a b : Bool) → (a || b) ≡ true → (a ≡ true) ⊎ (b ≡ true)
+or-either true b e = inl refl
+or-either false b e = inr e
+
 -- ---- a choice by a test, taken apart: P holds of the choice where it holds of each side, under what the test says there
 pub by : {A : Type 0} (P : A → Type 0) (b : Bool) (x y : A) → (b ≡ true → P x) → (b ≡ false → P y) → P (cond b x y)
 by P true x y f g = f refl

@@ -18,5 +18,8 @@ lesser κs a = (tt, λ y z v w p q. (p ∙ sym q, refl))
 pub greater : Settled contracts.greater.ended contracts.greater.Reads.Asked contracts.greater.Reads.Learnt
 greater κs a = (tt, λ y z v w p q. (p ∙ sym q, refl))
 
+pub less : Settled contracts.less.ended contracts.less.Reads.Asked contracts.less.Reads.Learnt
+less κs a = (tt, λ y z v w p q. (p ∙ sym q, refl))
+
 pub mirror : Settled contracts.mirror.ended contracts.mirror.Reads.Asked contracts.mirror.Reads.Learnt
 mirror κs a = (tt, λ y z v w p q. (p ∙ sym q, refl))

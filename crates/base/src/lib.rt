@@ -1,6 +1,6 @@
 // What every crate stands on: small functions on numbers. It knows nothing of auctions but a price's mirror.
 ghost use mathlib.Core.Path.{_≡_};
-ghost use Prim.Native.Nat.{_≤_, min, max};
+ghost use Prim.Native.Nat.{_-_, _≤_, min, max};
 ghost use Rattle.base.specs.Price.{mirrored};
 
 // The same number in 64 bits, where two of them add up and multiply without loss.
@@ -36,6 +36,13 @@ pub fn greater(x: u64, y: u64) -> u64
     ensures { λ r. ⌜ r ≡ max x y ⌝ }
 {
     if x < y { y } else { x }
+}
+
+// What is left of x; none where y is more.
+pub fn less(x: u32, y: u32) -> u32
+    ensures { λ r. ⌜ r ≡ x - y ⌝ }
+{
+    if x < y { 0 } else { x - y }
 }
 
 // A price as the other side has it.

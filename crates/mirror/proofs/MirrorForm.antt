@@ -1,7 +1,7 @@
 -- The mirror of an order or an event in form is in form, and twice is once. Assumes nothing.
 use mathlib.Core.Path.{_≡_, refl, sym, ap, _∙_}
 use mathlib.Core.Bool.{Bool, true, false, cond, not, _&&_, _||_}
-use Prim.Native.Nat.{ℕ, _-_, _≤_, _<_}
+use Prim.Native.Nat.{ℕ, _+_, _-_, _≤_, _<_}
 use native.Mathlib.Omega.{arith}
 use lib.Dec.{leb, eqb}
 use lib.ListN.{getD}
@@ -9,13 +9,13 @@ use borrow.Author.Tests.{le-leb, lt-ltb, eq-eqb, ne-eqb, eqb-true, eqb-false}
 use Rattle.words.specs.rules.Bits.{bitAt}
 use Rattle.tape.specs.declared.order.Order.{Order}
 use Rattle.tape.specs.declared.event.Event.{Event}
-use Rattle.tape.specs.rules.Form.{within, inside, sides, prices, orderTests, orderFormed, shapeOf, shapeTests, eventFormed}
-use Rattle.tape.proofs.FormLaws.{each, within-ge, within-le, OrderBounds, order-bounds, row-bounds}
+use Rattle.tape.specs.rules.Form.{within, inside, sides, prices, collaredPrice, collarFormed, orderTests, orderFormed, shapeOf, shapeTests, eventFormed}
+use Rattle.tape.proofs.FormLaws.{each, within-ge, within-le, CollarForm, without, with, OrderBounds, order-bounds, row-bounds}
 use Rattle.base.specs.Price.{mirrored}
 use Rattle.base.proofs.Numbers.{mirror-twice}
 use Rattle.mirror.specs.promises.Records.{RecordsMirror}
 use Rattle.mirror.proofs.MarkLaws.{marks-mirror, marks-twice, marks-below}
-use Rattle.mirror.specs.rules.Mirror.{mirroredMarks, mirroredSide, mirroredOrder, mirroredPriced, mirroredMarket, mirroredQuotes, mirroredAmend, mirroredEvent, buyOrder}
+use Rattle.mirror.specs.rules.Mirror.{mirroredMarks, mirroredSide, mirroredUnless, mirroredOrder, mirroredPriced, mirroredMarket, mirroredQuotes, mirroredAmend, mirroredEvent, buyOrder}
 use Rattle.base.proofs.Bools.{by}
 use Rattle.mirror.proofs.EventLaws.{mirror-one, mirror-three, mirror-four, mirror-five, mirror-six, mirror-rest, mirror-by}
 
@@ -30,24 +30,33 @@ side-twice s = go (eqb s 1) (eqb s 2) refl refl
 
 -- ---- orders
 
+unless-twice : (t : Bool) (p : ℕ) → p ≤ 1000000 → mirroredUnless t (mirroredUnless t p) ≡ p
+unless-twice true p h = refl
+unless-twice false p h = mirror-twice p h
+
+-- the mirror of a price is not 0
+pub none-stays : (p : ℕ) → p ≤ 999999 → eqb (mirroredUnless (eqb p 0) p) 0 ≡ eqb p 0
+unfolding mirrored
+none-stays p h = go (eqb p 0) refl
+  where
+    go : (t : Bool) → eqb p 0 ≡ t → eqb (mirroredUnless t p) 0 ≡ t
+    go true z = z
+    go false z = ne-eqb (1000000 - p) 0 (λ q. omega (arith, q))
+
 pub order-twice : (o : Order) → orderFormed o ≡ true → mirroredOrder (mirroredOrder o) ≡ o
 unfolding mirroredOrder
 order-twice o f =
     let b : OrderBounds o = order-bounds o f in
     let p : (x : ℕ) → x ≤ 1000000 → mirrored (mirrored x) ≡ x = mirror-twice in
-    simp (side-twice (o .side), marks-twice (o .marks), p (o .limit) (omega arith), p (o .nbb) (omega arith), p (o .nbo) (omega arith), p (o .bb) (omega arith), p (o .bo) (omega arith), stop-twice (eqb (o .mode) 2) (o .stop) (omega arith))
-  where
-    stop-twice : (t : Bool) (s : ℕ) → s ≤ 1000000 → cond t (cond t s (mirrored s)) (mirrored (cond t s (mirrored s))) ≡ s
-    stop-twice true s h = refl
-    stop-twice false s h = mirror-twice s h
+    simp (side-twice (o .side), marks-twice (o .marks), p (o .limit) (omega arith), p (o .nbb) (omega arith), p (o .nbo) (omega arith), p (o .bb) (omega arith), p (o .bo) (omega arith), unless-twice (eqb (o .mode) 2) (o .stop) (omega arith), none-stays (o .displayed) (b .displayed), unless-twice (eqb (o .displayed) 0) (o .displayed) (omega arith))
 
--- a mirrored price is a price, a mirrored offer a bid, a mirrored bid an offer
 formed-if : (o : Order) → 1 ≤ o .side → o .side ≤ 2 → 1 ≤ o .mode → o .mode ≤ 3 → o .marks ≤ 15 → o .size ≤ 100000 → 1 ≤ o .limit → o .limit ≤ 999999
     → ((eqb (o .mode) 2 && eqb (o .stop) 0) || (not (eqb (o .mode) 2) && within (o .stop) 1 999999)) ≡ true → 1 ≤ o .nbb → o .nbb ≤ 999999 → 1 ≤ o .nbo → o .nbo ≤ 999999
-    → o .bb ≤ 999999 → 1 ≤ o .bo → o .bo ≤ 1000000 → o .time ≤ 86400000 → o .opens < o .closes → o .closes ≤ 86400000 → 100 ≤ o .interval → o .interval ≤ 1000 → orderFormed o ≡ true
+    → o .bb ≤ 999999 → 1 ≤ o .bo → o .bo ≤ 1000000 → o .time ≤ 86400000 → o .opens < o .closes → o .closes ≤ 86400000 → 100 ≤ o .interval → o .interval ≤ 1000
+    → collarFormed (o .side) (o .displayed) (o .collar) ≡ true → orderFormed o ≡ true
 unfolding orderFormed orderTests
-formed-if o h1 h2 h3 h4 h5 h6 h7 h8 h9 h10 h11 h12 h13 h14 h15 h16 h17 h18 h19 h20 h21 =
-    simp (le-leb _ _ h1, le-leb _ _ h2, le-leb _ _ h3, le-leb _ _ h4, le-leb _ _ h5, le-leb _ _ h6, le-leb _ _ h7, le-leb _ _ h8, h9, le-leb _ _ h10, le-leb _ _ h11, le-leb _ _ h12, le-leb _ _ h13, le-leb _ _ h14, le-leb _ _ h15, le-leb _ _ h16, le-leb _ _ h17, lt-ltb _ _ h18, le-leb _ _ h19, le-leb _ _ h20, le-leb _ _ h21)
+formed-if o h1 h2 h3 h4 h5 h6 h7 h8 h9 h10 h11 h12 h13 h14 h15 h16 h17 h18 h19 h20 h21 h22 =
+    simp (le-leb _ _ h1, le-leb _ _ h2, le-leb _ _ h3, le-leb _ _ h4, le-leb _ _ h5, le-leb _ _ h6, le-leb _ _ h7, le-leb _ _ h8, h9, le-leb _ _ h10, le-leb _ _ h11, le-leb _ _ h12, le-leb _ _ h13, le-leb _ _ h14, le-leb _ _ h15, le-leb _ _ h16, le-leb _ _ h17, lt-ltb _ _ h18, le-leb _ _ h19, le-leb _ _ h20, le-leb _ _ h21, h22)
 
 side-some : (s : ℕ) → 1 ≤ s → s ≤ 2 → (1 ≤ mirroredSide s) × (mirroredSide s ≤ 2)
 unfolding mirroredSide
@@ -59,15 +68,6 @@ stop-formed : (t : Bool) (s : ℕ) → s ≤ 999999 → (t ≡ true → s ≡ 0)
 unfolding mirrored
 stop-formed true s h z n = simp (eq-eqb _ _ (z refl))
 stop-formed false s h z n = let k : 1 ≤ s = n refl in simp (le-leb 1 (1000000 - s) (omega arith), le-leb (1000000 - s) 999999 (omega arith))
-
-pub order-form : (o : Order) → orderFormed o ≡ true → orderFormed (mirroredOrder o) ≡ true
-unfolding mirroredOrder mirrored
-order-form o f =
-    let b : OrderBounds o = order-bounds o f in
-    let s = side-some (o .side) (b .some-side) (b .side) in
-    formed-if (mirroredOrder o) (s .0) (s .1) (b .some-mode) (b .mode) (marks-below (o .marks) .1 (b .marks)) (b .size) (omega arith) (omega arith)
-    (stop-formed (eqb (o .mode) 2) (o .stop) (b .stop) (b .no-stop) (b .some-stop))
-    (omega arith) (omega arith) (omega arith) (omega arith) (omega arith) (omega arith) (omega arith) (b .time) (b .opens) (b .closes) (b .some-interval) (b .interval)
 
 order-side : (o : Order) → mirroredOrder o .side ≡ mirroredSide (o .side)
 unfolding mirroredOrder
@@ -83,6 +83,60 @@ other-two s z = ap mirroredSide z
 
 one-of-two : (s : ℕ) → 1 ≤ s → s ≤ 2 → (s ≡ 2 → ⊥) → s ≡ 1
 one-of-two s a b n = omega (arith, n)
+
+-- a mirrored price is a price
+price-in : (p : ℕ) → within p 1 999999 ≡ true → within (mirrored p) 1 999999 ≡ true
+unfolding mirrored
+price-in p h = simp (le-leb 1 (1000000 - p) (omega (arith, within-le p 1 999999 h)), le-leb (1000000 - p) 999999 (omega (arith, within-ge p 1 999999 h)))
+
+-- what a collared order counts at is mirrored with its displayed price, the collar being a difference
+collared-mirrored : (s d c : ℕ) → 1 ≤ s → s ≤ 2 → d ≤ 1000000 → (s ≡ 1 → c ≤ d) → collaredPrice (mirroredSide s) (mirrored d) c ≡ mirrored (collaredPrice s d c)
+unfolding mirrored
+collared-mirrored s d c a b h k = go (eqb s 2) refl
+  where
+    go : (t : Bool) → eqb s 2 ≡ t → cond (eqb (mirroredSide s) 2) (1000000 - d + c) (1000000 - d - c) ≡ 1000000 - cond t (d + c) (d - c)
+    go true z = let e : mirroredSide s ≡ 1 = other-one s (eqb-true _ _ z) in simp e (omega arith)
+    go false z =
+        let n : s ≡ 1 = one-of-two s a b (eqb-false _ _ z) in
+        let e : mirroredSide s ≡ 2 = other-two s n in
+        let m : c ≤ d = k n in
+        simp e (omega arith)
+
+-- a collar that is not above the displayed price of a buy
+collar-below : (s d c : ℕ) → within (collaredPrice s d c) 1 999999 ≡ true → s ≡ 1 → c ≤ d
+collar-below s d c h z = let k : within (d - c) 1 999999 ≡ true = rw z at h in omega (arith, within-ge (d - c) 1 999999 k)
+
+collar-formed : (s d c : ℕ) → 1 ≤ s → s ≤ 2 → CollarForm s d c → collarFormed (mirroredSide s) (mirroredUnless (eqb d 0) d) c ≡ true
+collar-formed s d c a b (without z k) = simp (eq-eqb d 0 z, eq-eqb c 0 k)
+collar-formed s d c a b (with hd hc hp) =
+    let m : within (collaredPrice (mirroredSide s) (mirrored d) c) 1 999999 ≡ true =
+        ap (λ (p : ℕ). within p 1 999999) (collared-mirrored s d c a b (omega (arith, within-le d 1 999999 hd)) (collar-below s d c hp)) ∙ price-in (collaredPrice s d c) hp in
+    simp (ne-eqb d 0 (λ q. omega (arith, q, within-ge d 1 999999 hd)), price-in d hd, hc, m, or-true (eqb (mirrored d) 0 && eqb c 0))
+  where
+    or-true : (t : Bool) → (t || true) ≡ true
+    or-true true = refl
+    or-true false = refl
+
+pub order-form : (o : Order) → orderFormed o ≡ true → orderFormed (mirroredOrder o) ≡ true
+unfolding mirroredOrder mirrored
+order-form o f =
+    let b : OrderBounds o = order-bounds o f in
+    let s = side-some (o .side) (b .some-side) (b .side) in
+    formed-if (mirroredOrder o) (s .0) (s .1) (b .some-mode) (b .mode) (marks-below (o .marks) .1 (b .marks)) (b .size) (omega arith) (omega arith)
+    (stop-formed (eqb (o .mode) 2) (o .stop) (b .stop) (b .no-stop) (b .some-stop))
+    (omega arith) (omega arith) (omega arith) (omega arith) (omega arith) (omega arith) (omega arith) (b .time) (b .opens) (b .closes) (b .some-interval) (b .interval)
+    (collar-formed (o .side) (o .displayed) (o .collar) (b .some-side) (b .side) (b .collar-form))
+
+order-collared : (o : Order) → orderFormed o ≡ true → (o .displayed ≡ 0 → ⊥)
+    → collaredPrice (mirroredOrder o .side) (mirroredOrder o .displayed) (mirroredOrder o .collar) ≡ mirrored (collaredPrice (o .side) (o .displayed) (o .collar))
+unfolding mirroredOrder
+order-collared o f n = go (order-bounds o f .collar-form)
+  where
+    go : CollarForm (o .side) (o .displayed) (o .collar) → collaredPrice (mirroredSide (o .side)) (mirroredUnless (eqb (o .displayed) 0) (o .displayed)) (o .collar) ≡ mirrored (collaredPrice (o .side) (o .displayed) (o .collar))
+    go (without z k) = absurd (n z)
+    go (with hd hc hp) =
+        let b = order-bounds o f in
+        simp (ne-eqb (o .displayed) 0 n) (collared-mirrored (o .side) (o .displayed) (o .collar) (b .some-side) (b .side) (omega (arith, b .displayed)) (collar-below (o .side) (o .displayed) (o .collar) hp))
 
 -- the buy of the mirrored order is the buy of the order
 pub buy-mirrored : (o : Order) → orderFormed o ≡ true → buyOrder (mirroredOrder o) ≡ buyOrder o
@@ -163,12 +217,9 @@ formed-by : (e : Event) → leb (e .time) 86400000 ≡ true → inside (e .marks
 unfolding eventFormed shapeTests
 formed-by e h0 h1 h2 h3 h4 h5 h6 h7 = simp (h0, h1, h2, h3, h4, h5, h6, h7)
 
+-- a mirrored offer is a bid, a mirrored bid an offer
 side-in : (s : ℕ) → within s 1 2 ≡ true → within (mirroredSide s) 1 2 ≡ true
 side-in s h = let k = side-some s (within-ge s 1 2 h) (within-le s 1 2 h) in simp (le-leb _ _ (k .0), le-leb _ _ (k .1))
-
-price-in : (p : ℕ) → within p 1 999999 ≡ true → within (mirrored p) 1 999999 ≡ true
-unfolding mirrored
-price-in p h = simp (le-leb 1 (1000000 - p) (omega (arith, within-le p 1 999999 h)), le-leb (1000000 - p) 999999 (omega (arith, within-ge p 1 999999 h)))
 
 bid-in : (p : ℕ) → within p 1 1000000 ≡ true → within (mirrored p) 0 999999 ≡ true
 unfolding mirrored
@@ -242,6 +293,7 @@ records-mirror =
       event-twice = event-twice;
       order-form = order-form;
       event-form = event-form;
+      collared = order-collared;
       other-side = other-side;
       same-buy = buy-mirrored;
     }

@@ -1,9 +1,6 @@
 // The mirror that turns a sell into a buy: orders and events as the buy's auction sees them.
 ghost use mathlib.Core.Path.{_≡_};
-ghost use mathlib.Core.Bool.{cond};
-ghost use lib.Dec.{eqb};
-ghost use Rattle.base.specs.Price.{mirrored};
-ghost use Rattle.mirror.specs.rules.Mirror.{withMark, mirroredMarks, mirroredSide, mirroredOrder, mirroredPriced, mirroredMarket, mirroredQuotes, mirroredAmend, mirroredEvent, buyOrder, buyEvent};
+ghost use Rattle.mirror.specs.rules.Mirror.{withMark, mirroredMarks, mirroredSide, mirroredUnless, mirroredOrder, mirroredPriced, mirroredMarket, mirroredQuotes, mirroredAmend, mirroredEvent, buyOrder, buyEvent};
 use base::mirror;
 use tape::Event;
 use tape::Order;
@@ -42,16 +39,17 @@ fn mirror_side(s: u8) -> u8
     s
 }
 
-// A stop in the mirror: there is none in mode 2.
-fn mirror_stop(mode: u8, stop: u32) -> u32
-    ensures { λ r. ⌜ r ≡ cond (eqb mode 2) stop (mirrored stop) ⌝ }
+// A price in the mirror, unless there is none.
+fn mirror_unless(none: bool, p: u32) -> u32
+    ensures { λ r. ⌜ r ≡ mirroredUnless none p ⌝ }
 {
-    if mode == 2 {
-        return stop;
+    if none {
+        return p;
     }
-    mirror(stop)
+    mirror(p)
 }
 
+// There is no stop in mode 2, and no collared order where the displayed price is 0. The collar is a difference of prices.
 fn mirror_order(o: Order) -> Order
     ensures { λ r. ⌜ r ≡ mirroredOrder o ⌝ }
 {
@@ -61,7 +59,7 @@ fn mirror_order(o: Order) -> Order
         marks: mirror_marks(o.marks),
         size: o.size,
         limit: mirror(o.limit),
-        stop: mirror_stop(o.mode, o.stop),
+        stop: mirror_unless(o.mode == 2, o.stop),
         nbb: mirror(o.nbo),
         nbo: mirror(o.nbb),
         bb: mirror(o.bo),
@@ -70,6 +68,8 @@ fn mirror_order(o: Order) -> Order
         opens: o.opens,
         closes: o.closes,
         interval: o.interval,
+        displayed: mirror_unless(o.displayed == 0, o.displayed),
+        collar: o.collar,
     }
 }
 

@@ -12,7 +12,6 @@ use borrow.Author.Tests.{lt-ltb, le-ltb, ltb-false, le-leb, lt-leb, leb-true}
 use Rattle.base.specs.Lists.{In, Every, keep}
 use Rattle.base.proofs.Bools.{by, no as never, and-both, and-right, or-left}
 use Rattle.base.proofs.Numbers.{eq-or}
-use Rattle.words.specs.rules.Bits.{bitAt}
 use Rattle.words.specs.rules.Bytes.{wordAt}
 use Rattle.tape.specs.declared.order.Order.{Order}
 use Rattle.tape.specs.declared.Written.the-variants.{Done, Refused as NotWritten}
@@ -37,10 +36,10 @@ use Rattle.demand.proofs.Theorems.{few}
 use Rattle.auction.specs.declared.Auction.{Auction}
 use Rattle.auction.specs.declared.Ending.{Ending}
 use Rattle.auction.specs.declared.Ending.the-variants.{Open, Time, Same, Opposite, Improve}
-use Rattle.auction.specs.declared.Opening.{Opening}
 use Rattle.auction.specs.declared.Entry.{Entry}
 use Rattle.auction.specs.declared.Entry.the-variants.{Accepted, Refused as NotAccepted}
-use Rattle.auction.specs.rules.Accept.{initiatingOf, firstBound, guaranteedOf, rangeRefusal, buyRefusal, orderRefusal, acceptOf}
+use Rattle.auction.specs.rules.Accept.{buyRefusal, acceptOf}
+use Rattle.auction.proofs.Accepted.{range-by, refusal-by, formed-refusal, refusal-is}
 use Rattle.events.specs.declared.Answer.{Answer}
 use Rattle.events.specs.declared.Answer.the-variants.{Taken, Ended, Late, Refused}
 use Rattle.events.specs.rules.Step.{sightOf, stepOf}
@@ -111,34 +110,16 @@ Not1 n = n ≡ 1 → ⊥
 other : (n : ℕ) → 1 < n → Not1 n
 other n h z = omega arith
 
-range-not : (b : Order) → Not1 (rangeRefusal b)
-unfolding rangeRefusal
-range-not b =
-    by Not1 (ltb (b .limit) (firstBound b)) _ _ (λ _. other 10 (omega arith)) (λ _.
-    by Not1 (ltb (initiatingOf b) (b .stop)) _ _ (λ _. other 11 (omega arith)) (λ _.
-    by Not1 (ltb (b .size) 50 && eqb (b .nbo) (b .nbb + 1) && not (eqb (b .nbo) (guaranteedOf b + 1))) _ _ (λ _. other 12 (omega arith)) (λ _ z. omega arith)))
-
 buy-not : (b : Order) → Not1 (buyRefusal b)
-unfolding buyRefusal
 buy-not b =
-    by Not1 (ltb (b .nbb) (b .bb) || ltb (b .bo) (b .nbo)) _ _ (λ _. other 2 (omega arith)) (λ _.
-    by Not1 (eqb (b .size) 0) _ _ (λ _. other 3 (omega arith)) (λ _.
-    by Not1 (ltb (b .time) (b .opens)) _ _ (λ _. other 4 (omega arith)) (λ _.
-    by Not1 (leb (b .closes) (b .time + 1000)) _ _ (λ _. other 5 (omega arith)) (λ _.
-    by Not1 (bitAt (b .marks) 0) _ _ (λ _. other 6 (omega arith)) (λ _.
-    by Not1 (bitAt (b .marks) 1) _ _ (λ _. other 7 (omega arith)) (λ _.
-    by Not1 (leb (b .nbo) (b .nbb)) _ _ (λ _. other 8 (omega arith)) (λ _.
-    by Not1 (ltb (b .size) 50 && eqb (b .bo) (b .bb + 1)) _ _ (λ _. other 9 (omega arith)) (λ _. range-not b))))))))
+    refusal-by b Not1 (λ n l _. other n l)
+    (λ _. range-by b Not1 (λ _. other 10 (omega arith)) (λ _ _. other 13 (omega arith)) (λ _. other 11 (omega arith)) (λ _. other 12 (omega arith)) (λ _ _ z. omega arith))
 
 formed-not : (o : Order) (n : ℕ) → orderFormed o ≡ true → acceptOf o .answer ≡ NotAccepted n → Not1 n
-unfolding acceptOf orderRefusal
-formed-not o n f =
-    by (λ (p : Opening). p .answer ≡ NotAccepted n → Not1 n) (eqb (orderRefusal o) 0) _ _
-    (λ _ z. never cc)
-    (λ _ z. let q : orderRefusal o ≡ n = cc in let k : orderRefusal o ≡ buyRefusal (buyOrder o) = rw f in λ m. buy-not (buyOrder o) (sym k ∙ q ∙ m))
+formed-not o n f h m = buy-not (buyOrder o) (sym (formed-refusal o f) ∙ refusal-is o n h ∙ m)
 
-order-number : (o : Order) (n : ℕ) → orderFormed o ≡ true → acceptOf o .answer ≡ NotAccepted n → In n (2 ∷ 3 ∷ 4 ∷ 5 ∷ 6 ∷ 7 ∷ 8 ∷ 9 ∷ 10 ∷ 11 ∷ 12 ∷ [])
-order-number o n f h = let b = keeps .order-numbers o n h in numbers-in n 2 11 (omega (arith, b .0, formed-not o n f h)) (omega (arith, b .1))
+order-number : (o : Order) (n : ℕ) → orderFormed o ≡ true → acceptOf o .answer ≡ NotAccepted n → In n (2 ∷ 3 ∷ 4 ∷ 5 ∷ 6 ∷ 7 ∷ 8 ∷ 9 ∷ 10 ∷ 11 ∷ 12 ∷ 13 ∷ [])
+order-number o n f h = let b = keeps .order-numbers o n h in numbers-in n 2 12 (omega (arith, b .0, formed-not o n f h)) (omega (arith, b .1))
 
 -- ---- its run
 

@@ -3,6 +3,7 @@ use Rattle.words.proofs.BitTheorems.{bits-mean}
 use Rattle.reader.proofs.ReaderLaws.{reading}
 use Rattle.roundtrip.proofs.TapeBack.{demands as round-trips}
 use Rattle.mirror.proofs.MirrorForm.{records-mirror}
+use Rattle.auction.proofs.CollaredLaws.{collared}
 use Rattle.board.proofs.Theorems.{changes, seen, finding, ordering}
 use Rattle.share.proofs.ShareLaws.{pro-rata}
 use Rattle.demand.proofs.Theorems.{demand3, few}
@@ -26,6 +27,7 @@ below =
       reading = λ bytes t. reading bytes t;
       round-trips = round-trips;
       records-mirror = records-mirror;
+      collared = collared;
       changes = changes;
       seen = seen;
       finding = finding;

@@ -36,6 +36,13 @@ accepted o = go (acceptOf o .answer)
     go Accepted z = refl
     go (NotAccepted n) z = cc
 
+pub not-accepted : (o : Order) (n : ℕ) → entryIs (acceptOf o .answer) ≡ no n → acceptOf o .answer ≡ NotAccepted n
+not-accepted o n = go (acceptOf o .answer)
+  where
+    go : (x : Entry) → entryIs x ≡ no n → x ≡ NotAccepted n
+    go Accepted z = cc
+    go (NotAccepted m) z = let q : m ≡ n = cc in ap NotAccepted q
+
 -- the words are told by their first letters
 abbrev first : Paper String → ℕ
 first (no n) = 0

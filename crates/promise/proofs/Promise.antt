@@ -7,8 +7,8 @@ use Rattle.promise.proofs.Resent.{same-records, resends, answered-alike
 use Rattle.promise.proofs.Counted.{counted}
 use Rattle.promise.proofs.Offered.{offered, mirrors-watch}
 use Rattle.promise.proofs.Tapes.{can-lack, can-mirror}
-use Rattle.promise.proofs.Carried.{accepted}
-use Rattle.promise.proofs.Opening.{opens}
+use Rattle.promise.proofs.Carried.{accepted, not-accepted}
+use Rattle.promise.proofs.Opening.{opens, some-range, no-range}
 use Rattle.promise.proofs.InRealPrices.{trades}
 use Rattle.promise.proofs.Mirrored.{mirrors}
 use Rattle.promise.proofs.Below.{below}
@@ -27,6 +27,8 @@ promise =
       answered-alike = answered-alike;
       read-back = demands;
       first-range = λ o h. opens o (accepted o h);
+      some-range = λ o h. some-range o (accepted o h);
+      no-range = λ o h. no-range o (not-accepted o 13 h);
       trades = λ o es h. trades o es (accepted o h);
       counted = counted;
       same-records = same-records;

@@ -27,7 +27,7 @@ use Rattle.auction.specs.rules.Accept.{initiatingOf, termsOf, acceptOf}
 use Rattle.auction.specs.declared.Terms.{Terms}
 use Rattle.auction.specs.declared.Entry.the-variants.{Accepted}
 use Rattle.fills.specs.rules.Fills.{dealOf}
-use Rattle.run.proofs.Accepted.{opened, below-limit}
+use Rattle.auction.proofs.Accepted.{opened, below-limit}
 use Rattle.promise.specs.rules.Sides.{isSell, better, sent, atEnd, writtenFills, liveAtEnd, marketOrder, workingPrice}
 use Rattle.promise.specs.promises.Parts.{Trader, OneRecord, auctionAfter}
 use Rattle.promise.specs.promises.Parts.Trader.{theContra, aResponse, theMarket}

@@ -33,7 +33,7 @@ use Rattle.fills.specs.rules.Fills.{dealOf}
 use Rattle.run.specs.rules.Run.{run}
 use Rattle.run.specs.promises.Demands.{Stands, Sound, Trades}
 use Rattle.demand.specs.promises.Demands as demands
-use Rattle.run.proofs.Accepted.{opened}
+use Rattle.auction.proofs.Accepted.{opened}
 use Rattle.run.proofs.MarketFrom.{run-terms}
 use Rattle.run.proofs.SoundLaws.{sound-opened, sound-run, sound-close, demanded}
 use Rattle.promise.specs.rules.Sides.{isSell, better, sent, atEnd, rangeAtEnd, writtenFills, liveAtEnd, marketOrder, walkedFills, workingPrice}

@@ -23,7 +23,7 @@ use Rattle.auction.specs.declared.Terms.{Terms}
 use Rattle.auction.specs.declared.Entry.the-variants.{Accepted}
 use Rattle.auction.specs.rules.Accept.{termsOf, openedBy, acceptOf}
 use Rattle.decision.specs.rules.Decide.{isCustomer, responseOf, amendedBy}
-use Rattle.run.proofs.Accepted.{opened}
+use Rattle.auction.proofs.Accepted.{opened}
 use Rattle.promise.specs.rules.Sides.{isSell, sent, sentBy, sentInstead}
 use lib.Dec.{eqb}
 use borrow.Author.Tests.{eq-eqb, ne-eqb}

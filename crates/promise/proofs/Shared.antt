@@ -35,7 +35,7 @@ use Rattle.auction.specs.rules.Accept.{acceptOf}
 use Rattle.auction.specs.declared.Entry.the-variants.{Accepted}
 use Rattle.fills.specs.rules.Fills.{dealOf}
 use Rattle.tape.proofs.FormLaws.{order-bounds}
-use Rattle.run.proofs.Accepted.{opened}
+use Rattle.auction.proofs.Accepted.{opened}
 use Rattle.run.proofs.SoundLaws.{sound-deal}
 use Rattle.promise.specs.rules.Sides.{isSell, better, sent, soldBetter, gotBetter, atEnd, writtenFills, liveAtEnd, walkedFills, workingPrice, allAtPrice, customersAtPrice, othersAtPrice, guaranteeAtEnd, leftAtPrice, planAtPrice, leftToOthersAtPrice}
 use Rattle.promise.proofs.RealLaws.{better-shown, same-shown, shown-twice, tally-shown, filter-sent, sequence-sent, sizes-sent, deal, dealt, sound, demand, mode-is, size-is, written-is, there-is, initiating-fits, stop-fits, prices-fit, working-fits, works-is, walked-is, got-is, was-live}

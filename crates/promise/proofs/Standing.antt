@@ -41,7 +41,7 @@ use Rattle.run.specs.rules.Run.{run, isTaken, takenOf}
 use Rattle.run.specs.promises.Demands.{InTime, Stands, Sound, Rising}
 use Rattle.run.proofs.StepLaws.{Leaves, Outcomes, cases}
 use Rattle.run.proofs.BoardSteps.{sees}
-use Rattle.run.proofs.Accepted.{opened}
+use Rattle.auction.proofs.Accepted.{opened}
 use Rattle.run.proofs.SoundLaws.{sound-opened, sound-step}
 use Rattle.run.proofs.MarketFrom.{side-in, sided, buy-form, other-side, terms-stay, run-terms, untaken}
 use Rattle.run.proofs.Amends.{found-is, others-apart}

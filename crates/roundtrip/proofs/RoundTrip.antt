@@ -116,21 +116,17 @@ order-from : (s : List ℕ) (o : Order) → getD s 0 0 ≡ o .side → getD s 1 
 unfolding orderOf orderWords
 order-from s o b0 b1 b2 w =
     let at : (k : ℕ) → getD (wordsFrom s 0 16) k 0 ≡ getD (orderWords o) k 0 = λ k. ap (λ (l : List ℕ). getD l k 0) w in
-    simp (b0, b1, b2, at 1, at 2, at 3, at 4, at 5, at 6, at 7, at 8, at 9, at 10, at 11)
+    simp (b0, b1, b2, at 1, at 2, at 3, at 4, at 5, at 6, at 7, at 8, at 9, at 10, at 11, at 12, at 13)
 
 -- the words of an order that stands in bytes whose spare ones are zero
 order-words : (s : List ℕ) → 64 ≤ length s → orderSpare s ≡ true → orderWords (orderOf s) ≡ wordsFrom s 0 16
 unfolding orderOf orderWords orderSpare
 order-words s h z =
-    let z3 : (eqb (getD s 3 0) 0 && eqb (wordAt s 48) 0 && eqb (wordAt s 52) 0 && eqb (wordAt s 56) 0) ≡ true = and-left _ (eqb (wordAt s 60) 0) z in
-    let z2 : (eqb (getD s 3 0) 0 && eqb (wordAt s 48) 0 && eqb (wordAt s 52) 0) ≡ true = and-left _ (eqb (wordAt s 56) 0) z3 in
-    let z1 : (eqb (getD s 3 0) 0 && eqb (wordAt s 48) 0) ≡ true = and-left _ (eqb (wordAt s 52) 0) z2 in
-    let b3 : getD s 3 0 ≡ 0 = eqb-true (getD s 3 0) 0 (and-left _ (eqb (wordAt s 48) 0) z1) in
-    let w48 : wordAt s 48 ≡ 0 = eqb-true (wordAt s 48) 0 (and-right (eqb (getD s 3 0) 0) _ z1) in
-    let w52 : wordAt s 52 ≡ 0 = eqb-true (wordAt s 52) 0 (and-right (eqb (getD s 3 0) 0 && eqb (wordAt s 48) 0) _ z2) in
-    let w56 : wordAt s 56 ≡ 0 = eqb-true (wordAt s 56) 0 (and-right (eqb (getD s 3 0) 0 && eqb (wordAt s 48) 0 && eqb (wordAt s 52) 0) _ z3) in
-    let w60 : wordAt s 60 ≡ 0 = eqb-true (wordAt s 60) 0 (and-right (eqb (getD s 3 0) 0 && eqb (wordAt s 48) 0 && eqb (wordAt s 52) 0 && eqb (wordAt s 56) 0) _ z) in
-    simp (four-word s 0 (omega arith) b3, w48, w52, w56, w60)
+    let z1 : (eqb (getD s 3 0) 0 && eqb (wordAt s 56) 0) ≡ true = and-left _ (eqb (wordAt s 60) 0) z in
+    let b3 : getD s 3 0 ≡ 0 = eqb-true (getD s 3 0) 0 (and-left _ (eqb (wordAt s 56) 0) z1) in
+    let w56 : wordAt s 56 ≡ 0 = eqb-true (wordAt s 56) 0 (and-right (eqb (getD s 3 0) 0) _ z1) in
+    let w60 : wordAt s 60 ≡ 0 = eqb-true (wordAt s 60) 0 (and-right (eqb (getD s 3 0) 0 && eqb (wordAt s 56) 0) _ z) in
+    simp (four-word s 0 (omega arith) b3, w56, w60)
 
 -- the first four bytes of an order that was written
 order-front : (o : Order) (l : List ℕ) → OrderBounds o → wordBytes (orderWords o) ++ l ≡ (o .side ∷ o .mode ∷ o .marks ∷ 0 ∷ []) ++ drop 4 (wordBytes (orderWords o) ++ l)
@@ -141,7 +137,7 @@ order-spares : (s : List ℕ) (o : Order) → getD s 3 0 ≡ 0 → wordsFrom s 0
 unfolding orderSpare orderWords
 order-spares s o b3 w =
     let at : (k : ℕ) → getD (wordsFrom s 0 16) k 0 ≡ getD (orderWords o) k 0 = λ k. ap (λ (l : List ℕ). getD l k 0) w in
-    simp (b3, at 12, at 13, at 14, at 15)
+    simp (b3, at 14, at 15)
 
 -- an order that was written is read
 pub order-written : (o : Order) (l : List ℕ) → orderFormed o ≡ true → readOrder (wordBytes (orderWords o) ++ l) ≡ GotOrder o

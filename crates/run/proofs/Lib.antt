@@ -2,7 +2,6 @@
 pub mod StepLaws
 pub mod Resend
 pub mod BoardSteps
-pub mod Accepted
 pub mod SoundLaws
 pub mod Amends
 pub mod OnOffer

@@ -29,7 +29,7 @@ use Rattle.auction.specs.declared.Entry.the-variants.{Accepted}
 use Rattle.run.proofs.StepLaws.{Leaves, cases}
 use Rattle.mirror.proofs.EventLaws.{buy-sequence, buy-kind, mirror-four}
 use Rattle.mirror.proofs.MirrorForm.{event-form}
-use Rattle.run.proofs.Accepted.{opened}
+use Rattle.auction.proofs.Accepted.{opened}
 use Rattle.run.proofs.Resend.{any-change, taken-any, keeps, older, again, rising, one}
 use Rattle.run.proofs.SoundLaws.{sound-opened, sound-run}
 

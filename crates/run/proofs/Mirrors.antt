@@ -47,7 +47,7 @@ use Rattle.decision.specs.declared.Outcome.the-variants.{Refuses, Does}
 use Rattle.mirror.proofs.EventLaws.{mirror-sequence, mirror-time, mirror-kind, mirror-name}
 use Rattle.run.proofs.StepLaws.{names-is}
 use Rattle.tape.specs.rules.Fields.{nameOf}
-use Rattle.run.proofs.Accepted.{opened}
+use Rattle.auction.proofs.Accepted.{opened}
 use Rattle.run.proofs.SoundLaws.{sound-deal}
 use Rattle.mirror.proofs.MirrorForm.{order-form, buy-mirrored, other-side, event-twice, event-form}
 

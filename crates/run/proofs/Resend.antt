@@ -1,22 +1,21 @@
 -- A refusal changes nothing; an event that was taken, met again, is refused. Assumes nothing.
 use mathlib.Core.Path.{_≡_, refl, sym, ap, subst, _∙_}
-use mathlib.Core.Bool.{Bool, true, false, cond, not, _&&_, _||_}
+use mathlib.Core.Bool.{Bool, true, false, cond, not}
 use mathlib.Core.List.{List, [], _∷_}
 use mathlib.Core.Logic.{inl, inr}
-use Prim.Native.Nat.{ℕ, _+_, _≤_, _<_}
+use Prim.Native.Nat.{ℕ, _≤_, _<_}
 use native.Mathlib.Nat.{le-refl, le-trans, le-of-lt}
 use native.Mathlib.Omega.{arith}
-use lib.Dec.{leb, ltb, eqb}
+use lib.Dec.{eqb}
 use borrow.Author.Tests.{le-leb, lt-leb, le-ltb, lt-ltb, eqb-false}
-use Rattle.words.specs.rules.Bits.{bitAt}
 use Rattle.base.specs.Lists.{In, Every, keep}
 use Rattle.tape.specs.declared.event.Event.{Event}
 use Rattle.tape.specs.declared.order.Order.{Order}
-use Rattle.tape.specs.rules.Form.{orderFormed, eventFormed}
+use Rattle.tape.specs.rules.Form.{eventFormed}
 use Rattle.base.proofs.Bools.{by, no}
 use Rattle.base.proofs.ListLaws.{every-in, every-map}
-use Rattle.mirror.specs.rules.Mirror.{buyOrder}
-use Rattle.auction.specs.rules.Accept.{initiatingOf, firstBound, guaranteedOf, rangeRefusal, buyRefusal, orderRefusal, acceptOf}
+use Rattle.auction.specs.rules.Accept.{orderRefusal, acceptOf}
+use Rattle.auction.proofs.Accepted.{order-most}
 use Rattle.auction.specs.rules.Range.{isOpen}
 use Rattle.events.specs.rules.Step.{sightOf, eventRefusal, headAfter, endedByTime, turnOf, closeTurn, gives, seatedOn, stepBy, stepOf, closeOf}
 use Rattle.run.specs.rules.Run.{run, isTaken, takenOf}
@@ -187,35 +186,10 @@ ended-stays a z = simp z
 
 -- ---- orders
 
-range-most : (b : Order) → rangeRefusal b ≤ 12
-unfolding rangeRefusal
-range-most b =
-    let P : ℕ → Type 0 = λ n. n ≤ 12 in
-    by P (ltb (b .limit) (firstBound b)) _ _ (λ _. omega arith) (λ _.
-    by P (ltb (initiatingOf b) (b .stop)) _ _ (λ _. omega arith) (λ _.
-    by P (ltb (b .size) 50 && eqb (b .nbo) (b .nbb + 1) && not (eqb (b .nbo) (guaranteedOf b + 1))) _ _ (λ _. omega arith) (λ _. omega arith)))
-
-buy-most : (b : Order) → buyRefusal b ≤ 12
-unfolding buyRefusal
-buy-most b =
-    let P : ℕ → Type 0 = λ n. n ≤ 12 in
-    by P (ltb (b .nbb) (b .bb) || ltb (b .bo) (b .nbo)) _ _ (λ _. omega arith) (λ _.
-    by P (eqb (b .size) 0) _ _ (λ _. omega arith) (λ _.
-    by P (ltb (b .time) (b .opens)) _ _ (λ _. omega arith) (λ _.
-    by P (leb (b .closes) (b .time + 1000)) _ _ (λ _. omega arith) (λ _.
-    by P (bitAt (b .marks) 0) _ _ (λ _. omega arith) (λ _.
-    by P (bitAt (b .marks) 1) _ _ (λ _. omega arith) (λ _.
-    by P (leb (b .nbo) (b .nbb)) _ _ (λ _. omega arith) (λ _.
-    by P (ltb (b .size) 50 && eqb (b .bo) (b .bb + 1)) _ _ (λ _. omega arith) (λ _. range-most b))))))))
-
-order-most : (o : Order) → orderRefusal o ≤ 12
-unfolding orderRefusal
-order-most o = by (λ (n : ℕ). n ≤ 12) (not (orderFormed o)) _ _ (λ _. omega arith) (λ _. buy-most (buyOrder o))
-
-order-numbers : (o : Order) (n : ℕ) → acceptOf o .answer ≡ NotAccepted n → (1 ≤ n) × (n ≤ 12)
+order-numbers : (o : Order) (n : ℕ) → acceptOf o .answer ≡ NotAccepted n → (1 ≤ n) × (n ≤ 13)
 unfolding acceptOf
 order-numbers o n =
-    by (λ (p : Opening). p .answer ≡ NotAccepted n → (1 ≤ n) × (n ≤ 12)) (eqb (orderRefusal o) 0) _ _
+    by (λ (p : Opening). p .answer ≡ NotAccepted n → (1 ≤ n) × (n ≤ 13)) (eqb (orderRefusal o) 0) _ _
     (λ _ z. no cc)
     (λ h z. let q : orderRefusal o ≡ n = cc in let s : orderRefusal o ≡ 0 → ⊥ = eqb-false _ _ h in (omega (arith, s), omega (arith, order-most o)))
 

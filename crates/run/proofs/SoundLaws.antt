@@ -44,7 +44,7 @@ use Rattle.auction.specs.declared.Entry.the-variants.{Accepted}
 use Rattle.run.proofs.StepLaws.{Outcomes, cases}
 use Rattle.mirror.proofs.EventLaws.{buy-sequence, buy-kind, mirror-one, mirror-three, priced-size, amend-size}
 use Rattle.run.proofs.BoardSteps.{sees, seat-every, amend-every, clear-every, seat-distinct, amend-distinct, clear-distinct, seat-sizes, amend-sizes, clear-sizes, live-sizes}
-use Rattle.run.proofs.Accepted.{Passed, bound-fits, opened, price-fits}
+use Rattle.auction.proofs.Accepted.{Passed, opened, price-fits}
 use Rattle.run.proofs.Resend.{keeps}
 
 -- ---- at the opening
@@ -53,7 +53,7 @@ opened-sound : (s : Bool) (b : Order) → Passed b → initiatingOf b ≤ 999999
 unfolding openedBy termsOf quotesOf sum
 opened-sound s b p q m =
     record {
-      bound-below = bound-fits b p;
+      bound-below = p .ranged;
       stop-below = p .stop;
       price = q;
       size = p .size;

@@ -2,6 +2,7 @@
 use mathlib.Core.Path.{_≡_, refl, sym, subst, _∙_}
 use mathlib.Core.Bool.{Bool, true, false, cond, not, _&&_, _||_, or-false}
 use mathlib.Core.List.{List, [], _∷_}
+use mathlib.Core.Logic.{⊎-elim}
 use Prim.Native.Nat.{ℕ, zero, suc, _<_, _≤_}
 use native.Mathlib.Omega.{arith}
 use lib.ListN.{getD}
@@ -10,8 +11,8 @@ use borrow.Author.Tests.{leb-true, ltb-true, eqb-true}
 use Rattle.tape.specs.declared.order.Order.{Order}
 use Rattle.tape.specs.declared.form.Shape.{Shape}
 use Rattle.tape.specs.declared.form.Range.{Range}
-use Rattle.tape.specs.rules.Form.{allFrom, within, orderTests, orderFormed, range, inside, unused, sides, sizes, prices, anyNumber, bids, offers, row, shapeOf}
-use Rattle.base.proofs.Bools.{and-left, and-right}
+use Rattle.tape.specs.rules.Form.{allFrom, within, collaredPrice, collarFormed, orderTests, orderFormed, range, inside, unused, sides, sizes, prices, anyNumber, bids, offers, row, shapeOf}
+use Rattle.base.proofs.Bools.{and-left, and-right, or-either}
 
 all-start : (ts : List Bool) (b : Bool) → allFrom b ts ≡ true → b ≡ true
 all-start [] b h = h
@@ -45,6 +46,28 @@ pub stop-some : (s : ℕ) (a : Bool) → a ≡ false → ((a && eqb s 0) || (not
 stop-some s true e h = absurd (let z : _≡_ {A = ℕ} 0 1 = cc in (let r : ⊥ = omega arith in r))
 stop-some s false e h = within-ge s 1 999999 h
 
+-- what the form of a collared order says: there is none, or its displayed price, the collar and the result are prices
+pub data CollarForm (side displayed collar : ℕ) : Type 0 where
+  without : displayed ≡ 0 → collar ≡ 0 → CollarForm side displayed collar
+  with : within displayed 1 999999 ≡ true → within collar 1 999999 ≡ true → within (collaredPrice side displayed collar) 1 999999 ≡ true → CollarForm side displayed collar
+
+pub collar-form : (side displayed collar : ℕ) → collarFormed side displayed collar ≡ true → CollarForm side displayed collar
+collar-form side displayed collar h =
+    ⊎-elim
+    (λ z. without (eqb-true _ _ (and-left (eqb displayed 0) (eqb collar 0) z)) (eqb-true _ _ (and-right (eqb displayed 0) (eqb collar 0) z)))
+    (λ p.
+    let both = and-left (within displayed 1 999999 && within collar 1 999999) (within (collaredPrice side displayed collar) 1 999999) p in
+    with (and-left (within displayed 1 999999) (within collar 1 999999) both) (and-right (within displayed 1 999999) (within collar 1 999999) both) (and-right (within displayed 1 999999 && within collar 1 999999) (within (collaredPrice side displayed collar) 1 999999) p))
+    (or-either (eqb displayed 0 && eqb collar 0) _ h)
+
+displayed-le : {side displayed collar : ℕ} → CollarForm side displayed collar → displayed ≤ 999999
+displayed-le (without d c) = omega (arith, d)
+displayed-le (with d c p) = within-le _ 1 999999 d
+
+collar-le : {side displayed collar : ℕ} → CollarForm side displayed collar → collar ≤ 999999
+collar-le (without d c) = omega (arith, c)
+collar-le (with d c p) = within-le _ 1 999999 c
+
 -- the bounds of an order in form
 pub record OrderBounds (o : Order) : Type 0 where
   pub some-side : 1 ≤ o .side
@@ -70,11 +93,15 @@ pub record OrderBounds (o : Order) : Type 0 where
   pub opens : o .opens < o .closes
   pub closes : o .closes ≤ 86400000
   pub interval : o .interval ≤ 1000
+  pub displayed : o .displayed ≤ 999999
+  pub collar : o .collar ≤ 999999
+  pub collar-form : CollarForm (o .side) (o .displayed) (o .collar)
 
 pub order-bounds : (o : Order) → orderFormed o ≡ true → OrderBounds o
 unfolding orderFormed orderTests
 order-bounds o h =
     let t : (i : ℕ) → getD (orderTests o) i true ≡ true = each (orderTests o) true h in
+    let k : CollarForm (o .side) (o .displayed) (o .collar) = collar-form (o .side) (o .displayed) (o .collar) (t 14) in
     record {
       some-side = within-ge (o .side) 1 2 (t 0);
       some-mode = within-ge (o .mode) 1 3 (t 1);
@@ -99,6 +126,9 @@ order-bounds o h =
       opens = ltb-true (o .opens) (o .closes) (t 11);
       closes = leb-true (o .closes) 86400000 (t 12);
       interval = within-le (o .interval) 100 1000 (t 13);
+      displayed = displayed-le k;
+      collar = collar-le k;
+      collar-form = k;
     }
 
 -- ---- events

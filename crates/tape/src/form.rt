@@ -1,10 +1,31 @@
 // The stated form of an order and of an event.
 ghost use mathlib.Core.Path.{_≡_};
 ghost use mathlib.Core.Bool.{true};
-ghost use Rattle.tape.specs.rules.Form.{allFrom, orderFormed, inside, shapeTests, eventFormed};
+ghost use Rattle.tape.specs.rules.Form.{allFrom, collaredPrice, collarFormed, orderFormed, inside, shapeTests, eventFormed};
 use crate::event::Event;
 use crate::order::Order;
 use words::bits::mark;
+
+// The price at which a collared order on the other side counts: its displayed price plus the collar for a sell, minus it for a buy, and 0 where a buy's collar is the higher.
+fn collared_price(side: u8, displayed: u32, collar: u32) -> u64
+    ensures { λ r. ⌜ r ≡ collaredPrice side displayed collar ⌝ }
+{
+    if side == 2 {
+        return base::wide(displayed) + base::wide(collar);
+    }
+    base::wide(base::less(displayed, collar))
+}
+
+// There is no collared order, or its displayed price, the collar and the result are prices.
+fn collar_form(side: u8, displayed: u32, collar: u32) -> bool
+    ensures { λ r. ⌜ r ≡ collarFormed side displayed collar ⌝ }
+{
+    let result = collared_price(side, displayed, collar);
+    ((displayed == 0) & (collar == 0))
+        | (((1 <= displayed) & (displayed <= 999999))
+            & ((1 <= collar) & (collar <= 999999))
+            & ((1 <= result) & (result <= 999999)))
+}
 
 // Every field of an order is in its range: one test with no branch.
 pub fn order_form(o: Order) -> bool
@@ -24,6 +45,7 @@ pub fn order_form(o: Order) -> bool
         & (o.opens < o.closes)
         & (o.closes <= 86400000)
         & ((100 <= o.interval) & (o.interval <= 1000))
+        & collar_form(o.side, o.displayed, o.collar)
 }
 
 // From low to high, both included.

@@ -10,7 +10,7 @@ use words::bytes::join;
 use words::bytes::read_word;
 use words::bytes::write_words;
 
-// An order as it was recorded. `stop` is the stop or the auto-match limit, `interval` is L.
+// An order as it was recorded. `stop` is the stop or the auto-match limit, `interval` is L; `displayed` and `collar` are the displayed price of a collared order on the other side and one Trading Collar, both zero where there is none.
 pub struct Order {
     pub side: u8,
     pub mode: u8,
@@ -26,6 +26,8 @@ pub struct Order {
     pub opens: u32,
     pub closes: u32,
     pub interval: u32,
+    pub displayed: u32,
+    pub collar: u32,
 }
 
 // The order, or the number of the refusal.
@@ -40,8 +42,6 @@ fn order_spare(s: &[u8]) -> bool
     ensures { λ r. ⌜ r ≡ orderSpare (now (s .entry)) ⌝ }
 {
     (s[3] == 0)
-        & (read_word(s, 48) == 0)
-        & (read_word(s, 52) == 0)
         & (read_word(s, 56) == 0)
         & (read_word(s, 60) == 0)
 }
@@ -66,6 +66,8 @@ fn order_of(s: &[u8]) -> Order
         opens: read_word(s, 36),
         closes: read_word(s, 40),
         interval: read_word(s, 44),
+        displayed: read_word(s, 48),
+        collar: read_word(s, 52),
     }
 }
 
@@ -108,8 +110,8 @@ pub fn write_order(o: Order, out: &mut [u8]) -> Written
         o.opens,
         o.closes,
         o.interval,
-        0,
-        0,
+        o.displayed,
+        o.collar,
         0,
         0,
     ];

@@ -84,6 +84,8 @@ fn order_rest(o: tape::Order) {
     number(o.opens);
     number(o.closes);
     number(o.interval);
+    number(o.displayed);
+    number(o.collar);
 }
 
 fn order(s: &[u8]) {
@@ -171,6 +173,8 @@ fn order_from(v: &[u8]) -> tape::Order {
         opens: read_word(v, 44),
         closes: read_word(v, 48),
         interval: read_word(v, 52),
+        displayed: read_word(v, 56),
+        collar: read_word(v, 60),
     }
 }
 

@@ -1,11 +1,11 @@
--- Which orders are accepted, and the auction that one opens (document 01, "Numbers for no", "Range and guarantee"): a sell is tested as the buy that it mirrors.
+-- Which orders are accepted, and the auction that one opens (document 01, "Numbers for no", "Range and guarantee", and W-205 for collared orders): a sell is tested as the buy that it mirrors.
 use mathlib.Core.Bool.{Bool, true, false, cond, not, _&&_, _||_}
 use Prim.Native.Nat.{ℕ, _+_, _-_, min, max}
 use lib.Dec.{leb, ltb, eqb}
 use Rattle.words.specs.rules.Bits.{bitAt}
 use Rattle.board.specs.rules.Board.{emptyBoard}
 use Rattle.tape.specs.declared.order.Order.{Order}
-use Rattle.tape.specs.rules.Form.{orderFormed}
+use Rattle.tape.specs.rules.Form.{collaredPrice, orderFormed}
 use Rattle.mirror.specs.rules.Mirror.{buyOrder}
 use Rattle.auction.specs.declared.Auction.{Auction}
 use Rattle.auction.specs.declared.Head.{Head}
@@ -20,9 +20,13 @@ use Rattle.auction.specs.declared.Opening.{Opening}
 
 -- ---- the range
 
+-- what counts as BO in the initiating price, and nowhere else: BO, or the price of a collared order on the other side
+unfoldable pub offerOf : Order → ℕ
+offerOf o = cond (eqb (o .displayed) 0) (o .bo) (collaredPrice 1 (o .displayed) (o .collar))
+
 -- the lower of limit and NBO; under 50 contracts also of BO - 1
 unfoldable pub initiatingOf : Order → ℕ
-initiatingOf o = cond (ltb (o .size) 50) (min (min (o .limit) (o .nbo)) (o .bo - 1)) (min (o .limit) (o .nbo))
+initiatingOf o = cond (ltb (o .size) 50) (min (min (o .limit) (o .nbo)) (offerOf o - 1)) (min (o .limit) (o .nbo))
 
 -- the added cent: under 50 contracts, or a Customer at BB
 unfoldable pub tickOf : ℕ → Bool → ℕ
@@ -50,9 +54,10 @@ guaranteedOf o = cond (eqb (o .mode) 2) (initiatingOf o) (max (o .stop) (firstBo
 unfoldable pub rangeRefusal : Order → ℕ
 rangeRefusal o =
     cond (ltb (o .limit) (firstBound o)) 10
+    (cond (ltb (initiatingOf o) (firstBound o)) 13
     (cond (ltb (initiatingOf o) (o .stop)) 11
     (cond (ltb (o .size) 50 && eqb (o .nbo) (o .nbb + 1) && not (eqb (o .nbo) (guaranteedOf o + 1))) 12
-    0))
+    0)))
 
 unfoldable pub buyRefusal : Order → ℕ
 buyRefusal o =

@@ -28,6 +28,8 @@ exampleOrder =
       opens = 34200000;
       closes = 57600000;
       interval = 100;
+      displayed = 0;
+      collar = 0;
     }
 
 abbrev pub exampleResponse : Event
@@ -66,6 +68,8 @@ orderE =
       opens = 34200000;
       closes = 57600000;
       interval = 100;
+      displayed = 0;
+      collar = 0;
     }
 
 -- of no kind

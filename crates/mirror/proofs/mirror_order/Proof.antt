@@ -12,8 +12,8 @@ mirror-marks-requires c κs = search needs
 mirror-requires : tie.Need-mirror-requires
 mirror-requires c κs = search needs
 
-mirror-stop-requires : tie.Need-mirror-stop-requires
-mirror-stop-requires c κs = search needs
+mirror-unless-requires : tie.Need-mirror-unless-requires
+mirror-unless-requires c κs = search needs
 
 mirror-requires-2 : tie.Need-mirror-requires-2
 mirror-requires-2 c κs = search needs
@@ -27,6 +27,9 @@ mirror-requires-4 c κs = search needs
 mirror-requires-5 : tie.Need-mirror-requires-5
 mirror-requires-5 c κs = search needs
 
+mirror-unless-requires-2 : tie.Need-mirror-unless-requires-2
+mirror-unless-requires-2 c κs = search needs
+
 returns : tie.Need-returns
 unfolding mirroredOrder
 returns c = cc
@@ -38,9 +41,10 @@ mirror-order-spec =
     mirror-side-requires
     mirror-marks-requires
     mirror-requires
-    mirror-stop-requires
+    mirror-unless-requires
     mirror-requires-2
     mirror-requires-3
     mirror-requires-4
     mirror-requires-5
+    mirror-unless-requires-2
     returns)

@@ -20,7 +20,11 @@ mirroredMarks m = withMark (withMark m 2 (bitAt m 3)) 3 (bitAt m 2)
 unfoldable pub mirroredSide : ℕ → ℕ
 mirroredSide s = cond (eqb s 1) 2 (cond (eqb s 2) 1 s)
 
--- a stop of 0 in mode 2 stays
+-- a price, unless there is none: what stands for none stays
+abbrev pub mirroredUnless : Bool → ℕ → ℕ
+mirroredUnless none p = cond none p (mirrored p)
+
+-- there is no stop in mode 2, and no collared order where the displayed price is 0; the collar is a difference of prices, and stays
 unfoldable pub mirroredOrder : Order → Order
 mirroredOrder o =
     record {
@@ -29,7 +33,7 @@ mirroredOrder o =
       marks = mirroredMarks (o .marks);
       size = o .size;
       limit = mirrored (o .limit);
-      stop = cond (eqb (o .mode) 2) (o .stop) (mirrored (o .stop));
+      stop = mirroredUnless (eqb (o .mode) 2) (o .stop);
       nbb = mirrored (o .nbo);
       nbo = mirrored (o .nbb);
       bb = mirrored (o .bo);
@@ -38,6 +42,8 @@ mirroredOrder o =
       opens = o .opens;
       closes = o .closes;
       interval = o .interval;
+      displayed = mirroredUnless (eqb (o .displayed) 0) (o .displayed);
+      collar = o .collar;
     }
 
 -- a GTX response, a limit order: its side and its price

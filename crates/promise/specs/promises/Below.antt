@@ -7,6 +7,7 @@ use Rattle.tape.specs.declared.trailer.Trailer.{Trailer}
 use Rattle.reader.specs.promises.Reading.{Reading}
 use Rattle.roundtrip.specs.promises.Demands.{Demands as RoundTrips}
 use Rattle.mirror.specs.promises.Records.{RecordsMirror}
+use Rattle.auction.specs.promises.Collared.{Collared}
 use Rattle.board.specs.promises.Board.{Changes, Seen, Finding, Ordering}
 use Rattle.share.specs.promises.Share.{ProRata}
 use Rattle.demand.specs.promises.Demands.{Demands as Demands3, Few}
@@ -25,6 +26,8 @@ pub record Below : Type 0 where
   pub round-trips : RoundTrips
   -- mirrored orders and events
   pub records-mirror : RecordsMirror
+  -- a collared order on the other side: what it moves, and what it leaves
+  pub collared : Collared
   -- the board: what is seated, amended, freed, seen, found, and its order by sequence
   pub changes : Changes
   pub seen : Seen
@@ -43,7 +46,7 @@ pub record Below : Type 0 where
   pub demanded : Demanded
   pub mirrors : Mirrors
   pub in-place : InPlace
-  -- cases a to k with W-203's, the listing of document 01, and the watch
+  -- cases a to k with W-203's and W-205's, the listing of document 01, and the watch
   pub figures : Figures
   pub listings : Listings
   pub watching : Watching

@@ -51,8 +51,8 @@ pub data Answered (s : List ℕ) : Type 0 where
   no-tape : (n : ℕ) → openedIs (openTape s) ≡ no n → In n (21 ∷ 22 ∷ 23 ∷ []) → listingOf s ≡ refusedLine n → Answered s
   -- 1: the order's record is out of form
   no-order : (t : Trailer) → openedIs (openTape s) ≡ yes t → orderIs (orderIn s t) ≡ no 1 → listingOf s ≡ refusedLine 1 → Answered s
-  -- 2 to 12: the order is not accepted
-  not-accepted : (o : Order) (es : List Event) (n : ℕ) → Carries s o es → entryIs (acceptOf o .answer) ≡ no n → In n (2 ∷ 3 ∷ 4 ∷ 5 ∷ 6 ∷ 7 ∷ 8 ∷ 9 ∷ 10 ∷ 11 ∷ 12 ∷ []) → listingOf s ≡ refusedLine n → Answered s
+  -- 2 to 13: the order is not accepted
+  not-accepted : (o : Order) (es : List Event) (n : ℕ) → Carries s o es → entryIs (acceptOf o .answer) ≡ no n → In n (2 ∷ 3 ∷ 4 ∷ 5 ∷ 6 ∷ 7 ∷ 8 ∷ 9 ∷ 10 ∷ 11 ∷ 12 ∷ 13 ∷ []) → listingOf s ≡ refusedLine n → Answered s
   -- the auction: its opening, a line for each record, its end
   auction : (o : Order) (es : List Event) → Carries s o es → Accepts o
       → listingOf s ≡ auctionLine (acceptOf o .auction .head) ++ (eventLines (heard (acceptOf o .auction) es) ++ endLines (played o es)) → Answered s

@@ -1,8 +1,7 @@
 -- The promise: what the user is promised of every tape, on one page. A tape is any list of bytes.
 use mathlib.Core.Path.{_≡_}
-use mathlib.Core.Bool.{cond}
 use mathlib.Core.List.{List}
-use Prim.Native.Nat.{ℕ}
+use Prim.Native.Nat.{ℕ, _≤_, _<_}
 use Rattle.base.specs.Lists.{Every}
 use Rattle.words.specs.rules.Bytes.{AllBytes}
 use Rattle.tape.specs.declared.order.Order.{Order}
@@ -17,8 +16,8 @@ use Rattle.roundtrip.specs.promises.Demands.{Demands}
 use Rattle.listing.specs.rules.Listing.{listingOf}
 use Rattle.listing.specs.rules.Watch.{watchLines}
 use Rattle.promise.specs.rules.Tapes.{Carries, SomeTape, endOf, notRefused, notRefusedSaid, WithResent, mirroredLines}
-use Rattle.promise.specs.rules.Answers.{Accepts}
-use Rattle.promise.specs.rules.Sides.{isSell, buyRange, sellRange}
+use Rattle.promise.specs.rules.Answers.{Accepts, no, entryIs}
+use Rattle.promise.specs.rules.Sides.{openingRange}
 use Rattle.promise.specs.promises.Parts.{Answered, Roomed, Filling, Numbered, EventNumber, InRealPrices, CountedOnce, Offered}
 use Rattle.promise.specs.promises.Below.{Below}
 
@@ -37,7 +36,10 @@ pub record Promise : Type 0 where
   -- 2. Records read and write back to the same values and the same bytes: order, event, trailer, whole tape
   pub read-back : Demands
   -- 3. Demand 3 in real prices, of every order that is accepted and every list of records after it; where none of them ends the auction it is closed by hand. The range at the opening is that of the order's own fields
-  pub first-range : (o : Order) → Accepts o → rangeOf (acceptOf o .auction .head) ≡ cond (isSell o) (sellRange o) (buyRange o)
+  pub first-range : (o : Order) → Accepts o → rangeOf (acceptOf o .auction .head) ≡ openingRange o
+  -- and is not empty; 13 where a collared order on the other side would make it so
+  pub some-range : (o : Order) → Accepts o → openingRange o .low ≤ openingRange o .high
+  pub no-range : (o : Order) → entryIs (acceptOf o .answer) ≡ no 13 → openingRange o .high < openingRange o .low
   pub trades : (o : Order) (es : List Event) → Accepts o → InRealPrices o es
   -- 4. A response that stands on the board is never counted twice, and an amended one once, with its latest size and price: what stands is a fold of the records taken
   pub counted : (o : Order) → CountedOnce o

@@ -61,7 +61,7 @@ abbrev pub writtenIs : Written → Paper (Unit {0})
 writtenIs Done = yes tt
 writtenIs (NotWritten n) = no n
 
--- an order: 1 to 12
+-- an order: 1 to 13
 abbrev pub entryIs : Entry → Paper (Unit {0})
 entryIs Accepted = yes tt
 entryIs (NotAccepted n) = no n

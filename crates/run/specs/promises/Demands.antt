@@ -66,8 +66,8 @@ pub record Keeps : Type 0 where
   -- a refusal changes nothing
   pub refused : (s : Sight) (a : Auction) (e : Event) (n : ℕ) → stepBy s a e .answer ≡ Refused n → stepBy s a e .auction ≡ a
   pub not-closed : (a : Auction) (n : ℕ) → closeOf a .answer ≡ Refused n → closeOf a .auction ≡ a
-  -- orders are refused by 1 to 12 alone, events by 31 to 38 alone
-  pub order-numbers : (o : Order) (n : ℕ) → acceptOf o .answer ≡ NotAccepted n → (1 ≤ n) × (n ≤ 12)
+  -- orders are refused by 1 to 13 alone, events by 31 to 38 alone
+  pub order-numbers : (o : Order) (n : ℕ) → acceptOf o .answer ≡ NotAccepted n → (1 ≤ n) × (n ≤ 13)
   pub event-numbers : (s : Sight) (a : Auction) (e : Event) (n : ℕ) → stepBy s a e .answer ≡ Refused n → (31 ≤ n) × (n ≤ 38)
   -- one that is taken is in time, and moves the highest sequence up to its own; so one is that 35 to 38 refuse
   pub taken : (s : Sight) (a : Auction) (e : Event) → isTaken (stepBy s a e .answer) ≡ true → InTime (a .head) e × (stepBy s a e .auction .head .sequence ≡ e .sequence)

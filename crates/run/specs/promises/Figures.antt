@@ -1,4 +1,4 @@
--- Cases a to k of document 01, with b as W-203 of document 02 has it, and others of W-203, as one table: an order, its events, and what must come of them.
+-- Cases a to k of document 01, with b as W-203 of document 02 has it, and others of W-203 and W-205, as one table: an order, its events, and what must come of them.
 use mathlib.Core.Bool.{Bool, true, false, cond}
 use mathlib.Core.List.{List, [], _∷_, map}
 use mathlib.Core.Path.{_≡_}
@@ -8,6 +8,7 @@ use Rattle.tape.specs.declared.order.Order.{Order}
 use Rattle.tape.specs.declared.event.Event.{Event}
 use Rattle.auction.specs.rules.Accept.{acceptOf}
 use Rattle.auction.specs.rules.Range.{rangeOf}
+use Rattle.auction.specs.promises.Collared.{recollared}
 use Rattle.fills.specs.rules.Fills.{auctionFills}
 use Rattle.run.specs.rules.Run.{run, played}
 use Rattle.auction.specs.declared.Auction.{Auction}
@@ -53,17 +54,17 @@ resultOf c = resultBy c (acceptOf (c .order) .answer)
 -- quotes 100/110 on both markets; the session is open from 0 to 86,400,000
 abbrev pub order : ℕ → ℕ → ℕ → ℕ → ℕ → Order
 order side mode size limit stop =
-    record { side = side; mode = mode; marks = 0; size = size; limit = limit; stop = stop; nbb = 100; nbo = 110; bb = 100; bo = 110; time = 1000; opens = 0; closes = 86400000; interval = 100 }
+    record { side = side; mode = mode; marks = 0; size = size; limit = limit; stop = stop; nbb = 100; nbo = 110; bb = 100; bo = 110; time = 1000; opens = 0; closes = 86400000; interval = 100; displayed = 0; collar = 0 }
 
 -- an order on other markets: NBB, NBO, BB, BO
 abbrev pub quoted : ℕ → ℕ → ℕ → ℕ → Order → Order
 quoted nbb nbo bb bo o =
-    record { side = o .side; mode = o .mode; marks = o .marks; size = o .size; limit = o .limit; stop = o .stop; nbb = nbb; nbo = nbo; bb = bb; bo = bo; time = o .time; opens = o .opens; closes = o .closes; interval = o .interval }
+    record { side = o .side; mode = o .mode; marks = o .marks; size = o .size; limit = o .limit; stop = o .stop; nbb = nbb; nbo = nbo; bb = bb; bo = bo; time = o .time; opens = o .opens; closes = o .closes; interval = o .interval; displayed = o .displayed; collar = o .collar }
 
 -- an order at another time of a session with another close
 abbrev pub timed : ℕ → ℕ → Order → Order
 timed time closes o =
-    record { side = o .side; mode = o .mode; marks = o .marks; size = o .size; limit = o .limit; stop = o .stop; nbb = o .nbb; nbo = o .nbo; bb = o .bb; bo = o .bo; time = time; opens = o .opens; closes = closes; interval = o .interval }
+    record { side = o .side; mode = o .mode; marks = o .marks; size = o .size; limit = o .limit; stop = o .stop; nbb = o .nbb; nbo = o .nbo; bb = o .bb; bo = o .bo; time = time; opens = o .opens; closes = closes; interval = o .interval; displayed = o .displayed; collar = o .collar }
 
 -- an event of a kind: its sequence, side, size and price
 abbrev pub event : ℕ → ℕ → ℕ → ℕ → ℕ → Event
@@ -76,9 +77,15 @@ gtx sequence size price = event 1 sequence 2 size price
 abbrev pub gtxBuy : ℕ → ℕ → ℕ → Event
 gtxBuy sequence size price = event 1 sequence 1 size price
 
--- a Customer's
+-- an event with marks: a Customer's has bit 0, a non-routable one bit 1
+abbrev pub marked : ℕ → Event → Event
+marked marks e = record { sequence = e .sequence; time = e .time; kind = e .kind; marks = marks; side = e .side; f12 = e .f12; f16 = e .f16; f20 = e .f20; f24 = e .f24 }
+
 abbrev pub byCustomer : Event → Event
-byCustomer e = record { sequence = e .sequence; time = e .time; kind = e .kind; marks = 1; side = e .side; f12 = e .f12; f16 = e .f16; f20 = e .f20; f24 = e .f24 }
+byCustomer e = marked 1 e
+
+abbrev pub nonRoutable : Event → Event
+nonRoutable e = marked 2 e
 
 -- a response, by its name, has another size and price from here on
 abbrev pub amend : ℕ → ℕ → ℕ → ℕ → Event
@@ -86,6 +93,9 @@ amend sequence name size price = record { sequence = sequence; time = 20; kind =
 
 abbrev pub bid : ℕ → ℕ → ℕ → Event
 bid sequence size price = event 3 sequence 1 size price
+
+abbrev pub offer : ℕ → ℕ → ℕ → Event
+offer sequence size price = event 3 sequence 2 size price
 
 abbrev pub market : ℕ → ℕ → ℕ → Event
 market sequence side size = event 4 sequence side size 0
@@ -96,9 +106,12 @@ contra price quantity = fill 0 price quantity
 abbrev pub case : Order → List Event → Bool → Result → Case
 case o es closes want = record { order = o; events = es; closes = closes; want = want }
 
--- case c's order
+-- case c's order, and its mirror on the same quotes
 abbrev pub orderC : Order
 orderC = order 1 2 10 110 0
+
+abbrev pub sellC : Order
+sellC = order 2 2 10 100 0
 
 unfoldable pub cases : List Case
 cases =
@@ -152,6 +165,48 @@ cases =
     -- mode 3, where the Contra Order holds the guarantee on arriving: 20 over 12, 7 and 5, fractions 0, 20 and 4 of 24, one is left over
     ∷ case (order 1 3 100 110 103) (gtx 1 20 103 ∷ gtx 2 20 104 ∷ gtx 3 12 105 ∷ gtx 4 7 105 ∷ gtx 5 5 105 ∷ []) true
     (ended Time 100 110 (contra 103 20 ∷ fill 1 103 20 ∷ contra 104 20 ∷ fill 2 104 20 ∷ fill 3 105 10 ∷ fill 4 105 6 ∷ fill 5 105 4 ∷ []))
+    -- W-205: displayed 109 minus 3 counts as a BO of 106, and a response at 106 is above the range; for a sell 101 plus 3 as a BB of 104
+    ∷ case (recollared 109 3 orderC) (gtx 1 3 104 ∷ gtx 2 3 106 ∷ []) true (ended Time 101 105 (contra 104 3 ∷ fill 1 104 3 ∷ contra 105 4 ∷ []))
+    ∷ case (recollared 101 3 sellC) (gtxBuy 1 3 106 ∷ gtxBuy 2 3 104 ∷ []) true (ended Time 105 109 (contra 106 3 ∷ fill 1 106 3 ∷ contra 105 4 ∷ []))
+    -- from 50 contracts on it does nothing
+    ∷ case (recollared 109 3 (order 1 2 50 110 0)) [] false (standing 100 110)
+    ∷ case (recollared 101 3 (order 2 2 50 100 0)) [] false (standing 100 110)
+    -- it stands for BO also where it is above: 120 minus 5 leaves the limit and NBO, where BO would give 109
+    ∷ case (recollared 120 5 orderC) [] false (standing 101 110)
+    ∷ case (recollared 90 5 sellC) [] false (standing 100 109)
+    -- a range of one price; one cent more of collar makes it empty, 13
+    ∷ case (recollared 104 2 orderC) [] false (standing 101 101)
+    ∷ case (recollared 106 2 sellC) [] false (standing 109 109)
+    ∷ case (recollared 104 3 orderC) [] false (refusal 13)
+    ∷ case (recollared 106 3 sellC) [] false (refusal 13)
+    -- a limit below the bound is 10, before 13; a stop above the initiating price is 11, after it
+    ∷ case (recollared 104 3 (order 1 2 10 100 0)) [] false (refusal 10)
+    ∷ case (recollared 106 3 (order 2 2 10 110 0)) [] false (refusal 10)
+    ∷ case (recollared 104 3 (order 1 1 10 110 105)) [] false (refusal 13)
+    ∷ case (recollared 106 3 (order 2 1 10 100 105)) [] false (refusal 13)
+    ∷ case (recollared 104 2 (order 1 1 10 110 105)) [] false (refusal 11)
+    ∷ case (recollared 106 2 (order 2 1 10 100 105)) [] false (refusal 11)
+    -- 9 is by the quoted markets, wherever the collared order stands
+    ∷ case (quoted 100 101 100 101 (recollared 120 5 (order 1 2 49 101 0))) [] false (refusal 9)
+    ∷ case (quoted 100 101 100 101 (recollared 90 5 (order 2 2 49 100 0))) [] false (refusal 9)
+    -- 12 is by the initiating price that it makes: 12 without it, and none with a BO of 101 or a BB of 100
+    ∷ case (quoted 100 101 90 110 (order 1 2 10 101 0)) [] false (refusal 12)
+    ∷ case (quoted 100 101 90 110 (recollared 103 2 (order 1 2 10 101 0))) [] false (standing 100 100)
+    ∷ case (quoted 100 101 91 111 (order 2 2 10 100 0)) [] false (refusal 12)
+    ∷ case (quoted 100 101 91 111 (recollared 98 2 (order 2 2 10 100 0))) [] false (standing 101 101)
+    -- events keep the quoted markets: a non-routable bid at the collared 106, or an offer at the collared 104, is not at BO, or BB, and ends the auction by improve
+    ∷ case (recollared 109 3 orderC) (nonRoutable (bid 1 1 106) ∷ []) false (ended Improve 101 105 (contra 105 10 ∷ []))
+    ∷ case (recollared 101 3 sellC) (nonRoutable (offer 1 1 104) ∷ []) false (ended Improve 105 109 (contra 105 10 ∷ []))
+    -- out of form: one field without the other; a field, or the result, that is no price
+    ∷ case (recollared 109 0 orderC) [] false (refusal 1)
+    ∷ case (recollared 0 3 orderC) [] false (refusal 1)
+    ∷ case (recollared 1000000 3 orderC) [] false (refusal 1)
+    ∷ case (recollared 109 1000000 sellC) [] false (refusal 1)
+    ∷ case (recollared 109 109 orderC) [] false (refusal 1)
+    ∷ case (recollared 999998 2 sellC) [] false (refusal 1)
+    -- and in form at their ends: a BO of 1, a BB of 999,999
+    ∷ case (recollared 999999 999998 orderC) [] false (refusal 13)
+    ∷ case (recollared 999998 1 sellC) [] false (refusal 13)
     ∷ []
 
 -- the table is what the definitions that the contracts cite give

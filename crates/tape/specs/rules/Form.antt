@@ -1,7 +1,7 @@
--- The stated form of an order and of an event (document 01, "The tape", and W-201 for amends).
+-- The stated form of an order and of an event (document 01, "The tape", W-201 for amends and W-205 for collared orders).
 use mathlib.Core.Bool.{Bool, true, false, cond, not, _&&_, _||_}
 use mathlib.Core.List.{List, [], _∷_}
-use Prim.Native.Nat.{ℕ}
+use Prim.Native.Nat.{ℕ, _+_, _-_}
 use lib.Dec.{leb, ltb, eqb}
 use Rattle.words.specs.rules.Bits.{bitAt}
 use Rattle.tape.specs.declared.order.Order.{Order}
@@ -23,7 +23,17 @@ within x low high = leb low x && leb x high
 abbrev pub stopFormed : ℕ → ℕ → Bool
 stopFormed mode stop = (eqb mode 2 && eqb stop 0) || (not (eqb mode 2) && within stop 1 999999)
 
--- side, mode, marks (bits 0 to 3), size (0 is number 3's), prices, best bid and offer, times, interval
+-- a collared order on the other side counts at this price: for a buy at its displayed price minus the collar, for a sell at its displayed price plus the collar
+abbrev pub collaredPrice : ℕ → ℕ → ℕ → ℕ
+collaredPrice side displayed collar = cond (eqb side 2) (displayed + collar) (displayed - collar)
+
+-- both zero: there is none; else both are prices, and the result is one
+abbrev pub collarFormed : ℕ → ℕ → ℕ → Bool
+collarFormed side displayed collar =
+    (eqb displayed 0 && eqb collar 0)
+    || (within displayed 1 999999 && within collar 1 999999 && within (collaredPrice side displayed collar) 1 999999)
+
+-- side, mode, marks (bits 0 to 3), size (0 is number 3's), prices, best bid and offer, times, interval, the collared order
 unfoldable pub orderTests : Order → List Bool
 orderTests o =
     within (o .side) 1 2
@@ -40,6 +50,7 @@ orderTests o =
     ∷ ltb (o .opens) (o .closes)
     ∷ leb (o .closes) 86400000
     ∷ within (o .interval) 100 1000
+    ∷ collarFormed (o .side) (o .displayed) (o .collar)
     ∷ []
 
 unfoldable pub orderFormed : Order → Bool

@@ -37,7 +37,8 @@ unfoldable pub orderWords : Order → List ℕ
 orderWords o =
     joined (o .side) (o .mode) (o .marks) 0
     ∷ o .size ∷ o .limit ∷ o .stop ∷ o .nbb ∷ o .nbo ∷ o .bb ∷ o .bo ∷ o .time ∷ o .opens ∷ o .closes ∷ o .interval
-    ∷ 0 ∷ 0 ∷ 0 ∷ 0 ∷ []
+    ∷ o .displayed ∷ o .collar
+    ∷ 0 ∷ 0 ∷ []
 
 -- the fields, in their places
 unfoldable pub orderOf : List ℕ → Order
@@ -57,11 +58,13 @@ orderOf s =
       opens = wordAt s 36;
       closes = wordAt s 40;
       interval = wordAt s 44;
+      displayed = wordAt s 48;
+      collar = wordAt s 52;
     }
 
--- the bytes that no field has are zero: 3, and 48 to 63
+-- the bytes that no field has are zero: 3, and 56 to 63
 unfoldable pub orderSpare : List ℕ → Bool
-orderSpare s = eqb (getD s 3 0) 0 && eqb (wordAt s 48) 0 && eqb (wordAt s 52) 0 && eqb (wordAt s 56) 0 && eqb (wordAt s 60) 0
+orderSpare s = eqb (getD s 3 0) 0 && eqb (wordAt s 56) 0 && eqb (wordAt s 60) 0
 
 unfoldable pub readOrder : List ℕ → ReadOrder
 readOrder s =

@@ -7,15 +7,18 @@ use Rattle.auction.proofs.orders.initiating.Tie as tie
 lower-requires : tie.Need-lower-requires
 lower-requires c κs = search needs
 
-below-requires : tie.Need-below-requires
-below-requires c κs = search needs
+offer-requires : tie.Need-offer-requires
+offer-requires c κs = search needs
+
+less-requires : tie.Need-less-requires
+less-requires c κs = search needs
 
 lower-requires-2 : tie.Need-lower-requires-2
 lower-requires-2 c κs = search needs
 
 returns : tie.Need-returns
 unfolding initiatingOf
-returns c = simp ((lt-ltb _ _ (c .before .before .before .if1 .taken))) (cc)
+returns c = simp ((lt-ltb _ _ (c .before .before .before .before .if1 .taken))) (cc)
 
 lower-requires-3 : tie.Need-lower-requires-3
 lower-requires-3 c κs = search needs
@@ -27,4 +30,11 @@ returns-2 c = simp ((le-ltb _ _ (c .before .if1 .left))) (c .lower3 .ensures)
 pub initiating-spec : {M : Type 1} → statement M
 initiating-spec =
     tie.close
-    (tie.spec lower-requires below-requires lower-requires-2 returns lower-requires-3 returns-2)
+    (tie.spec
+    lower-requires
+    offer-requires
+    less-requires
+    lower-requires-2
+    returns
+    lower-requires-3
+    returns-2)

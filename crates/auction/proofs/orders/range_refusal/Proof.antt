@@ -4,25 +4,39 @@ use borrow.Author.Needs.{needs}
 use Rattle.auction.proofs.orders.range_refusal.Statement.{statement}
 use Rattle.auction.proofs.orders.range_refusal.Tie as tie
 
-wide-requires : tie.Need-wide-requires
-wide-requires c κs = search needs
-
 first-bound-requires : tie.Need-first-bound-requires
 first-bound-requires c κs = search needs
-
-returns : tie.Need-returns
-unfolding rangeRefusal
-returns c = simp ((rw (c .before .before .wide .ensures .0, c .before .first-bound .ensures .0) at (lt-ltb _ _ (c .if1 .taken))))
 
 initiating-requires : tie.Need-initiating-requires
 initiating-requires c κs = search needs
 
-returns-2 : tie.Need-returns-2
-unfolding rangeRefusal
-returns-2 c = simp ((rw (c .before .before .before .before .before .wide .ensures .0, c .before .before .before .before .first-bound .ensures .0) at (le-ltb _ _ (c .before .before .before .if1 .left))), (rw (c .before .before .initiating .ensures) at (lt-ltb _ _ (c .if2 .taken))))
+wide-requires : tie.Need-wide-requires
+wide-requires c κs = search needs
 
 wide-requires-2 : tie.Need-wide-requires-2
 wide-requires-2 c κs = search needs
+
+returns : tie.Need-returns
+unfolding rangeRefusal
+returns c = simp (rw (c .before .wide2 .ensures .0, c .before .before .before .before .first-bound .ensures .0) at (lt-ltb _ _ (c .if1 .taken)))
+
+returns-2 : tie.Need-returns-2
+unfolding rangeRefusal
+returns-2 c =
+    simp
+    (rw (c .before .before .wide2 .ensures .0, c .before .before .before .before .before .first-bound .ensures .0) at (le-ltb _ _ (c .before .if1 .left)),
+    rw (c .before .before .before .wide .ensures .0, c .before .before .before .before .initiating .ensures, c .before .before .before .before .before .first-bound .ensures .0) at (lt-ltb _ _ (c .if2 .taken)))
+
+returns-3 : tie.Need-returns-3
+unfolding rangeRefusal
+returns-3 c =
+    simp
+    (rw (c .before .before .before .before .wide2 .ensures .0, c .before .before .before .before .before .before .before .first-bound .ensures .0) at (le-ltb _ _ (c .before .before .before .if1 .left)),
+    rw (c .before .before .before .before .before .wide .ensures .0, c .before .before .before .before .before .before .initiating .ensures, c .before .before .before .before .before .before .before .first-bound .ensures .0) at (le-ltb _ _ (c .before .before .if2 .left)),
+    rw (c .before .before .before .before .before .before .initiating .ensures) at (lt-ltb _ _ (c .if3 .taken)))
+
+wide-requires-3 : tie.Need-wide-requires-3
+wide-requires-3 c κs = search needs
 
 is-next-requires : tie.Need-is-next-requires
 is-next-requires c κs = search needs
@@ -33,26 +47,38 @@ guaranteed-requires c κs = search needs
 is-next-requires-2 : tie.Need-is-next-requires-2
 is-next-requires-2 c κs = search needs
 
-returns-3 : tie.Need-returns-3
-unfolding rangeRefusal
-returns-3 c = simp ((rw (c .before .before .before .before .before .before .before .before .before .before .before .wide .ensures .0, c .before .before .before .before .before .before .before .before .before .before .first-bound .ensures .0) at (le-ltb _ _ (c .before .before .before .before .before .before .before .before .before .if1 .left))), (rw (c .before .before .before .before .before .before .before .before .initiating .ensures) at (le-ltb _ _ (c .before .before .before .before .before .before .if2 .left))), (rw (c .before .before .before .is-next .ensures, c .before .is-next2 .ensures, c .before .before .before .before .wide2 .ensures .0, c .before .before .guaranteed .ensures .0) at (c .if3 .taken)))
-
 returns-4 : tie.Need-returns-4
 unfolding rangeRefusal
-returns-4 c = simp ((rw (c .before .before .before .before .before .before .before .before .before .before .before .wide .ensures .0, c .before .before .before .before .before .before .before .before .before .before .first-bound .ensures .0) at (le-ltb _ _ (c .before .before .before .before .before .before .before .before .before .if1 .left))), (rw (c .before .before .before .before .before .before .before .before .initiating .ensures) at (le-ltb _ _ (c .before .before .before .before .before .before .if2 .left))), (rw (c .before .before .before .is-next .ensures, c .before .is-next2 .ensures, c .before .before .before .before .wide2 .ensures .0, c .before .before .guaranteed .ensures .0) at (c .if3 .left)))
+returns-4 c =
+    simp
+    (rw (c .before .before .before .before .before .before .before .before .before .before .wide2 .ensures .0, c .before .before .before .before .before .before .before .before .before .before .before .before .before .first-bound .ensures .0) at (le-ltb _ _ (c .before .before .before .before .before .before .before .before .before .if1 .left)),
+    rw (c .before .before .before .before .before .before .before .before .before .before .before .wide .ensures .0, c .before .before .before .before .before .before .before .before .before .before .before .before .initiating .ensures, c .before .before .before .before .before .before .before .before .before .before .before .before .before .first-bound .ensures .0) at (le-ltb _ _ (c .before .before .before .before .before .before .before .before .if2 .left)),
+    rw (c .before .before .before .before .before .before .before .before .before .before .before .before .initiating .ensures) at (le-ltb _ _ (c .before .before .before .before .before .before .if3 .left)),
+    rw (c .before .before .before .is-next .ensures, c .before .is-next2 .ensures, c .before .before .before .before .wide3 .ensures .0, c .before .before .guaranteed .ensures .0) at (c .if4 .taken))
+
+returns-5 : tie.Need-returns-5
+unfolding rangeRefusal
+returns-5 c =
+    simp
+    (rw (c .before .before .before .before .before .before .before .before .before .before .wide2 .ensures .0, c .before .before .before .before .before .before .before .before .before .before .before .before .before .first-bound .ensures .0) at (le-ltb _ _ (c .before .before .before .before .before .before .before .before .before .if1 .left)),
+    rw (c .before .before .before .before .before .before .before .before .before .before .before .wide .ensures .0, c .before .before .before .before .before .before .before .before .before .before .before .before .initiating .ensures, c .before .before .before .before .before .before .before .before .before .before .before .before .before .first-bound .ensures .0) at (le-ltb _ _ (c .before .before .before .before .before .before .before .before .if2 .left)),
+    rw (c .before .before .before .before .before .before .before .before .before .before .before .before .initiating .ensures) at (le-ltb _ _ (c .before .before .before .before .before .before .if3 .left)),
+    rw (c .before .before .before .is-next .ensures, c .before .is-next2 .ensures, c .before .before .before .before .wide3 .ensures .0, c .before .before .guaranteed .ensures .0) at (c .if4 .left))
 
 pub range-refusal-spec : {M : Type 1} → statement M
 range-refusal-spec =
     tie.close
     (tie.spec
-    wide-requires
     first-bound-requires
-    returns
     initiating-requires
-    returns-2
+    wide-requires
     wide-requires-2
+    returns
+    returns-2
+    returns-3
+    wide-requires-3
     is-next-requires
     guaranteed-requires
     is-next-requires-2
-    returns-3
-    returns-4)
+    returns-4
+    returns-5)

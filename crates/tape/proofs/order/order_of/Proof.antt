@@ -45,6 +45,12 @@ read-word-requires-10 c κs = search needs
 read-word-requires-11 : tie.Need-read-word-requires-11
 read-word-requires-11 c κs = search needs
 
+read-word-requires-12 : tie.Need-read-word-requires-12
+read-word-requires-12 c κs = search needs
+
+read-word-requires-13 : tie.Need-read-word-requires-13
+read-word-requires-13 c κs = search needs
+
 returns : tie.Need-returns
 unfolding orderOf
 returns c = cc
@@ -67,4 +73,6 @@ order-of-spec =
     read-word-requires-9
     read-word-requires-10
     read-word-requires-11
+    read-word-requires-12
+    read-word-requires-13
     returns)

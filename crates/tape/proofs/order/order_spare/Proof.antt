@@ -12,12 +12,6 @@ read-word-requires c κs = search needs
 read-word-requires-2 : tie.Need-read-word-requires-2
 read-word-requires-2 c κs = search needs
 
-read-word-requires-3 : tie.Need-read-word-requires-3
-read-word-requires-3 c κs = search needs
-
-read-word-requires-4 : tie.Need-read-word-requires-4
-read-word-requires-4 c κs = search needs
-
 returns : tie.Need-returns
 unfolding orderSpare
 returns c = cc
@@ -29,6 +23,4 @@ order-spare-spec =
     shared-slice-read-result
     read-word-requires
     read-word-requires-2
-    read-word-requires-3
-    read-word-requires-4
     returns)
