@@ -28,6 +28,8 @@ void build_order(unsigned char *p, const struct peer_order *o)
     build_word(p + 36, o->open);
     build_word(p + 40, o->close);
     build_word(p + 44, o->interval);
+    build_word(p + 48, o->displayed);
+    build_word(p + 52, o->collar);
 }
 
 void build_event(unsigned char *p, const struct peer_event *e)
@@ -133,6 +135,8 @@ struct peer_order build_turn_order(struct peer_order o)
     m.nbo = turn(o.nbb);
     m.bb = turn(o.bo);
     m.bo = turn(o.bb);
+    m.displayed = o.displayed == 0 ? 0 : turn(o.displayed);
+    m.collar = o.collar;
     m.marks = (o.marks & 3) | (o.marks & 4 ? 8 : 0) | (o.marks & 8 ? 4 : 0);
     return m;
 }

@@ -236,6 +236,195 @@ static uint32_t guarantee_of(uint32_t size, int n_live)
 }
 
 /* ------------------------------------------------------------------ */
+/* What an order's words make, in signed prices                       */
+
+/* A sell's prices are taken with a minus here, not from 1,000,000. So less is
+ * better for it too, its offers are bids, and a collar is taken off. */
+struct terms {
+    struct peer_order raw;
+    int64_t sign;
+    int small;
+    int64_t limit, stop;
+    int64_t nbb, nbo, bb, bo;
+    int customer;                           /* at BB */
+    int collared;
+    int64_t offer;                          /* displayed price less collar; BO if there is none */
+    int64_t bound;
+    int64_t init, plain;                    /* plain: what the initiating price is without the collar */
+};
+
+static int64_t least(int64_t a, int64_t b) { return a < b ? a : b; }
+static int64_t most(int64_t a, int64_t b) { return a > b ? a : b; }
+
+static int64_t word_at(const unsigned char *p)
+{
+    return p[0] + 256 * (p[1] + 256 * (p[2] + 256 * (int64_t)p[3]));
+}
+
+/* Are the collar's words in form? Nothing wraps here. */
+static int collar_in_form(const unsigned char *order)
+{
+    int64_t displayed = word_at(order + 48), collar = word_at(order + 52);
+    int64_t result = order[0] == PEER_SELL ? displayed + collar : displayed - collar;
+
+    if (displayed == 0 && collar == 0)
+        return 1;
+    return displayed >= 1 && displayed <= 999999 && collar >= 1 && collar <= 999999 && result >= 1 && result <= 999999;
+}
+
+static int any_set(const unsigned char *p, int n)
+{
+    int i;
+
+    for (i = 0; i < n && p[i] == 0; i++)
+        ;
+    return i < n;
+}
+
+/* The bound that a BB and its mark make. */
+static int64_t bound_at(const struct terms *t, int64_t bb, int customer)
+{
+    return most(t->nbb, bb + (t->small || customer));
+}
+
+/* Of an order in form. */
+static struct terms terms_of(const unsigned char *order)
+{
+    struct terms t;
+    struct peer_order *o = &t.raw;
+    int sell = order[0] == PEER_SELL;
+
+    peer_read_order(order, o);
+    t.sign = sell ? -1 : 1;
+    t.small = o->size < 50;
+    t.limit = t.sign * o->limit;
+    t.stop = t.sign * o->stop;
+    t.nbb = t.sign * (sell ? o->nbo : o->nbb);
+    t.nbo = t.sign * (sell ? o->nbb : o->nbo);
+    t.bb = t.sign * (sell ? o->bo : o->bb);
+    t.bo = t.sign * (sell ? o->bb : o->bo);
+    t.customer = (o->marks & (sell ? PEER_CUST_BO : PEER_CUST_BB)) != 0;
+    t.collared = any_set(order + 48, 8);
+    t.offer = t.collared ? t.sign * word_at(order + 48) - word_at(order + 52) : t.bo;
+    t.bound = bound_at(&t, t.bb, t.customer);
+    t.init = t.plain = least(t.limit, t.nbo);
+    if (t.small) {
+        t.init = least(t.init, t.offer - 1);
+        t.plain = least(t.plain, t.bo - 1);
+    }
+    return t;
+}
+
+static int is_11(const struct terms *t) { return t->raw.mode != PEER_MATCH && t->stop > t->init; }
+
+static int is_12(const struct terms *t)
+{
+    int64_t guaranteed = t->raw.mode == PEER_MATCH ? t->init : most(t->stop, t->bound);
+
+    return t->small && t->nbo - t->nbb == 1 && guaranteed != t->nbo - 1;
+}
+
+/* The number 2 to 13 that an order in form has to get, or 0. */
+static int order_due(const struct terms *t)
+{
+    const struct peer_order *o = &t->raw;
+
+    if (t->bb > t->nbb || t->bo < t->nbo)
+        return 2;
+    if (o->size == 0)
+        return 3;
+    if (o->time < o->open)
+        return 4;
+    if (o->close <= o->time || o->close - o->time <= 1000)
+        return 5;
+    if (o->marks & PEER_HALTED)
+        return 6;
+    if (o->marks & PEER_OTHER_OPEN)
+        return 7;
+    if (t->nbb >= t->nbo)
+        return 8;
+    if (t->small && t->bo - t->bb == 1)
+        return 9;
+    if (t->limit < t->bound)
+        return 10;
+    if (t->init < t->bound)
+        return 13;
+    return is_11(t) ? 11 : is_12(t) ? 12 : 0;
+}
+
+/* The same without the collar. */
+static int order_due_without(const struct terms *t)
+{
+    struct terms plain = *t;
+
+    plain.init = t->plain;
+    return order_due(&plain);
+}
+
+/* The quotes as the records leave them. */
+struct quotes {
+    int64_t nbb, nbo, bb, bo;
+    int customer;                           /* at BB */
+};
+
+static struct quotes first_quotes(const struct terms *t)
+{
+    struct quotes q = { t->nbb, t->nbo, t->bb, t->bo, t->customer };
+
+    return q;
+}
+
+static struct quotes quotes_of(const struct terms *t, const struct peer_event *e)
+{
+    int sell = t->sign < 0;
+    struct quotes q;
+
+    q.nbb = t->sign * e->field[sell ? 1 : 0];
+    q.nbo = t->sign * e->field[sell ? 0 : 1];
+    q.bb = t->sign * e->field[sell ? 3 : 2];
+    q.bo = t->sign * e->field[sell ? 2 : 3];
+    q.customer = (e->marks & (sell ? PEER_CUST_BO : PEER_CUST_BB)) != 0;
+    return q;
+}
+
+static int is_own(const struct terms *t, const struct peer_event *e) { return e->side == t->raw.side; }
+static int64_t signed_price(const struct terms *t, const struct peer_event *e) { return t->sign * price_of(e); }
+
+/* How the auction has to stand after a record that was applied; the quotes
+ * move if it goes on. Nothing here looks at the collar but for the initiating
+ * price. */
+static int ending_due(const struct terms *t, struct quotes *q, const struct peer_event *e)
+{
+    int hidden = (e->marks & PEER_NON_ROUTABLE) != 0, customer = (e->marks & PEER_CUSTOMER) != 0;
+    int64_t price = signed_price(t, e);
+    struct quotes then = *q;
+
+    switch (e->kind) {
+    case PEER_MARKET:
+        return is_own(t, e) ? PEER_BY_SAME : PEER_BY_OPPOSITE;
+    case PEER_LIMIT:
+        if (!is_own(t, e))
+            return price <= (hidden ? q->bb : q->nbb) ? PEER_BY_OPPOSITE : PEER_OPEN;
+        if (price >= (hidden ? q->bo : q->nbo))
+            return PEER_BY_SAME;
+        if (price >= q->bb)
+            then.customer = customer || (price == q->bb && q->customer);
+        then.bb = most(q->bb, price);
+        then.nbb = most(q->nbb, price);
+        break;
+    case PEER_QUOTES:
+        then = quotes_of(t, e);
+        break;
+    default:
+        return PEER_OPEN;
+    }
+    if (bound_at(t, then.bb, then.customer) > t->init)
+        return PEER_BY_IMPROVE;
+    *q = then;
+    return PEER_OPEN;
+}
+
+/* ------------------------------------------------------------------ */
 /* stats                                                              */
 
 #define NUMBERS 39
@@ -540,6 +729,162 @@ static void count_shares(long cell[SHARES][COLUMNS], int column, const struct pe
     }
 }
 
+/* What comes up with a collar, said as of a buy; the numbers 2 to 10 are in a
+ * row, and so are the endings. "Moved" is said of the initiating price. The last
+ * three can't come up in mode 2. */
+enum collar {
+    COLLAR_1_DISPLAYED, COLLAR_1_COLLAR, COLLAR_1_HIGH, COLLAR_1_WIDE, COLLAR_1_MILLION, COLLAR_1_ZERO, COLLAR_1_BELOW,
+    COLLAR_1_WRAPS, COLLAR_1_LARGE, COLLAR_1_BEHIND, COLLAR_LEAST, COLLAR_GREATEST,
+    COLLAR_SMALL, COLLAR_49, COLLAR_50, COLLAR_LARGE, COLLAR_LARGE_EMPTY, COLLAR_ABOVE, COLLAR_AT, COLLAR_BELOW,
+    COLLAR_NO_BO, COLLAR_DOWN, COLLAR_UP, COLLAR_LIMIT, COLLAR_ONE_PRICE, COLLAR_TWO_PRICES,
+    COLLAR_13_BY_ONE, COLLAR_13_BY_MORE, COLLAR_13_AT_49, COLLAR_13_LIMIT, COLLAR_13_NOT_9, COLLAR_13_ALONE,
+    COLLAR_13_AND_12, COLLAR_10_AND_13, COLLAR_10_ALONE, COLLAR_9_FAR, COLLAR_2_FAR,
+    COLLAR_AT_2, COLLAR_12_NEW = COLLAR_AT_2 + 9, COLLAR_12_GONE,
+    COLLAR_LATE, COLLAR_36 = COLLAR_LATE + CAUSES, COLLAR_NOT_36, COLLAR_NO_PLACE, COLLAR_BID, COLLAR_BID_LARGE,
+    COLLAR_SAME, COLLAR_QUOTES, COLLAR_MARKET, COLLAR_TOP, COLLAR_PRICES,
+    COLLAR_13_AND_11, COLLAR_11_NEW, COLLAR_11_GONE, COLLARS
+};
+
+static const char *const collar_name[COLLARS] = {
+    "1, displayed alone", "1, collar alone", "1, displayed too high", "1, collar too high", "1, field 1,000,000",
+    "1, result 0", "1, result past 0", "1, words that wrap", "1 by it, 50 and up", "1, bytes 56 to 63",
+    "the least result", "the greatest result",
+    "collar, under 50", "collar, size 49", "collar, size 50", "collar, 50 and up", "50 up, empty below 50",
+    "offer above BO", "offer at BO", "offer below BO", "offer, no BO quoted", "range let down", "range let up",
+    "offer at limit + 1", "range of one price", "range of two prices",
+    "13 by one cent", "13 by more", "13, size 49", "13, limit at the bound", "13, offer is BB + 1", "13, no 11 or 12",
+    "13, 12 holds too", "10, offer gives 13 too", "10, offer wouldn't", "9, offer wouldn't", "2, offer wouldn't",
+    "2 with a collar", "3 with a collar", "4 with a collar", "5 with a collar", "6 with a collar", "7 with a collar",
+    "8 with a collar", "9 with a collar", "10 with a collar", "12 by the collar", "12 gone by it",
+    "moved, late event", "moved, closed", "moved, same, limit", "moved, same, market", "moved, opp., limit",
+    "moved, opp., market", "moved, improve, bid", "moved, improve, quotes",
+    "36 by the collar", "36 gone by it", "no place by it", "bid at offer, not same", "50 up, bid at offer",
+    "same at BO below offer", "moved, quotes taken", "moved, market alone", "moved, fill at the top",
+    "moved, more prices",
+    "13, 11 holds too", "11 by the collar", "11 gone by it"
+};
+
+/* Counts the words from 48 on of an order with number 1, where all else is in form. */
+static void count_collar_form(long cell[COLLARS][COLUMNS], int column, const unsigned char *order)
+{
+    unsigned char plain[PEER_ORDER_BYTES];
+    struct peer_order o;
+    int64_t displayed = word_at(order + 48), collar = word_at(order + 52);
+    int64_t result = order[0] == PEER_SELL ? 1000000 - displayed - collar : displayed - collar;
+    uint32_t low = (uint32_t)(order[0] == PEER_SELL ? displayed + collar : displayed - collar);
+    int priced = displayed >= 1 && displayed <= 999999, collar_priced = collar >= 1 && collar <= 999999;
+
+    memcpy(plain, order, PEER_ORDER_BYTES);
+    memset(plain + 48, 0, 16);
+    peer_read_order(plain, &o);
+    if (!peer_order_form(&o))
+        return;
+    cell[COLLAR_1_BEHIND][column] += any_set(order + 56, 8) && collar_in_form(order);
+    if (collar_in_form(order))
+        return;
+    cell[COLLAR_1_DISPLAYED][column] += priced && collar == 0;
+    cell[COLLAR_1_COLLAR][column] += displayed == 0 && collar_priced;
+    cell[COLLAR_1_HIGH][column] += displayed > 999999 && collar_priced;
+    cell[COLLAR_1_WIDE][column] += priced && collar > 999999;
+    cell[COLLAR_1_MILLION][column] += (displayed == 1000000 && collar_priced) || (priced && collar == 1000000);
+    cell[COLLAR_1_ZERO][column] += priced && collar_priced && result == 0;
+    cell[COLLAR_1_BELOW][column] += priced && collar_priced && result < 0;
+    cell[COLLAR_1_WRAPS][column] += displayed > 0 && collar > 0 && !(priced && collar_priced) && low >= 1 &&
+                                    low <= 999999;
+    cell[COLLAR_1_LARGE][column] += o.size >= 50;
+}
+
+/* Counts a collared order in form by its number. */
+static void count_collar_number(long cell[COLLARS][COLUMNS], int column, const struct terms *t, int number)
+{
+    int without = order_due_without(t), empty = t->offer - 1 < t->bound;
+
+    cell[COLLAR_LEAST][column] += t->offer == (t->sign > 0 ? 1 : -999999);
+    cell[COLLAR_GREATEST][column] += t->offer == (t->sign > 0 ? 999998 : -2);
+    if (number >= 2 && number <= 10)
+        cell[COLLAR_AT_2 + number - 2][column]++;
+    cell[COLLAR_2_FAR][column] += number == 2 && t->bo < t->nbo && t->offer >= t->nbo;
+    cell[COLLAR_9_FAR][column] += number == 9 && t->offer - t->bb != 1;
+    cell[COLLAR_10_AND_13][column] += number == 10 && t->small && empty;
+    cell[COLLAR_10_ALONE][column] += number == 10 && t->small && !empty;
+    cell[COLLAR_11_NEW][column] += number == 11 && without == 0;
+    cell[COLLAR_11_GONE][column] += number == 0 && without == 11;
+    cell[COLLAR_12_NEW][column] += number == 12 && without != 12;
+    cell[COLLAR_12_GONE][column] += number != 12 && number != 13 && without == 12;
+    if (number == 13) {
+        cell[COLLAR_13_BY_ONE][column] += t->init + 1 == t->bound;
+        cell[COLLAR_13_BY_MORE][column] += t->init + 1 < t->bound;
+        cell[COLLAR_13_AT_49][column] += t->raw.size == 49;
+        cell[COLLAR_13_LIMIT][column] += t->limit == t->bound;
+        cell[COLLAR_13_NOT_9][column] += t->offer - t->bb == 1;
+        cell[COLLAR_13_ALONE][column] += !is_11(t) && !is_12(t);
+        cell[COLLAR_13_AND_11][column] += is_11(t);
+        cell[COLLAR_13_AND_12][column] += is_12(t);
+    }
+    if (number != 0)
+        return;
+    cell[COLLAR_50][column] += t->raw.size == 50;
+    cell[COLLAR_LARGE][column] += !t->small;
+    cell[COLLAR_LARGE_EMPTY][column] += !t->small && empty;
+    if (!t->small)
+        return;
+    cell[COLLAR_SMALL][column]++;
+    cell[COLLAR_49][column] += t->raw.size == 49;
+    cell[COLLAR_ABOVE][column] += t->offer > t->bo;
+    cell[COLLAR_AT][column] += t->offer == t->bo;
+    cell[COLLAR_BELOW][column] += t->offer < t->bo;
+    cell[COLLAR_NO_BO][column] += t->bo == (t->sign > 0 ? 1000000 : 0);
+    cell[COLLAR_DOWN][column] += t->init < t->plain;
+    cell[COLLAR_UP][column] += t->init > t->plain;
+    cell[COLLAR_LIMIT][column] += t->offer - 1 == t->limit;
+    cell[COLLAR_ONE_PRICE][column] += t->init < t->plain && t->init == t->bound;
+    cell[COLLAR_TWO_PRICES][column] += t->init < t->plain && t->init == t->bound + 1;
+}
+
+/* Counts one record of an auction with a collar, under the quotes before it. */
+static void count_collar_event(long cell[COLLARS][COLUMNS], int column, const struct terms *t, const struct quotes *q,
+                               const struct peer_event *e, int answer)
+{
+    int64_t price = signed_price(t, e);
+    int hidden_bid = e->kind == PEER_LIMIT && is_own(t, e) && (e->marks & PEER_NON_ROUTABLE);
+    int response = e->kind == PEER_AMEND || (e->kind == PEER_GTX && !is_own(t, e));
+
+    if (hidden_bid && applied(answer) && price >= t->offer && price < q->bo)
+        cell[t->small ? COLLAR_BID : COLLAR_BID_LARGE][column]++;
+    cell[COLLAR_SAME][column] += hidden_bid && answer == PEER_ENDED && price < t->offer && price >= q->bo;
+    cell[COLLAR_36][column] += response && answer == 36 && price <= t->plain;
+    cell[COLLAR_NOT_36][column] += response && answer == PEER_TAKEN && price > t->plain;
+    cell[COLLAR_NO_PLACE][column] += e->kind == PEER_LIMIT && !is_own(t, e) && applied(answer) && price > t->init &&
+                                     price <= t->plain;
+    cell[COLLAR_QUOTES][column] += e->kind == PEER_QUOTES && answer == PEER_TAKEN && t->init != t->plain;
+}
+
+/* Counts the events and fills of an auction with a collar. */
+static void count_collared(long cell[COLLARS][COLUMNS], int column, const struct peer_run *r,
+                           const unsigned char *events, const struct terms *t, int cause)
+{
+    struct quotes q = first_quotes(t);
+    int i, top = 0, prices = 1;
+
+    for (i = 0; i < r->n_events; i++) {
+        struct peer_event e = record(events, i);
+
+        count_collar_event(cell, column, t, &q, &e, r->event[i].answer);
+        if (applied(r->event[i].answer))
+            ending_due(t, &q, &e);
+    }
+    if (t->init == t->plain)
+        return;
+    for (i = 0; i < r->n_fills; i++) {
+        top |= t->sign * r->fill[i].price == t->init;
+        prices += i > 0 && r->fill[i].price != r->fill[i - 1].price;
+    }
+    cell[COLLAR_LATE + cause][column]++;
+    cell[COLLAR_MARKET][column] += cause == OPP_MARKET && r->end.n_live == 0;
+    cell[COLLAR_TOP][column] += top;
+    cell[COLLAR_PRICES][column] += prices > 1;
+}
+
 /* Which kind of ending a run had. */
 static int cause_of(const struct peer_run *r, const unsigned char *events)
 {
@@ -611,7 +956,7 @@ int stats(const char *dir)
     static unsigned char tape[PEER_TAPE_MAX + 1];
     static struct peer_run r;
     static long number[NUMBERS][COLUMNS], ending[CAUSES][COLUMNS], amend[AMENDS][COLUMNS],
-                watch[WATCHES][COLUMNS], share[SHARES][COLUMNS];
+                watch[WATCHES][COLUMNS], share[SHARES][COLUMNS], collar[COLLARS][COLUMNS];
     static long full_end[COLUMNS], only_one[COLUMNS], none[COLUMNS], many_prices[COLUMNS];
     static const int bucket_low[] = { 1, 2, 3, 4, 6, 10, 20, 40, 64, 100, 129, 130 };
     enum { BUCKETS = sizeof bucket_low / sizeof bucket_low[0] };
@@ -623,7 +968,8 @@ int stats(const char *dir)
 
     for (tapes = 0; read_tape_file(dir, tapes, tape, &n); tapes++) {
         struct peer_order o;
-        int column, seen = 0;
+        struct terms t;
+        int column, cause, seen = 0;
 
         peer_run(tape, n, 0, &r);
         if (r.refused >= 21) {
@@ -633,6 +979,12 @@ int stats(const char *dir)
         peer_read_tape(tape, n, &at, &events);
         peer_read_order(tape + at, &o);
         column = (o.side == PEER_SELL ? 3 : 0) + (int)(o.mode >= 1 && o.mode <= 3 ? o.mode - 1 : 0);
+        if (r.refused == 1)
+            count_collar_form(collar, column, tape + at);
+        else
+            t = terms_of(tape + at);
+        if (r.refused != 1 && t.collared)
+            count_collar_number(collar, column, &t, r.refused);
         if (r.refused) {
             number[r.refused][column]++;
             continue;
@@ -645,7 +997,10 @@ int stats(const char *dir)
             }
         }
         some_refused += seen;
-        ending[cause_of(&r, tape + at + PEER_ORDER_BYTES)][column]++;
+        cause = cause_of(&r, tape + at + PEER_ORDER_BYTES);
+        ending[cause][column]++;
+        if (t.collared)
+            count_collared(collar, column, &r, tape + at + PEER_ORDER_BYTES, &t, cause);
         count_amends(amend, column, &r, tape + at + PEER_ORDER_BYTES);
         count_watches(watch, column, &r, tape + at + PEER_ORDER_BYTES);
         count_shares(share, column, &r, tape + at + PEER_ORDER_BYTES);
@@ -665,7 +1020,7 @@ int stats(const char *dir)
     printf("tapes refused: 21 %ld, 22 %ld, 23 %ld\n\n", refused_tape[21], refused_tape[22], refused_tape[23]);
     printf("%-22s %7s | %6s %6s %6s %6s %6s %6s\n", "", "all", "buy 1", "buy 2", "buy 3", "sell 1", "sell 2", "sell 3");
     for (i = 1; i < NUMBERS; i++) {
-        if (i > 12 && i < 31)
+        if (i > 13 && i < 31)
             continue;
         sprintf(name, "number %d", i);
         print_row(name, number[i]);
@@ -675,6 +1030,7 @@ int stats(const char *dir)
     print_rows(amend_name, amend, AMENDS);
     print_rows(watch_name, watch, WATCHES);
     print_rows(share_name, share, SHARES);
+    print_rows(collar_name, collar, COLLARS);
     print_row("64 live at the end", full_end);
     print_row("one live at the end", only_one);
     print_row("none live at the end", none);
@@ -691,7 +1047,7 @@ int stats(const char *dir)
         if (refused_tape[i] == 0 && ++missing)
             printf("MISSING number %d\n", i);
     for (i = 1; i < NUMBERS; i++) {
-        if (i > 12 && i < 31)
+        if (i > 13 && i < 31)
             continue;
         sprintf(name, "number %d", i);
         missing += print_missing(name, number[i], i == 11 ? PEER_MATCH : 0);
@@ -702,6 +1058,9 @@ int stats(const char *dir)
     missing += print_rows_missing(share_name, share, SHARE_BELOW);
     missing += print_missing(share_name[SHARE_BELOW], share[SHARE_BELOW], PEER_MATCH);
     missing += print_missing(share_name[SHARE_HELD], share[SHARE_HELD], PEER_STOP);
+    missing += print_rows_missing(collar_name, collar, COLLAR_13_AND_11);
+    for (i = COLLAR_13_AND_11; i < COLLARS; i++)
+        missing += print_missing(collar_name[i], collar[i], PEER_MATCH);
     missing += print_missing("64 live at the end", full_end, 0);
     printf(missing ? "%ld cells missing\n" : "nothing missing\n", missing);
     return missing != 0;
@@ -1061,6 +1420,182 @@ static void check_parties(const struct peer_run *r, const unsigned char *events)
     }
 }
 
+/* The listing of a tape, but with another order. */
+static void list_with(const unsigned char *tape, size_t n, size_t at, const unsigned char *order, char *out)
+{
+    static unsigned char other[PEER_TAPE_MAX];
+
+    memcpy(other, tape, n);
+    memcpy(other + at, order, PEER_ORDER_BYTES);
+    out[peer_listing(other, n, out)] = 0;
+}
+
+/* Says what is wrong if a tape with another order isn't listed as it should be. */
+static void lists_as(const unsigned char *tape, size_t n, size_t at, const unsigned char *order, const char *want,
+                     const char *what)
+{
+    static char got[PEER_LISTING_MAX + 1];
+
+    list_with(tape, n, at, order, got);
+    if (strcmp(got, want) != 0)
+        fault(what);
+}
+
+static int number_in(const char *listing)
+{
+    int number = 0;
+
+    sscanf(listing, "REFUSED %d", &number);
+    return number;
+}
+
+/* The range as it has to be printed, after whatever stands before it. */
+static int print_range(char *out, const struct terms *t, int64_t bound)
+{
+    int64_t low = t->sign > 0 ? bound : -t->init, high = t->sign > 0 ? t->init : -bound;
+
+    return sprintf(out, " range %ld to %ld\n", (long)low, (long)high);
+}
+
+/* Puts a collar into an order's bytes by which some offer counts; 0 if the
+ * words would be out of form. */
+static int put_collar(unsigned char *order, const struct terms *t, int64_t offer, int64_t collar)
+{
+    int64_t displayed = t->sign * (offer + collar);
+
+    if (displayed < 1 || displayed > 999999)
+        return 0;
+    build_word(order + 48, (uint32_t)displayed);
+    build_word(order + 52, (uint32_t)collar);
+    return collar_in_form(order);
+}
+
+/* The order with its collar taken out: what must be the same, and what can't be
+ * seen where the initiating price is the same. Where it is lower, the lower one
+ * as the limit does what the collar did, but for 10 in place of 13. */
+static void check_without(const unsigned char *tape, size_t n, size_t at, const struct terms *t, int number,
+                          const char *listing)
+{
+    static char plain[PEER_LISTING_MAX + 1];
+    unsigned char order[PEER_ORDER_BYTES];
+    int without;
+
+    memcpy(order, tape + at, PEER_ORDER_BYTES);
+    memset(order + 48, 0, 8);
+    list_with(tape, n, at, order, plain);
+    without = number_in(plain);
+    if (without == 13)
+        fault("13 without a collar");
+    if (number != without && ((number >= 2 && number <= 10) || (without >= 2 && without <= 10)))
+        fault("a collar moves a number of 2 to 10");
+    if ((number == 13) != ((without == 0 || without > 10) && t->init < t->bound && t->bound <= t->limit))
+        fault("13 and the range differ");
+    if ((!t->small || t->init == t->plain) && strcmp(plain, listing) != 0)
+        fault("a collar is seen though the initiating price is the same");
+    if (t->init < t->bo && t->sign * t->init >= 1 && t->sign * t->init <= 999999) {
+        build_word(order + 8, (uint32_t)(t->sign * t->init));
+        lists_as(tape, n, at, order, number == 13 ? "REFUSED 10\n" : listing, "a collar does more than a lower limit");
+    }
+}
+
+/* An order without a collar, given one: of the quoted BO nothing is seen, and
+ * from 50 on of none; under 50 one at the bound empties the range. */
+static void check_with(const unsigned char *tape, size_t n, size_t at, const struct terms *t, int number,
+                       const char *listing)
+{
+    unsigned char order[PEER_ORDER_BYTES];
+    int64_t collar = 1 + current % 50;
+    int empties = t->small && (number == 0 || number > 10);
+
+    memcpy(order, tape + at, PEER_ORDER_BYTES);
+    if (put_collar(order, t, t->bo, collar))
+        lists_as(tape, n, at, order, listing, "a collar that makes the quoted BO is seen");
+    if (put_collar(order, t, t->bound, collar))
+        lists_as(tape, n, at, order, empties ? "REFUSED 13\n" : listing, "a collar that makes the bound");
+    if (put_collar(order, t, t->sign > 0 ? 1 : -999999, collar) && !t->small)
+        lists_as(tape, n, at, order, listing, "a collar is seen from 50 on");
+}
+
+/* The order's number, and its range as it is printed. */
+static void check_order(const struct peer_run *r, const unsigned char *tape, size_t n, size_t at)
+{
+    static char listing[PEER_LISTING_MAX + 1];
+    unsigned char order[PEER_ORDER_BYTES];
+    char line[200];
+    struct terms t;
+    int k;
+
+    memcpy(order, tape + at, PEER_ORDER_BYTES);
+    memset(order + 48, 0, 16);
+    list_with(tape, n, at, order, listing);
+    if ((r->refused == 1) != (number_in(listing) == 1 || !collar_in_form(tape + at) || any_set(tape + at + 56, 8)))
+        fault("1 and the words from 48 on differ");
+    if (r->refused == 1)
+        return;
+
+    t = terms_of(tape + at);
+    listing[peer_listing(tape, n, listing)] = 0;
+    if (r->refused != order_due(&t))
+        fault("not the number of 2 to 13 that is due");
+    if (t.collared)
+        check_without(tape, n, at, &t, r->refused, listing);
+    else
+        check_with(tape, n, at, &t, r->refused, listing);
+    if (r->refused)
+        return;
+    if (t.init < t.bound || t.limit < t.bound)
+        fault("accepted with an empty range");
+    k = sprintf(line, "AUCTION %s size %lu", t.sign > 0 ? "buy" : "sell", (unsigned long)t.raw.size);
+    print_range(line + k, &t, t.bound);
+    if (strncmp(listing, line, strlen(line)) != 0)
+        fault("not the range that is due");
+}
+
+/* The endings by the quotes that the records leave, and the last range as it
+ * is printed. */
+static void check_endings(const struct peer_run *r, const unsigned char *tape, size_t n, size_t at)
+{
+    static const char *const ending[] = { "open", "time", "same", "opposite", "improve" };
+    static char listing[PEER_LISTING_MAX + 1];
+    struct terms t = terms_of(tape + at);
+    struct quotes q = first_quotes(&t);
+    int i, k, stands = PEER_OPEN;
+    char line[200], *end;
+
+    for (i = 0; i < r->n_events && stands == PEER_OPEN; i++) {
+        struct peer_event e = record(tape + at + PEER_ORDER_BYTES, i);
+        int answer = r->event[i].answer;
+
+        if (answer == PEER_LATE)
+            stands = PEER_BY_TIME;
+        if (!applied(answer))
+            continue;
+        stands = ending_due(&t, &q, &e);
+        if ((answer == PEER_ENDED) != (stands != PEER_OPEN))
+            fault("the quotes end it otherwise");
+    }
+    listing[peer_listing(tape, n, listing)] = 0;
+    k = sprintf(line, "END %s", ending[stands == PEER_OPEN ? PEER_BY_TIME : stands]);
+    print_range(line + k, &t, bound_at(&t, q.bb, q.customer));
+    end = strstr(listing, "END ");
+    if (end == NULL || strncmp(end, line, strlen(line)) != 0)
+        fault("not the ending and the last range that are due");
+}
+
+/* An order refused with 2 to 13, turned to the other side, is refused so too. */
+static void check_refused_mirror(int number, const unsigned char *tape, size_t at)
+{
+    unsigned char turned[PEER_ORDER_BYTES + PEER_TRAILER_BYTES];
+    char got[PEER_LISTING_MAX + 1];
+    struct peer_order o;
+
+    peer_read_order(tape + at, &o);
+    o = build_turn_order(o);
+    got[peer_listing(turned, build_tape(turned, &o, NULL, 0), got)] = 0;
+    if (number_in(got) != number)
+        fault("the mirror is refused otherwise");
+}
+
 int check(const char *dir)
 {
     static unsigned char tape[PEER_TAPE_MAX + 1];
@@ -1068,25 +1603,31 @@ int check(const char *dir)
     struct fold told;
     size_t n, at, events;
     long accepted = 0;
-    int most = 0;
+    int most_fills = 0;
 
     for (current = 0; read_tape_file(dir, current, tape, &n); current++) {
         peer_run(tape, n, 1, &r);
         check_text(&r, tape, n);
+        if (r.refused >= 21)
+            continue;
+        peer_read_tape(tape, n, &at, &events);
+        check_order(&r, tape, n, at);
+        if (r.refused > 1)
+            check_refused_mirror(r.refused, tape, at);
         if (r.refused)
             continue;
         accepted++;
-        peer_read_tape(tape, n, &at, &events);
-        if (r.n_fills > most)
-            most = r.n_fills;
+        if (r.n_fills > most_fills)
+            most_fills = r.n_fills;
         told = check_answers(&r, tape + at + PEER_ORDER_BYTES);
         check_watch(&r, tape + at + PEER_ORDER_BYTES);
+        check_endings(&r, tape, n, at);
         check_live(&r.end, &told);
         check_fills(&r, &told);
         check_shares(&r, &told);
         check_parties(&r, tape + at + PEER_ORDER_BYTES);
         check_mirror(&r, tape, at);
     }
-    printf("checked %ld tapes, %ld accepted, most fills %d, faults %ld\n", current, accepted, most, faults);
+    printf("checked %ld tapes, %ld accepted, most fills %d, faults %ld\n", current, accepted, most_fills, faults);
     return faults != 0;
 }

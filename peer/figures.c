@@ -1,7 +1,7 @@
 /* figures.c: the document's figures a to k and its listing, on both sides,
  * with case b as W-203 has it; other listings worked out by hand from its
- * sentences, from W-201 and from W-203; and for W-202 tables of records with
- * what is on offer after each.
+ * sentences, from W-201, from W-203 and from W-205; and for W-202 tables of
+ * records with what is on offer after each.
  *
  * Each case is one tape, and the listing that the document's words give it.
  * Its mirror is made here, apart from the engine, and checked as well.
@@ -877,6 +877,480 @@ static void leftovers_by_mode(void)
            "FILL contra 100 40\nFILL 1 100 24\nFILL 2 100 36\nTOTAL 100\n");
 }
 
+/* W-205, worked out by hand. Each is written for a buy and for a sell, in the
+ * prices of the tape: with quotes 100/110 the sell's are 210 less the buy's. */
+
+/* The order of that size on the other side; quotes 100/110. */
+static struct peer_order sell(uint32_t size, uint32_t mode, uint32_t limit, uint32_t stop)
+{
+    struct peer_order o = buy(size, mode, limit, stop);
+
+    o.side = PEER_SELL;
+    return o;
+}
+
+static struct peer_order collared(struct peer_order o, uint32_t displayed, uint32_t collar)
+{
+    o.displayed = displayed;
+    o.collar = collar;
+    return o;
+}
+
+static struct peer_order quoted(struct peer_order o, uint32_t nbb, uint32_t nbo, uint32_t bb, uint32_t bo)
+{
+    o.nbb = nbb;
+    o.nbo = nbo;
+    o.bb = bb;
+    o.bo = bo;
+    return o;
+}
+
+static void refused(const char *name, struct peer_order o, int number)
+{
+    char text[40];
+
+    sprintf(text, "REFUSED %d\n", number);
+    figure(name, o, NULL, 0, text);
+}
+
+/* An order in mode 2 without events: Contra has all of it at the initiating
+ * price, which is the range's high end for a buy and its low end for a sell. */
+static void opens(const char *name, struct peer_order o, unsigned low, unsigned high)
+{
+    unsigned size = (unsigned)o.size, price = o.side == PEER_BUY ? high : low;
+    char text[200];
+
+    sprintf(text, "AUCTION %s size %u range %u to %u\nEND time range %u to %u\nFILL contra %u %u\nTOTAL %u\n",
+            o.side == PEER_BUY ? "buy" : "sell", size, low, high, low, high, price, size, size);
+    figure(name, o, NULL, 0, text);
+}
+
+static void collars(void)
+{
+    struct peer_order thin = quoted(buy(10, 2, 101, 0), 100, 101, 90, 110);
+    struct peer_order thin_sell = quoted(sell(10, 2, 100, 0), 100, 101, 91, 111);
+
+    /* 109 less 3 is 106: one cent below it is 105. 101 and 3 is 104. */
+    opens("an offer of 106", collared(buy(10, 2, 110, 0), 109, 3), 101, 105);
+    opens("a bid of 104", collared(sell(10, 2, 100, 0), 101, 3), 105, 109);
+    opens("an offer of 106, size 49", collared(buy(49, 2, 110, 0), 109, 3), 101, 105);
+    opens("a bid of 104, size 49", collared(sell(49, 2, 100, 0), 101, 3), 105, 109);
+    opens("an offer of 106, size 50", collared(buy(50, 2, 110, 0), 109, 3), 100, 110);
+    opens("a bid of 104, size 50", collared(sell(50, 2, 100, 0), 101, 3), 100, 110);
+    opens("an offer of 106, limit 103", collared(buy(10, 2, 103, 0), 109, 3), 101, 103);
+    opens("a bid of 104, limit 107", collared(sell(10, 2, 107, 0), 101, 3), 107, 109);
+    opens("an offer of 106, BO 1,000,000", collared(quoted(buy(10, 2, 110, 0), 100, 110, 100, 1000000), 109, 3), 101, 105);
+    opens("a bid of 104, BB 0", collared(quoted(sell(10, 2, 100, 0), 100, 110, 0, 110), 101, 3), 105, 109);
+    opens("a collar of 1", collared(buy(1, 2, 110, 0), 107, 1), 101, 105);
+    opens("a collar of 1, sell", collared(sell(1, 2, 100, 0), 103, 1), 105, 109);
+
+    /* The lowest of 110, 110 and 114; with the quoted BO it would be 109. */
+    opens("an offer of 115", collared(buy(10, 2, 110, 0), 120, 5), 101, 110);
+    opens("a bid of 95", collared(sell(10, 2, 100, 0), 90, 5), 100, 109);
+    opens("an offer of 111", collared(buy(10, 2, 120, 0), 112, 1), 101, 110);
+    opens("a bid of 99", collared(sell(10, 2, 90, 0), 98, 1), 100, 109);
+    opens("an offer of 110, as quoted", collared(buy(10, 2, 110, 0), 112, 2), 101, 109);
+    opens("a bid of 100, as quoted", collared(sell(10, 2, 100, 0), 98, 2), 101, 109);
+    opens("an offer of 115, limit 105", collared(buy(10, 2, 105, 0), 120, 5), 101, 105);
+    opens("a bid of 95, limit 105", collared(sell(10, 2, 105, 0), 90, 5), 105, 109);
+    /* The lowest of 118, 118 and 114, BO being 118. */
+    opens("an offer of 115, BO 118", collared(quoted(buy(10, 2, 118, 0), 100, 118, 100, 118), 120, 5), 101, 114);
+    opens("a bid of 95, BB 92", collared(quoted(sell(10, 2, 92, 0), 92, 110, 92, 110), 90, 5), 96, 109);
+
+    /* The bound is 101, for a sell 109: at it, and a cent past it. */
+    opens("an offer of 102", collared(buy(10, 2, 110, 0), 104, 2), 101, 101);
+    opens("a bid of 108", collared(sell(10, 2, 100, 0), 106, 2), 109, 109);
+    refused("an offer of 101", collared(buy(10, 2, 110, 0), 104, 3), 13);
+    refused("a bid of 109", collared(sell(10, 2, 100, 0), 106, 3), 13);
+    refused("an offer of 101, size 49", collared(buy(49, 2, 110, 0), 104, 3), 13);
+    refused("a bid of 109, size 49", collared(sell(49, 2, 100, 0), 106, 3), 13);
+    opens("an offer of 101, size 50", collared(buy(50, 2, 110, 0), 104, 3), 100, 110);
+    opens("a bid of 109, size 50", collared(sell(50, 2, 100, 0), 106, 3), 100, 110);
+    /* The bound is the NBB where BB is well below: 101 makes 100, and 100 makes 99. */
+    opens("an offer of 101, BB 90", collared(quoted(buy(10, 2, 110, 0), 100, 110, 90, 110), 104, 3), 100, 100);
+    opens("a bid of 109, BO 120", collared(quoted(sell(10, 2, 100, 0), 100, 110, 100, 120), 106, 3), 110, 110);
+    refused("an offer of 100, BB 90", collared(quoted(buy(10, 2, 110, 0), 100, 110, 90, 110), 104, 4), 13);
+    refused("a bid of 110, BO 120", collared(quoted(sell(10, 2, 100, 0), 100, 110, 100, 120), 106, 4), 13);
+
+    /* 10 before 13: 100 is below the bound, 101 is not. */
+    refused("limit 100", collared(buy(10, 2, 100, 0), 104, 3), 10);
+    refused("limit 110, sell", collared(sell(10, 2, 110, 0), 106, 3), 10);
+    refused("limit 101", collared(buy(10, 2, 101, 0), 104, 3), 13);
+    refused("limit 109, sell", collared(sell(10, 2, 109, 0), 106, 3), 13);
+    refused("limit 100, a good offer", collared(buy(10, 2, 100, 0), 109, 3), 10);
+    refused("limit 110, a good bid", collared(sell(10, 2, 110, 0), 101, 3), 10);
+
+    /* 13 before 11, and 11 from the collar alone: 105 is the initiating price. */
+    refused("13, a stop of 105 too", collared(buy(10, 1, 110, 105), 104, 3), 13);
+    refused("13, a stop of 105 too, sell", collared(sell(10, 1, 100, 105), 106, 3), 13);
+    refused("13, a limit of 105 too", collared(buy(10, 3, 110, 105), 104, 3), 13);
+    refused("13, a limit of 105 too, sell", collared(sell(10, 3, 100, 105), 106, 3), 13);
+    refused("13, a stop in the range too", collared(buy(10, 1, 110, 101), 104, 3), 13);
+    refused("13, a stop in the range too, sell", collared(sell(10, 1, 100, 109), 106, 3), 13);
+    refused("a stop of 106", collared(buy(10, 1, 110, 106), 109, 3), 11);
+    refused("a stop of 104, sell", collared(sell(10, 1, 100, 104), 101, 3), 11);
+    refused("a limit of 109", collared(buy(10, 3, 110, 109), 109, 3), 11);
+    refused("a limit of 101, sell", collared(sell(10, 3, 100, 101), 101, 3), 11);
+    /* With an offer of 115 the initiating price is 110, and 110 is no 11. */
+    refused("a stop of 110", buy(10, 1, 110, 110), 11);
+    figure("a stop of 110, an offer of 115", collared(buy(10, 1, 110, 110), 120, 5), NULL, 0,
+           "AUCTION buy size 10 range 101 to 110\nEND time range 101 to 110\nFILL contra 110 10\nTOTAL 10\n");
+    figure("a stop of 100, a bid of 95", collared(sell(10, 1, 100, 100), 90, 5), NULL, 0,
+           "AUCTION sell size 10 range 100 to 109\nEND time range 100 to 109\nFILL contra 100 10\nTOTAL 10\n");
+
+    /* 9 by the quoted BBO alone; an offer of BB + 1 is 13, as above. */
+    refused("both 100/101, an offer of 103", collared(quoted(buy(10, 2, 101, 0), 100, 101, 100, 101), 104, 1), 9);
+    refused("both 100/101, a bid of 98", collared(quoted(sell(10, 2, 100, 0), 100, 101, 100, 101), 97, 1), 9);
+    refused("both 100/101, an offer of 999,998", collared(quoted(buy(49, 2, 101, 0), 100, 101, 100, 101), 999999, 1), 9);
+    refused("both 100/101, a bid of 2", collared(quoted(sell(49, 2, 100, 0), 100, 101, 100, 101), 1, 1), 9);
+    refused("both 100/101, an offer of 50", collared(quoted(buy(10, 2, 101, 0), 100, 101, 100, 101), 60, 10), 9);
+    refused("both 100/101, a bid of 150", collared(quoted(sell(10, 2, 100, 0), 100, 101, 100, 101), 140, 10), 9);
+    opens("both 100/101, size 50", collared(quoted(buy(50, 2, 101, 0), 100, 101, 100, 101), 60, 10), 100, 101);
+    opens("both 100/101, size 50, sell", collared(quoted(sell(50, 2, 100, 0), 100, 101, 100, 101), 140, 10), 100, 101);
+
+    /* 12: the initiating price has to be 100. BO 110 makes it 101; offers of
+     * 101 and 102 make it 100 and 101. For a sell it has to be 101. */
+    refused("thin", thin, 12);
+    opens("thin, an offer of 101", collared(thin, 104, 3), 100, 100);
+    opens("thin, a bid of 100", collared(thin_sell, 97, 3), 101, 101);
+    refused("thin, an offer of 102", collared(thin, 104, 2), 12);
+    refused("thin, a bid of 99", collared(thin_sell, 97, 2), 12);
+    refused("thin, an offer of 100", collared(thin, 104, 4), 13);
+    refused("thin, a bid of 101", collared(thin_sell, 97, 4), 13);
+    /* With BO 101 it is 100 to begin with, and an offer of 105 makes it 101. */
+    opens("thin, BO 101", quoted(buy(10, 2, 101, 0), 100, 101, 90, 101), 100, 100);
+    refused("thin, BO 101, an offer of 105", collared(quoted(buy(10, 2, 101, 0), 100, 101, 90, 101), 110, 5), 12);
+    refused("thin, BB 100, a bid of 96", collared(quoted(sell(10, 2, 100, 0), 100, 101, 100, 111), 91, 5), 12);
+    /* A stop of 101 is 11 at an initiating price of 100, 12 at 101, and 13 comes first. */
+    thin.mode = thin_sell.mode = PEER_STOP;
+    thin.stop = 101;
+    thin_sell.stop = 100;
+    refused("thin, a stop of 101", collared(thin, 104, 3), 11);
+    refused("thin, a stop of 100, sell", collared(thin_sell, 97, 3), 11);
+    refused("thin, a stop of 101, an offer of 102", collared(thin, 104, 2), 12);
+    refused("thin, a stop of 100, a bid of 99", collared(thin_sell, 97, 2), 12);
+    refused("thin, a stop of 101, an offer of 100", collared(thin, 104, 4), 13);
+    refused("thin, a stop of 100, a bid of 101", collared(thin_sell, 97, 4), 13);
+}
+
+/* Numbers 2 to 8 of an order that would be 13: each comes first. */
+static void collars_after(void)
+{
+    struct peer_order o = collared(buy(10, 2, 110, 0), 104, 3), s = collared(sell(10, 2, 100, 0), 106, 3);
+
+    /* BO is below the NBO by one, whatever counts as BO; for a sell BB is above the NBB. */
+    refused("2", quoted(o, 100, 110, 100, 109), 2);
+    refused("2, sell", quoted(s, 100, 110, 101, 110), 2);
+    refused("2, an offer of 115", collared(quoted(o, 100, 110, 100, 109), 120, 5), 2);
+    refused("2, a bid of 95", collared(quoted(s, 100, 110, 101, 110), 90, 5), 2);
+    refused("8", quoted(o, 110, 110, 100, 110), 8);
+    refused("8, sell", quoted(s, 100, 100, 100, 110), 8);
+    o.marks = s.marks = PEER_OTHER_OPEN;
+    refused("7", o, 7);
+    refused("7, sell", s, 7);
+    o.marks = s.marks = PEER_HALTED;
+    refused("6", o, 6);
+    refused("6, sell", s, 6);
+    o.close = s.close = 3000;
+    refused("5", o, 5);
+    refused("5, sell", s, 5);
+    o.open = s.open = 2001;
+    refused("4", o, 4);
+    refused("4, sell", s, 4);
+    o.size = s.size = 0;
+    refused("3", o, 3);
+    refused("3, sell", s, 3);
+    refused("1 before all of them", collared(o, 104, 0), 1);
+    refused("1 before all of them, sell", collared(s, 0, 3), 1);
+}
+
+/* The form of the two fields, at every size. */
+static void collar_form(void)
+{
+    static const uint32_t size[] = { 10, 49, 50, PEER_SIZE_MAX };
+    size_t i;
+
+    for (i = 0; i < sizeof size / sizeof size[0]; i++) {
+        struct peer_order o = buy(size[i], 2, 110, 0), s = sell(size[i], 2, 100, 0);
+        int small = size[i] < 50;
+
+        refused("displayed alone", collared(o, 109, 0), 1);
+        refused("displayed alone, sell", collared(s, 101, 0), 1);
+        refused("collar alone", collared(o, 0, 3), 1);
+        refused("collar alone, sell", collared(s, 0, 3), 1);
+        refused("displayed 1,000,000", collared(o, 1000000, 3), 1);
+        refused("displayed 1,000,000, sell", collared(s, 1000000, 3), 1);
+        refused("collar 1,000,000", collared(o, 109, 1000000), 1);
+        refused("collar 1,000,000, sell", collared(s, 101, 1000000), 1);
+        refused("both 1,000,000 and more", collared(o, 1000106, 1000000), 1);
+        refused("both 1,000,000, sell", collared(s, 1000000, 1000000), 1);
+
+        /* Words that would wrap to 6, to 105, and for a sell to 104 and 105. */
+        refused("collar the greatest word", collared(o, 5, UINT32_MAX), 1);
+        refused("two great words", collared(o, UINT32_MAX, UINT32_MAX - 105), 1);
+        refused("collar the greatest word, sell", collared(s, 105, UINT32_MAX), 1);
+        refused("displayed the greatest word, sell", collared(s, UINT32_MAX, 106), 1);
+
+        /* The result is 0, below it, or 1,000,000 and above. */
+        refused("displayed is the collar", collared(o, 50, 50), 1);
+        refused("displayed is below the collar", collared(o, 50, 51), 1);
+        refused("displayed 1, collar 999,999", collared(o, 1, 999999), 1);
+        refused("999,998 and 2", collared(s, 999998, 2), 1);
+        refused("999,998 and 3", collared(s, 999998, 3), 1);
+        refused("999,999 and 999,999", collared(s, 999999, 999999), 1);
+
+        /* The least result, and for a sell the greatest: in form, and under 50
+         * the initiating price is 0 or 1,000,000. */
+        if (small) {
+            refused("999,999 less 999,998", collared(o, 999999, 999998), 13);
+            refused("2 less 1", collared(o, 2, 1), 13);
+            refused("999,998 and 1", collared(s, 999998, 1), 13);
+            refused("1 and 999,998", collared(s, 1, 999998), 13);
+        } else {
+            opens("999,999 less 999,998", collared(o, 999999, 999998), 100, 110);
+            opens("2 less 1", collared(o, 2, 1), 100, 110);
+            opens("999,998 and 1", collared(s, 999998, 1), 100, 110);
+            opens("1 and 999,998", collared(s, 1, 999998), 100, 110);
+        }
+        /* The greatest result, and for a sell the least. */
+        opens("999,999 less 1", collared(o, 999999, 1), small ? 101 : 100, 110);
+        opens("1 and 1", collared(s, 1, 1), 100, small ? 109 : 110);
+    }
+}
+
+#define BUY_GTX(seq, size, price) build_gtx(seq, 20, PEER_BUY, size, price, 0)
+#define HIDDEN(seq, side, price) build_limit(seq, 20, side, 5, price, PEER_NON_ROUTABLE)
+
+/* Auctions with a collared range, played to their fills: an offer of 106, so
+ * that the initiating price is 105, and for a sell a bid of 104 and 105 too. */
+static void collar_fills(void)
+{
+    struct peer_event e[4];
+
+    /* 10 exceeds 6: 3 and 3 at 103, and 4 at 105. 106 is above, for a GTX and
+     * for a limit order, which takes no place. */
+    e[0] = SELL_GTX(1, 3, 106);
+    e[1] = SELL_GTX(2, 3, 103);
+    e[2] = SELL(3, 30, 106);
+    figure("an offer of 106, mode 2", collared(buy(10, 2, 110, 0), 109, 3), e, 3,
+           "AUCTION buy size 10 range 101 to 105\n"
+           "EVENT 1 refused 36\nEVENT 2 taken\nEVENT 3 taken\n"
+           "END time range 101 to 105\n"
+           "FILL contra 103 3\nFILL 2 103 3\nFILL contra 105 4\nTOTAL 10\n");
+    e[0] = BUY_GTX(1, 3, 104);
+    e[1] = BUY_GTX(2, 3, 107);
+    e[2] = build_limit(3, 20, PEER_BUY, 30, 104, 0);
+    figure("a bid of 104, mode 2", collared(sell(10, 2, 100, 0), 101, 3), e, 3,
+           "AUCTION sell size 10 range 105 to 109\n"
+           "EVENT 1 refused 36\nEVENT 2 taken\nEVENT 3 taken\n"
+           "END time range 105 to 109\n"
+           "FILL contra 107 3\nFILL 2 107 3\nFILL contra 105 4\nTOTAL 10\n");
+
+    /* 4 below the stop; of the 6 left Contra has its 4. The stop may be 105. */
+    e[0] = SELL_GTX(1, 4, 103);
+    e[1] = SELL_GTX(2, 8, 105);
+    figure("an offer of 106, mode 1", collared(buy(10, 1, 110, 105), 109, 3), e, 2,
+           "AUCTION buy size 10 range 101 to 105\n"
+           "EVENT 1 taken\nEVENT 2 taken\n"
+           "END time range 101 to 105\n"
+           "FILL 1 103 4\nFILL contra 105 4\nFILL 2 105 2\nTOTAL 10\n");
+    e[0] = BUY_GTX(1, 4, 107);
+    e[1] = BUY_GTX(2, 8, 105);
+    figure("a bid of 104, mode 1", collared(sell(10, 1, 100, 105), 101, 3), e, 2,
+           "AUCTION sell size 10 range 105 to 109\n"
+           "EVENT 1 taken\nEVENT 2 taken\n"
+           "END time range 105 to 109\n"
+           "FILL 1 107 4\nFILL contra 105 4\nFILL 2 105 2\nTOTAL 10\n");
+
+    /* 2 below the limit of 103. 18 exceeds 6: 3 and 3 at 104. At 105 Contra
+     * lacks 5 of its 8, 1 goes to the other, and the 6 left to Contra. */
+    e[0] = SELL_GTX(1, 2, 102);
+    e[1] = SELL_GTX(2, 3, 104);
+    e[2] = SELL_GTX(3, 1, 105);
+    figure("an offer of 106, mode 3", collared(buy(20, 3, 110, 103), 109, 3), e, 3,
+           "AUCTION buy size 20 range 101 to 105\n"
+           "EVENT 1 taken\nEVENT 2 taken\nEVENT 3 taken\n"
+           "END time range 101 to 105\n"
+           "FILL 1 102 2\nFILL contra 104 3\nFILL 2 104 3\nFILL contra 105 11\nFILL 3 105 1\nTOTAL 20\n");
+    e[0] = BUY_GTX(1, 2, 108);
+    e[1] = BUY_GTX(2, 3, 106);
+    e[2] = BUY_GTX(3, 1, 105);
+    figure("a bid of 104, mode 3", collared(sell(20, 3, 100, 107), 101, 3), e, 3,
+           "AUCTION sell size 20 range 105 to 109\n"
+           "EVENT 1 taken\nEVENT 2 taken\nEVENT 3 taken\n"
+           "END time range 105 to 109\n"
+           "FILL 1 108 2\nFILL contra 106 3\nFILL 2 106 3\nFILL contra 105 11\nFILL 3 105 1\nTOTAL 20\n");
+
+    /* Halfway between 105 and 101. With an offer of 105 it is 102 and a half,
+     * and goes up; for a sell it is 107 and a half, and goes down. */
+    e[0] = build_market(1, 20, PEER_SELL, 4, 0);
+    figure("an offer of 106, a market order", collared(buy(10, 2, 110, 0), 109, 3), e, 1,
+           "AUCTION buy size 10 range 101 to 105\nEVENT 1 ended\nEND opposite range 101 to 105\n"
+           "FILL 1 103 4\nFILL contra 105 6\nTOTAL 10\n");
+    figure("an offer of 105, a market order", collared(buy(10, 2, 110, 0), 109, 4), e, 1,
+           "AUCTION buy size 10 range 101 to 104\nEVENT 1 ended\nEND opposite range 101 to 104\n"
+           "FILL 1 103 4\nFILL contra 104 6\nTOTAL 10\n");
+    e[0] = build_market(1, 20, PEER_BUY, 4, 0);
+    figure("a bid of 104, a market order", collared(sell(10, 2, 100, 0), 101, 3), e, 1,
+           "AUCTION sell size 10 range 105 to 109\nEVENT 1 ended\nEND opposite range 105 to 109\n"
+           "FILL 1 107 4\nFILL contra 105 6\nTOTAL 10\n");
+    figure("a bid of 105, a market order", collared(sell(10, 2, 100, 0), 101, 4), e, 1,
+           "AUCTION sell size 10 range 106 to 109\nEVENT 1 ended\nEND opposite range 106 to 109\n"
+           "FILL 1 107 4\nFILL contra 106 6\nTOTAL 10\n");
+
+    /* One price: 99 works at 101. G is 5 against one response, and 1 is left. */
+    e[0] = SELL_GTX(1, 4, 99);
+    e[1] = SELL_GTX(2, 4, 102);
+    figure("a range of one price", collared(buy(10, 2, 110, 0), 104, 2), e, 2,
+           "AUCTION buy size 10 range 101 to 101\nEVENT 1 taken\nEVENT 2 refused 36\nEND time range 101 to 101\n"
+           "FILL contra 101 6\nFILL 1 101 4\nTOTAL 10\n");
+    e[0] = BUY_GTX(1, 4, 111);
+    e[1] = BUY_GTX(2, 4, 108);
+    figure("a range of one price, sell", collared(sell(10, 2, 100, 0), 106, 2), e, 2,
+           "AUCTION sell size 10 range 109 to 109\nEVENT 1 taken\nEVENT 2 refused 36\nEND time range 109 to 109\n"
+           "FILL contra 109 6\nFILL 1 109 4\nTOTAL 10\n");
+
+    /* An offer of 115 lets 110 in, where BO - 1 would not: 5 and the 2 left for
+     * Contra. An amend to 110 as well. */
+    e[0] = SELL_GTX(1, 5, 110);
+    e[1] = SELL_GTX(2, 5, 111);
+    e[2] = AMEND(3, 1, 3, 110);
+    figure("an offer of 115, filled", collared(buy(10, 2, 110, 0), 120, 5), e, 3,
+           "AUCTION buy size 10 range 101 to 110\nEVENT 1 taken\nEVENT 2 refused 36\nEVENT 3 taken\n"
+           "END time range 101 to 110\n"
+           "FILL contra 110 7\nFILL 3 110 3\nTOTAL 10\n");
+    e[0] = BUY_GTX(1, 5, 100);
+    e[1] = BUY_GTX(2, 5, 99);
+    e[2] = AMEND(3, 1, 3, 100);
+    figure("a bid of 95, filled", collared(sell(10, 2, 100, 0), 90, 5), e, 3,
+           "AUCTION sell size 10 range 100 to 109\nEVENT 1 taken\nEVENT 2 refused 36\nEVENT 3 taken\n"
+           "END time range 100 to 109\n"
+           "FILL contra 100 7\nFILL 3 100 3\nTOTAL 10\n");
+
+    /* From 50 on nothing of it is seen: 106 and 110 are in the range. At 106
+     * 50 exceeds 20: 10 and 10, and at 110 Contra lacks 10, and 20 are left. */
+    e[0] = SELL_GTX(1, 10, 106);
+    e[1] = SELL_GTX(2, 10, 110);
+    figure("an offer of 106, size 50, filled", collared(buy(50, 2, 110, 0), 109, 3), e, 2,
+           "AUCTION buy size 50 range 100 to 110\nEVENT 1 taken\nEVENT 2 taken\nEND time range 100 to 110\n"
+           "FILL contra 106 10\nFILL 1 106 10\nFILL contra 110 20\nFILL 2 110 10\nTOTAL 50\n");
+    e[0] = BUY_GTX(1, 10, 104);
+    e[1] = BUY_GTX(2, 10, 100);
+    figure("a bid of 104, size 50, filled", collared(sell(50, 2, 100, 0), 101, 3), e, 2,
+           "AUCTION sell size 50 range 100 to 110\nEVENT 1 taken\nEVENT 2 taken\nEND time range 100 to 110\n"
+           "FILL contra 104 10\nFILL 1 104 10\nFILL contra 100 20\nFILL 2 100 10\nTOTAL 50\n");
+}
+
+/* Later events look at the quoted BBO, and the initiating price stays. */
+static void collar_events(void)
+{
+    struct peer_event e[4];
+
+    /* A bid at 106 is below BO, so it is not "same": its bound would be 107. */
+    e[0] = HIDDEN(1, PEER_BUY, 106);
+    figure("a non-routable bid at the offer", collared(buy(10, 2, 110, 0), 109, 3), e, 1,
+           "AUCTION buy size 10 range 101 to 105\nEVENT 1 ended\nEND improve range 101 to 105\n"
+           "FILL contra 105 10\nTOTAL 10\n");
+    figure("a non-routable bid at the offer, size 50", collared(buy(50, 2, 110, 0), 109, 3), e, 1,
+           "AUCTION buy size 50 range 100 to 110\nEVENT 1 taken\nEND time range 106 to 110\n"
+           "FILL contra 110 50\nTOTAL 50\n");
+    e[0] = HIDDEN(1, PEER_SELL, 104);
+    figure("a non-routable offer at the bid", collared(sell(10, 2, 100, 0), 101, 3), e, 1,
+           "AUCTION sell size 10 range 105 to 109\nEVENT 1 ended\nEND improve range 105 to 109\n"
+           "FILL contra 105 10\nTOTAL 10\n");
+    figure("a non-routable offer at the bid, size 50", collared(sell(50, 2, 100, 0), 101, 3), e, 1,
+           "AUCTION sell size 50 range 100 to 110\nEVENT 1 taken\nEND time range 100 to 104\n"
+           "FILL contra 100 50\nTOTAL 50\n");
+
+    /* A routable bid at 106 is below the NBO, which stays as well. */
+    e[0] = BID(1, 5, 106);
+    figure("a bid at the offer", collared(buy(10, 2, 110, 0), 109, 3), e, 1,
+           "AUCTION buy size 10 range 101 to 105\nEVENT 1 ended\nEND improve range 101 to 105\n"
+           "FILL contra 105 10\nTOTAL 10\n");
+    figure("a bid at the offer, size 50", collared(buy(50, 2, 110, 0), 109, 3), e, 1,
+           "AUCTION buy size 50 range 100 to 110\nEVENT 1 taken\nEND time range 106 to 110\n"
+           "FILL contra 110 50\nTOTAL 50\n");
+    e[0] = SELL(1, 5, 104);
+    figure("an offer at the bid", collared(sell(10, 2, 100, 0), 101, 3), e, 1,
+           "AUCTION sell size 10 range 105 to 109\nEVENT 1 ended\nEND improve range 105 to 109\n"
+           "FILL contra 105 10\nTOTAL 10\n");
+    figure("an offer at the bid, size 50", collared(sell(50, 2, 100, 0), 101, 3), e, 1,
+           "AUCTION sell size 50 range 100 to 110\nEVENT 1 taken\nEND time range 100 to 104\n"
+           "FILL contra 100 50\nTOTAL 50\n");
+
+    /* 104 makes a bound of 105; then 105 would make 106. At 110 it is "same". */
+    e[0] = HIDDEN(1, PEER_BUY, 104);
+    e[1] = HIDDEN(2, PEER_BUY, 105);
+    figure("bids up to the initiating price", collared(buy(10, 2, 110, 0), 109, 3), e, 2,
+           "AUCTION buy size 10 range 101 to 105\nEVENT 1 taken\nEVENT 2 ended\nEND improve range 105 to 105\n"
+           "FILL contra 105 10\nTOTAL 10\n");
+    e[1] = HIDDEN(2, PEER_BUY, 110);
+    figure("a non-routable bid at BO", collared(buy(10, 2, 110, 0), 109, 3), e, 2,
+           "AUCTION buy size 10 range 101 to 105\nEVENT 1 taken\nEVENT 2 ended\nEND same range 105 to 105\n"
+           "FILL contra 105 10\nTOTAL 10\n");
+    e[0] = HIDDEN(1, PEER_SELL, 106);
+    e[1] = HIDDEN(2, PEER_SELL, 105);
+    figure("offers down to the initiating price", collared(sell(10, 2, 100, 0), 101, 3), e, 2,
+           "AUCTION sell size 10 range 105 to 109\nEVENT 1 taken\nEVENT 2 ended\nEND improve range 105 to 105\n"
+           "FILL contra 105 10\nTOTAL 10\n");
+    e[1] = HIDDEN(2, PEER_SELL, 100);
+    figure("a non-routable offer at BB", collared(sell(10, 2, 100, 0), 101, 3), e, 2,
+           "AUCTION sell size 10 range 105 to 109\nEVENT 1 taken\nEVENT 2 ended\nEND same range 105 to 105\n"
+           "FILL contra 105 10\nTOTAL 10\n");
+
+    /* With an offer of 115: 109 makes a bound of 110 and is taken, 110 is "same"
+     * though it is below 115. */
+    e[0] = HIDDEN(1, PEER_BUY, 109);
+    e[1] = HIDDEN(2, PEER_BUY, 110);
+    figure("a non-routable bid at BO, below the offer", collared(buy(10, 2, 110, 0), 120, 5), e, 2,
+           "AUCTION buy size 10 range 101 to 110\nEVENT 1 taken\nEVENT 2 ended\nEND same range 110 to 110\n"
+           "FILL contra 110 10\nTOTAL 10\n");
+    e[0] = HIDDEN(1, PEER_SELL, 101);
+    e[1] = HIDDEN(2, PEER_SELL, 100);
+    figure("a non-routable offer at BB, above the bid", collared(sell(10, 2, 100, 0), 90, 5), e, 2,
+           "AUCTION sell size 10 range 100 to 109\nEVENT 1 taken\nEVENT 2 ended\nEND same range 100 to 100\n"
+           "FILL contra 100 10\nTOTAL 10\n");
+
+    /* New quotes move BO to 112, then to 104, and the initiating price not at
+     * all: 106 is 36, 110 would be "same" no more, 104 is. */
+    e[0] = build_quotes(1, 20, 100, 112, 100, 112, 0);
+    e[1] = SELL_GTX(2, 3, 106);
+    e[2] = SELL_GTX(3, 3, 105);
+    e[3] = HIDDEN(4, PEER_BUY, 110);
+    figure("quotes, then a bid at the old BO", collared(buy(10, 2, 110, 0), 109, 3), e, 4,
+           "AUCTION buy size 10 range 101 to 105\nEVENT 1 taken\nEVENT 2 refused 36\nEVENT 3 taken\nEVENT 4 ended\n"
+           "END improve range 101 to 105\nFILL contra 105 7\nFILL 3 105 3\nTOTAL 10\n");
+    e[0] = build_quotes(1, 20, 100, 104, 100, 104, 0);
+    e[3] = HIDDEN(4, PEER_BUY, 104);
+    figure("quotes, then a bid at the new BO", collared(buy(10, 2, 110, 0), 109, 3), e, 4,
+           "AUCTION buy size 10 range 101 to 105\nEVENT 1 taken\nEVENT 2 refused 36\nEVENT 3 taken\nEVENT 4 ended\n"
+           "END same range 101 to 105\nFILL contra 105 7\nFILL 3 105 3\nTOTAL 10\n");
+    e[0] = build_quotes(1, 20, 98, 110, 98, 110, 0);
+    e[1] = BUY_GTX(2, 3, 104);
+    e[2] = BUY_GTX(3, 3, 105);
+    e[3] = HIDDEN(4, PEER_SELL, 100);
+    figure("quotes, then an offer at the old BB", collared(sell(10, 2, 100, 0), 101, 3), e, 4,
+           "AUCTION sell size 10 range 105 to 109\nEVENT 1 taken\nEVENT 2 refused 36\nEVENT 3 taken\nEVENT 4 ended\n"
+           "END improve range 105 to 109\nFILL contra 105 7\nFILL 3 105 3\nTOTAL 10\n");
+    e[0] = build_quotes(1, 20, 106, 110, 106, 110, 0);
+    e[3] = HIDDEN(4, PEER_SELL, 106);
+    figure("quotes, then an offer at the new BB", collared(sell(10, 2, 100, 0), 101, 3), e, 4,
+           "AUCTION sell size 10 range 105 to 109\nEVENT 1 taken\nEVENT 2 refused 36\nEVENT 3 taken\nEVENT 4 ended\n"
+           "END same range 105 to 109\nFILL contra 105 7\nFILL 3 105 3\nTOTAL 10\n");
+
+    /* A bound of 105 by quotes is in the range, one of 106 ends it. */
+    e[0] = build_quotes(1, 20, 104, 110, 104, 110, 0);
+    e[1] = build_quotes(2, 20, 105, 110, 105, 110, 0);
+    figure("quotes up to the initiating price", collared(buy(10, 2, 110, 0), 109, 3), e, 2,
+           "AUCTION buy size 10 range 101 to 105\nEVENT 1 taken\nEVENT 2 ended\nEND improve range 105 to 105\n"
+           "FILL contra 105 10\nTOTAL 10\n");
+    e[0] = build_quotes(1, 20, 100, 106, 100, 106, 0);
+    e[1] = build_quotes(2, 20, 100, 105, 100, 105, 0);
+    figure("quotes down to the initiating price", collared(sell(10, 2, 100, 0), 101, 3), e, 2,
+           "AUCTION sell size 10 range 105 to 109\nEVENT 1 taken\nEVENT 2 ended\nEND improve range 105 to 105\n"
+           "FILL contra 105 10\nTOTAL 10\n");
+}
+
 /* One record, what is said of it, and what is on offer after it. */
 struct step {
     struct peer_event e;
@@ -1211,6 +1685,50 @@ static void amend_bytes(void)
     }
 }
 
+/* The bytes of a collar, each field put at its place by hand. */
+static void collar_bytes(void)
+{
+    unsigned char t[64 + 16];
+    struct peer_order o = buy(10, 2, 110, 0), s = sell(10, 2, 100, 0);
+    const char *none = "AUCTION buy size 10 range 101 to 109\nEND time range 101 to 109\nFILL contra 109 10\nTOTAL 10\n";
+    const char *fine = "AUCTION buy size 10 range 101 to 105\nEND time range 101 to 105\nFILL contra 105 10\nTOTAL 10\n";
+    const char *high = "AUCTION buy size 10 range 101 to 110\nEND time range 101 to 110\nFILL contra 110 10\nTOTAL 10\n";
+    const char *sold = "AUCTION sell size 10 range 105 to 109\nEND time range 105 to 109\nFILL contra 105 10\nTOTAL 10\n";
+    size_t i, n;
+
+    n = build_tape(t, &o, NULL, 0);
+    bytes_give("no collar", t, n, none);
+    for (i = 48; i < 64; i++) {
+        t[i] = 1;
+        bytes_give("one byte of 48 to 63", t, n, "REFUSED 1\n");
+        t[i] = 0;
+    }
+    t[48] = 109;
+    t[52] = 3;
+    bytes_give("a collar's bytes", t, n, fine);
+    for (i = 56; i < 64; i++) {
+        t[i] = 128;
+        bytes_give("a byte behind a collar", t, n, "REFUSED 1\n");
+        t[i] = 0;
+    }
+    t[49] = 1;                              /* 365 less 3: all of 110 */
+    bytes_give("displayed 365", t, n, high);
+    t[53] = 1;                              /* 365 less 259 is 106 again */
+    bytes_give("collar 259", t, n, fine);
+    t[50] = t[54] = 3;                      /* 196,608 more in each */
+    bytes_give("the third bytes", t, n, fine);
+    t[51] = t[55] = 1;                      /* 16,777,216 more in each */
+    bytes_give("the fourth bytes", t, n, "REFUSED 1\n");
+
+    n = build_tape(t, &s, NULL, 0);
+    t[48] = 101;
+    t[52] = 3;
+    bytes_give("a collar's bytes, sell", t, n, sold);
+    t[48] = 3;
+    t[52] = 101;
+    bytes_give("a collar's bytes, sell, changed about", t, n, sold);
+}
+
 /* The numbers 21, 22, 23 and the recorder's bytes. */
 static void tapes(void)
 {
@@ -1267,6 +1785,12 @@ int main(int argc, char **argv)
     leftovers_by_part();
     leftovers_of_equals();
     leftovers_by_mode();
+    collars();
+    collars_after();
+    collar_form();
+    collar_fills();
+    collar_events();
+    collar_bytes();
     watched_figures();
     watched_moves();
     watched_endings();

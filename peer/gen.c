@@ -77,12 +77,18 @@ static uint32_t bound_of(const struct peer_order *o)
     return b > o->nbb ? b : o->nbb;
 }
 
-static uint32_t init_of(const struct peer_order *o)
+/* What counts as BO in the initiating price. */
+static uint32_t offer_of(const struct peer_order *o) { return o->displayed ? o->displayed - o->collar : o->bo; }
+
+/* The initiating price that an offer makes. */
+static uint32_t init_by(const struct peer_order *o, uint32_t offer)
 {
     uint32_t p = o->limit < o->nbo ? o->limit : o->nbo;
 
-    return o->size < 50 && o->bo - 1 < p ? o->bo - 1 : p;
+    return o->size < 50 && offer - 1 < p ? offer - 1 : p;
 }
+
+static uint32_t init_of(const struct peer_order *o) { return init_by(o, offer_of(o)); }
 
 /* How much room an order's range has. */
 enum room { ANY_ROOM, SOME_ROOM, WIDE_ROOM };
@@ -114,9 +120,43 @@ static void draft_quotes_of_order(struct rng *g, struct peer_order *o, int room)
         o->bo = PEER_MIRROR;
 }
 
-static void draft_limit_and_stop(struct rng *g, struct peer_order *o)
+/* Gives the order a collar by which an offer counts, if it can be had. */
+static void put_offer(struct rng *g, struct peer_order *o, int64_t offer)
 {
-    uint32_t bound = bound_of(o), init;
+    uint32_t p = clamp(offer, 1, PEER_PRICE_MAX - 1), room = PEER_PRICE_MAX - p;
+    int64_t collar;
+
+    switch (below(g, 7)) {
+    case 0: collar = 1; break;
+    case 1: collar = room; break;           /* displayed at 999,999 */
+    case 2: collar = between(g, 1, room); break;
+    case 3: collar = (int64_t)o->bo - p + PICK(g, 0, 0, -1, 1); break;   /* displayed about BO */
+    default: collar = between(g, 1, 10); break;
+    }
+    o->collar = clamp(collar, 1, room);
+    o->displayed = p + o->collar;
+}
+
+/* An offer about the edges of an order's range. */
+static int64_t edge_offer(struct rng *g, const struct peer_order *o)
+{
+    uint32_t bound = bound_of(o);
+
+    switch (below(g, 12)) {
+    case 0: case 1: return (int64_t)bound + PICK(g, -1, 0, 0, 1, 1, 1, 2, 2, 3);
+    case 2: return (int64_t)o->bo + PICK(g, -2, -1, 0, 0, 1, 1);
+    case 3: return (int64_t)o->nbo + PICK(g, -2, -1, 0, 0, 1, 1);
+    case 4: return (int64_t)o->limit + PICK(g, -1, 0, 1, 1, 2);
+    case 5: return (int64_t)o->bb + PICK(g, 0, 1, 1, 2);
+    case 6: case 7: return (int64_t)o->bo + between(g, 1, 30);
+    case 8: return chance(g, 50) ? 1 : PEER_PRICE_MAX - 1;
+    default: return between(g, bound + 1, o->nbo);
+    }
+}
+
+static void draft_limit(struct rng *g, struct peer_order *o)
+{
+    uint32_t bound = bound_of(o);
     int64_t p;
 
     switch (below(g, 8)) {
@@ -130,7 +170,13 @@ static void draft_limit_and_stop(struct rng *g, struct peer_order *o)
     default: p = o->nbo; break;
     }
     o->limit = as_price(p);
-    init = init_of(o);
+}
+
+static void draft_stop(struct rng *g, struct peer_order *o)
+{
+    uint32_t bound = bound_of(o), init = init_of(o);
+    int64_t p;
+
     o->stop = 0;
     if (o->mode == PEER_MATCH)
         return;
@@ -181,7 +227,10 @@ static void draft_times(struct rng *g, struct peer_order *o)
     }
 }
 
-static struct peer_order draft_order(struct rng *g, uint32_t mode, int room)
+/* The per cent of the orders that have a collar. */
+enum collars { FEW_COLLARS = 12, SOME_COLLARS = 40, ALL_COLLARS = 100 };
+
+static struct peer_order draft_order(struct rng *g, uint32_t mode, int room, uint32_t collars)
 {
     struct peer_order o;
 
@@ -196,31 +245,36 @@ static struct peer_order draft_order(struct rng *g, uint32_t mode, int room)
         o.marks |= PEER_CUST_BB;
     if (chance(g, 25))
         o.marks |= PEER_CUST_BO;
-    draft_limit_and_stop(g, &o);
+    draft_limit(g, &o);
+    if (chance(g, collars))
+        put_offer(g, &o, edge_offer(g, &o));
+    draft_stop(g, &o);
     if (room != ANY_ROOM) {
         o.limit = o.nbo - (room == SOME_ROOM ? below(g, 2) : 0);
         if (mode != PEER_MATCH && chance(g, 60)) {
             uint32_t off = room == SOME_ROOM ? below(g, 4) : 0;
 
-            o.stop = mode == PEER_STOP ? init_of(&o) - off : bound_of(&o) + off;
+            o.stop = as_price(mode == PEER_STOP ? (int64_t)init_of(&o) - off : (int64_t)bound_of(&o) + off);
         }
     }
     draft_times(g, &o);
     return o;
 }
 
-static struct peer_order good_order(struct rng *g, uint32_t mode, int room)
+static struct peer_order good_order(struct rng *g, uint32_t mode, int room, uint32_t collars)
 {
     struct peer_order o;
     struct peer_auction a;
 
     do
-        o = draft_order(g, mode, room);
+        o = draft_order(g, mode, room, collars);
     while (peer_accept(&o, &a) != 0);
     return o;
 }
 
-/* Makes one number of 2 to 12 come true of an order, or nearly. */
+static uint32_t small_size(struct rng *g) { return (uint32_t)PICK(g, 1, 10, 48, 49, 49); }
+
+/* Makes one number of 2 to 13 come true of an order, or nearly. */
 static void spoil_order(struct rng *g, struct peer_order *o, int number)
 {
     switch (number) {
@@ -259,7 +313,7 @@ static void spoil_order(struct rng *g, struct peer_order *o, int number)
             o->bb = o->nbb;
         break;
     case 9:
-        o->size = (uint32_t)PICK(g, 1, 10, 48, 49, 49);
+        o->size = small_size(g);
         o->nbo = o->bo = o->nbb + 1;
         o->bb = o->nbb;
         break;
@@ -271,7 +325,7 @@ static void spoil_order(struct rng *g, struct peer_order *o, int number)
             o->stop = as_price((int64_t)init_of(o) + PICK(g, 1, 1, 1, 1, 2, 10));
         break;
     case 12:
-        o->size = (uint32_t)PICK(g, 1, 10, 48, 49, 49);
+        o->size = small_size(g);
         o->nbo = o->nbb + 1;
         o->bb = clamp((int64_t)o->nbb - PICK(g, 0, 1, 1, 10), 0, PEER_PRICE_MAX);
         o->bo = clamp((int64_t)o->nbo + PICK(g, 1, 1, 2, 10), 1, PEER_MIRROR);
@@ -279,24 +333,36 @@ static void spoil_order(struct rng *g, struct peer_order *o, int number)
         if (o->mode != PEER_MATCH)
             o->stop = o->nbo;
         break;
+    case 13:
+        o->size = small_size(g);
+        put_offer(g, o, (int64_t)bound_of(o) - PICK(g, 0, 0, 0, 0, 1, 2, 50));
+        if (o->limit < bound_of(o))
+            o->limit = as_price((int64_t)bound_of(o) + PICK(g, 0, 0, 1, 5));
+        break;
     }
 }
 
-/* An order refused by the number; often others are true of it also. */
-static struct peer_order refused_order(struct rng *g, uint32_t mode, int number)
+/* The order's numbers as they are tested. */
+static const int tested[] = { 1, 2, 3, 4, 5, 6, 7, 8, 9, 10, 13, 11, 12 };
+
+enum { TESTED = sizeof tested / sizeof tested[0] };
+
+/* An order refused by a number, told by its place among those tested; often
+ * others are true of it also. */
+static struct peer_order refused_order(struct rng *g, uint32_t mode, uint32_t place, uint32_t collars)
 {
     struct peer_order o;
     struct peer_auction a;
     int tries = 0;
 
     do {
-        o = draft_order(g, mode, ANY_ROOM);
-        if (number < 12 && chance(g, 50))
-            spoil_order(g, &o, number + 1); /* the very next is true as well */
-        else if (number < 12 && chance(g, 40))
-            spoil_order(g, &o, (int)between(g, (uint32_t)number + 1, 12));
-        spoil_order(g, &o, number);
-    } while (peer_accept(&o, &a) != number && ++tries < 1000);
+        o = draft_order(g, mode, ANY_ROOM, collars);
+        if (place + 1 < TESTED && chance(g, 50))
+            spoil_order(g, &o, tested[place + 1]);  /* the very next is true as well */
+        else if (place + 1 < TESTED && chance(g, 40))
+            spoil_order(g, &o, tested[between(g, place + 1, TESTED - 1)]);
+        spoil_order(g, &o, tested[place]);
+    } while (peer_accept(&o, &a) != tested[place] && ++tries < 1000);
     return o;
 }
 
@@ -318,7 +384,9 @@ static const struct {
     { 36, 4, 0 }, { 36, 4, 86400000 }, { 36, 4, 86400001 },
     { 40, 4, 0 }, { 40, 4, 86400000 }, { 40, 4, 86400001 }, { 40, 4, UINT32_MAX },
     { 44, 4, 99 }, { 44, 4, 100 }, { 44, 4, 1000 }, { 44, 4, 1001 }, { 44, 4, 0 }, { 44, 4, UINT32_MAX },
-    { 48, 1, 1 }, { 49, 1, 128 }, { 55, 1, 1 }, { 56, 1, 255 }, { 62, 1, 1 }, { 63, 1, 1 }, { 63, 1, 128 }
+    { 48, 4, 0 }, { 48, 4, 1 }, { 48, 4, 999999 }, { 48, 4, 1000000 }, { 48, 4, UINT32_MAX }, { 49, 1, 128 },
+    { 52, 4, 0 }, { 52, 4, 1 }, { 52, 4, 999999 }, { 52, 4, 1000000 }, { 52, 4, UINT32_MAX }, { 55, 1, 1 },
+    { 56, 1, 1 }, { 56, 1, 255 }, { 59, 1, 128 }, { 60, 1, 1 }, { 62, 1, 1 }, { 63, 1, 1 }, { 63, 1, 128 }
 };
 
 enum { ORDER_EDGES = sizeof order_edge / sizeof order_edge[0] };
@@ -333,6 +401,199 @@ static void damage_order(unsigned char *p, uint32_t k)
         p[order_edge[k].at] = (unsigned char)order_edge[k].value;
     else
         build_word(p + order_edge[k].at, order_edge[k].value);
+}
+
+/* ------------------------------------------------------------------ */
+/* Orders aimed at the collar, drafted as buys                        */
+
+/* What an order with a collar is to come to. */
+enum aim {
+    AIM_DOWN, AIM_ONE_PRICE, AIM_TWO_PRICES, AIM_UP, AIM_UP_TO_STOP, AIM_AT_BO, AIM_LIMIT, AIM_NO_BO, AIM_LARGE,
+    AIM_LEAST, AIM_GREATEST,                /* as the results go */
+    AIM_13, AIM_13_FAR, AIM_13_AND_11, AIM_13_AND_12, AIM_13_NOT_9, AIM_10, AIM_10_AND_13, AIM_11, AIM_12, AIM_12_GONE,
+    AIM_9, AIM_2,
+    AIM_WORDS,                              /* from here on the words are damaged */
+    AIM_DISPLAYED = AIM_WORDS, AIM_COLLAR, AIM_HIGH, AIM_WIDE, AIM_MILLION, AIM_ZERO, AIM_BELOW, AIM_WRAPS, AIM_BEHIND,
+    AIM_CROSS
+};
+
+/* The number that the aim wants, or -1 for any. */
+static int aim_number(int aim, uint32_t mode)
+{
+    switch (aim) {
+    case AIM_LEAST: case AIM_GREATEST: return -1;
+    case AIM_13: case AIM_13_FAR: case AIM_13_AND_11: case AIM_13_AND_12: case AIM_13_NOT_9: return 13;
+    case AIM_10: case AIM_10_AND_13: return 10;
+    case AIM_11: return mode == PEER_MATCH ? 0 : 11;
+    case AIM_12: return 12;
+    case AIM_12_GONE: return mode == PEER_MATCH ? 0 : 11;
+    case AIM_9: return 9;
+    case AIM_2: return 2;
+    default: return 0;
+    }
+}
+
+/* National quotes a cent apart, and the exchange's own about them. */
+static void thin_quotes(struct rng *g, struct peer_order *o, int wide_bo)
+{
+    o->nbo = o->nbb + 1;
+    o->bb = clamp((int64_t)o->nbb - PICK(g, 1, 1, 2, 10), 0, PEER_PRICE_MAX);
+    o->bo = clamp((int64_t)o->nbo + (wide_bo ? PICK(g, 1, 1, 2, 10) : 0), 1, PEER_MIRROR);
+    o->limit = as_price((int64_t)o->nbo + PICK(g, 0, 0, 1, 5));
+    if (o->mode != PEER_MATCH)
+        o->stop = o->nbo;
+}
+
+/* Gives a drafted order a collar for an aim; it may miss. */
+static void aim_collar(struct rng *g, struct peer_order *o, int aim)
+{
+    int64_t past = PICK(g, 0, 0, 1, 5), off = PICK(g, 1, 1, 1, 2, 10, 500);
+    uint32_t bound, best;
+
+    o->size = (uint32_t)PICK(g, 49, 49, 49, 48, 47, 25, 10, 5, 2, 1);
+    if (aim == AIM_13)
+        o->size = 49;
+    if (aim == AIM_LARGE || ((aim == AIM_LEAST || aim == AIM_GREATEST || aim >= AIM_WORDS) && chance(g, 50)))
+        o->size = (uint32_t)PICK(g, 50, 50, 50, 50, 50, 50, 51, 52, 100, 1000, 100000);
+    if (aim == AIM_UP || aim == AIM_UP_TO_STOP)
+        o->bo = o->nbo;
+    if (aim == AIM_NO_BO)
+        o->bo = PEER_MIRROR;
+    if (aim == AIM_9)
+        spoil_order(g, o, 9);
+    if (aim == AIM_2)
+        o->bo = clamp((int64_t)o->nbo - PICK(g, 1, 1, 2), 1, PEER_MIRROR);
+    if (aim == AIM_12 || aim == AIM_12_GONE || aim == AIM_13_AND_12)
+        thin_quotes(g, o, aim == AIM_12_GONE || (aim == AIM_13_AND_12 && chance(g, 30)));
+    bound = bound_of(o);
+    best = o->bo < o->nbo ? o->bo : o->nbo;
+    if (o->limit < o->nbo && (aim == AIM_UP || aim == AIM_UP_TO_STOP || aim == AIM_11 || chance(g, 60)))
+        o->limit = as_price(o->nbo + past);
+
+    switch (aim) {
+    case AIM_ONE_PRICE: put_offer(g, o, (int64_t)bound + 1); break;
+    case AIM_TWO_PRICES: put_offer(g, o, (int64_t)bound + 2); break;
+    case AIM_UP: case AIM_UP_TO_STOP: case AIM_12: put_offer(g, o, o->nbo + off); break;
+    case AIM_AT_BO: put_offer(g, o, o->bo); break;
+    case AIM_LIMIT: put_offer(g, o, (int64_t)o->limit + PICK(g, 0, 1, 1, 1, 2)); break;
+    case AIM_NO_BO: put_offer(g, o, between(g, bound + 1, o->nbo + 2)); break;
+    case AIM_LARGE: put_offer(g, o, chance(g, 50) ? edge_offer(g, o) : (int64_t)bound + 1 - off); break;
+    case AIM_LEAST: put_offer(g, o, 1); break;
+    case AIM_GREATEST: put_offer(g, o, PEER_PRICE_MAX - 1); break;
+    case AIM_13: case AIM_13_AND_11: put_offer(g, o, bound); break;
+    case AIM_13_FAR: put_offer(g, o, bound - off); break;
+    case AIM_13_AND_12: case AIM_10_AND_13: put_offer(g, o, bound - below(g, 2) * off); break;
+    case AIM_13_NOT_9: put_offer(g, o, (int64_t)o->bb + 1); break;
+    case AIM_10: put_offer(g, o, bound + off); break;
+    case AIM_12_GONE: put_offer(g, o, o->nbo); break;
+    case AIM_9: put_offer(g, o, chance(g, 50) ? edge_offer(g, o) : o->bo + off); break;
+    case AIM_2: put_offer(g, o, o->nbo + past); break;
+    default: put_offer(g, o, between(g, bound + 1, best)); break;
+    }
+
+    if (aim == AIM_10 || aim == AIM_10_AND_13)
+        o->limit = as_price((int64_t)bound - PICK(g, 1, 1, 1, 2, 10));
+    if (aim == AIM_13_FAR || (aim == AIM_13_AND_11 && chance(g, 50)))
+        o->limit = bound;
+    if (aim == AIM_12 || aim == AIM_12_GONE || aim == AIM_13_AND_12)
+        return;
+    draft_stop(g, o);
+    if (o->mode == PEER_MATCH)
+        return;
+    if (aim == AIM_13)                      /* neither 11 nor 12 */
+        o->stop = as_price((int64_t)init_of(o) - below(g, 3));
+    if (aim == AIM_UP_TO_STOP)
+        o->stop = o->nbo;
+    if (aim == AIM_13_AND_11)
+        o->stop = as_price((int64_t)init_of(o) + PICK(g, 1, 1, 1, 2, 10));
+    if (aim == AIM_11)
+        o->stop = between(g, init_of(o) + 1, init_by(o, o->bo));
+}
+
+/* An order with a collar for an aim. */
+static struct peer_order collared_order(struct rng *g, uint32_t mode, int room, int aim)
+{
+    int want = aim_number(aim, mode), got, tries = 0;
+    struct peer_order o;
+    struct peer_auction a;
+
+    do {
+        o = draft_order(g, mode, room, 0);
+        aim_collar(g, &o, aim);
+        got = peer_accept(&o, &a);
+        if ((aim == AIM_DOWN || aim == AIM_11) && init_of(&o) == init_by(&o, o.bo))
+            got = 1;                        /* nothing is moved */
+    } while ((want < 0 ? got == 1 : got != want) && ++tries < 1000);
+    return o;
+}
+
+/* Words at the bounds of a collar's fields and past them. */
+static uint32_t edge_word(struct rng *g)
+{
+    return (uint32_t)PICK(g, 0, 1, 1, 2, 100, 500000, 999998, 999999, 999999, 1000000, 1000000, 1000001, 16777216,
+                          INT32_MAX, -1000000, -2, -1);
+}
+
+static uint32_t word_past(struct rng *g) { return (uint32_t)PICK(g, 1000000, 1000000, 1000001, 16777325, INT32_MAX, -1); }
+
+/* Damages the words of a collar that is in form, in the prices of its side. */
+static void damage_collar(struct rng *g, unsigned char *p, const struct peer_order *o, int aim)
+{
+    uint32_t displayed = o->displayed, collar = o->collar, off = (uint32_t)PICK(g, 1, 1, 2, 100), at;
+    int sell = o->side == PEER_SELL;
+
+    switch (aim) {
+    case AIM_DISPLAYED:
+        if (chance(g, 30))
+            displayed = (uint32_t)PICK(g, 1, 999999);
+        collar = 0;
+        break;
+    case AIM_COLLAR:
+        if (chance(g, 30))
+            collar = (uint32_t)PICK(g, 1, 999999);
+        displayed = 0;
+        break;
+    case AIM_HIGH:
+        displayed = word_past(g);
+        break;
+    case AIM_WIDE:
+        collar = word_past(g);
+        break;
+    case AIM_MILLION:
+        *(chance(g, 50) ? &displayed : &collar) = PEER_MIRROR;
+        break;
+    case AIM_ZERO:                          /* the result of a sell is 1,000,000 */
+        collar = sell ? PEER_MIRROR - displayed : displayed;
+        break;
+    case AIM_BELOW:
+        displayed = between(g, sell ? 1 + off : 1, sell ? PEER_PRICE_MAX : PEER_PRICE_MAX - off);
+        collar = (sell ? PEER_MIRROR - displayed : displayed) + off;
+        break;
+    case AIM_WRAPS:                         /* one word or both out of range, their sum or difference not */
+        if (chance(g, 50)) {
+            displayed = between(g, 2, 900000);
+            collar = sell ? 0u - displayed / 2 : 0u - off;
+        } else if (sell) {
+            displayed = 0u - off;
+            collar = off + between(g, 1, 200);
+        } else {
+            displayed = (uint32_t)PICK(g, 1000200, 16777325, INT32_MAX, -1);
+            collar = displayed - between(g, 1, 200);
+        }
+        break;
+    case AIM_CROSS:                         /* whatever comes of it */
+        displayed = edge_word(g);
+        collar = edge_word(g);
+        break;
+    default:                                /* a byte behind it, and now and then with no collar */
+        if (chance(g, 30))
+            displayed = collar = 0;
+        at = between(g, 56, 63);
+        p[at] = (unsigned char)PICK(g, 1, 128, 255);
+        break;
+    }
+    build_word(p + 48, displayed);
+    build_word(p + 52, collar);
 }
 
 /* ------------------------------------------------------------------ */
@@ -443,7 +704,7 @@ static uint32_t edge_price(struct draft *d)
     const struct peer_auction *a = &d->a;
     uint32_t p;
 
-    switch (below(&d->g, 13)) {
+    switch (below(&d->g, 14)) {
     case 0: case 1: p = a->bb; break;
     case 2: case 3: p = a->nbb; break;
     case 4: case 5: p = a->nbo; break;
@@ -452,6 +713,7 @@ static uint32_t edge_price(struct draft *d)
     case 8: case 9: p = a->init; break;
     case 10: p = a->order.stop ? a->order.stop : a->init; break;
     case 11: p = a->nbb_start; break;
+    case 12: p = offer_of(&a->order); break;
     default: p = chance(&d->g, 50) ? 1 : PEER_PRICE_MAX; break;
     }
     return as_price((int64_t)p + step_off(&d->g));
@@ -1227,6 +1489,38 @@ static void amend_script(struct draft *d)
     }
 }
 
+/* Records about what a collar has moved: the offer that counts, the quoted BO,
+ * and the initiating price that BO would make. */
+static void collar_script(struct draft *d)
+{
+    const struct peer_auction *a = &d->a;
+    const struct peer_order *o = &a->order;
+    uint32_t init = a->init, plain = init_by(o, o->bo), marks = below(&d->g, 4);
+    uint32_t price = plain > init ? between(&d->g, init + 1, plain) : init;     /* in the one range alone */
+    int64_t bo = (int64_t)a->bo + PICK(&d->g, -1, 1, 5);
+    struct peer_event e;
+
+    if (chance(&d->g, 75)) {
+        e = stamp(d, build_gtx(0, 0, PEER_SELL, response_size(d), price, marks & PEER_CUSTOMER));
+        send_quiet(d, &e);
+    }
+    if (chance(&d->g, 25)) {
+        e = any_amend(d);
+        e.field[2] = price;
+        send_quiet(d, &e);
+    }
+    if (chance(&d->g, 40))
+        try_limit(d, PEER_SELL, price, marks);
+    if (chance(&d->g, 25))                  /* another BO, which moves no initiating price */
+        try_quotes(d, a->nbb, (int64_t)a->nbo + PICK(&d->g, 0, 1, 5), a->bb, bo, mark_bb(d));
+    if (chance(&d->g, o->size < 50 ? 25 : 60))  /* a bid about the offer, where it ends nothing */
+        try_limit(d, PEER_BUY, (int64_t)offer_of(o) + PICK(&d->g, 0, 0, 0, -1, 1), PEER_NON_ROUTABLE | marks);
+    if (offer_of(o) < a->bo && chance(&d->g, 10)) { /* and wherever it is no "same" */
+        e = stamp(d, build_limit(0, 0, PEER_BUY, response_size(d), offer_of(o), PEER_NON_ROUTABLE | marks));
+        send_event(d, &e);
+    }
+}
+
 static void script(struct draft *d)
 {
     const struct peer_auction *a = &d->a;
@@ -1795,7 +2089,9 @@ static struct peer_event ending_event(struct draft *d, int ending)
         return e;
     case END_SAME_LIMIT:
         e = any_limit(d, PEER_BUY);
-        if (chance(&d->g, 60))
+        if (a->order.displayed != 0 && chance(&d->g, 50))       /* at the quoted BO */
+            e = stamp(d, build_limit(0, 0, PEER_BUY, e.field[0], as_price(a->bo), PEER_NON_ROUTABLE));
+        else if (chance(&d->g, 60))
             e.field[1] = as_price(e.marks & PEER_NON_ROUTABLE ? a->bo : a->nbo);
         return e;
     case END_SAME_MARKET:
@@ -1818,6 +2114,10 @@ static struct peer_event ending_event(struct draft *d, int ending)
         marks = below(&d->g, 4);
         e = stamp(d, build_limit(0, 0, PEER_BUY, response_size(d), 1, marks));
         e.field[1] = as_price((int64_t)a->init + PICK(&d->g, -1, 0, 0, 0, 0, 1, 1, 2));
+        if (a->order.displayed != 0 && chance(&d->g, 70)) {     /* at the offer that counts */
+            e.marks |= PEER_NON_ROUTABLE;
+            e.field[1] = as_price(offer_of(&a->order));
+        }
         return e;
     default:
         return any_quotes(d);
@@ -1917,6 +2217,8 @@ static void draft_events(struct draft *d, int body, int ending, int wide)
             body_leftovers(d, body);
         break;
     }
+    if (!calm && body != BODY_NONE && d->a.order.displayed != 0 && chance(&d->g, 80))
+        collar_script(d);
     if (!calm && body != BODY_NONE && chance(&d->g, 20))
         script(d);
     if (!calm && body != BODY_NONE && chance(&d->g, 10))
@@ -2039,13 +2341,30 @@ size_t gen_tape(uint64_t seed, uint32_t index, unsigned char *out)
         END_OPP_LIMIT, END_OPP_ABOVE, END_LATE, END_OPP_MARKET, END_OPP_LIMIT, END_OPP_ABOVE, END_LATE, END_CLOSE,
         END_OPP_MARKET, END_OPP_LIMIT, END_OPP_ABOVE, END_SAME_MARKET, END_IMPROVE_BID
     };
+    /* The aims at a collar, with a body and an ending or -1 for any. */
+    static const struct {
+        int aim, body, ending;
+    } collar_turn[] = {
+        { AIM_DOWN, -1, END_LATE }, { AIM_LEAST, -1, -1 }, { AIM_13, -1, -1 }, { AIM_DISPLAYED, -1, -1 },
+        { AIM_DOWN, -1, END_CLOSE }, { AIM_UP, -1, END_SAME_LIMIT }, { AIM_13_AND_11, -1, -1 }, { AIM_COLLAR, -1, -1 },
+        { AIM_DOWN, -1, END_SAME_LIMIT }, { AIM_AT_BO, -1, -1 }, { AIM_10_AND_13, -1, -1 }, { AIM_HIGH, -1, -1 },
+        { AIM_DOWN, -1, END_SAME_MARKET }, { AIM_LARGE, -1, -1 }, { AIM_13_AND_12, -1, -1 }, { AIM_WIDE, -1, -1 },
+        { AIM_DOWN, -1, END_OPP_LIMIT }, { AIM_ONE_PRICE, -1, -1 }, { AIM_9, -1, -1 }, { AIM_ZERO, -1, -1 },
+        { AIM_DOWN, -1, END_OPP_MARKET }, { AIM_NO_BO, -1, -1 }, { AIM_11, -1, -1 }, { AIM_BELOW, -1, -1 },
+        { AIM_DOWN, -1, END_IMPROVE_BID }, { AIM_UP_TO_STOP, -1, END_SAME_LIMIT }, { AIM_12, -1, -1 },
+        { AIM_WRAPS, -1, -1 }, { AIM_DOWN, -1, END_IMPROVE_QUOTES }, { AIM_TWO_PRICES, -1, END_IMPROVE_BID },
+        { AIM_12_GONE, -1, -1 }, { AIM_BEHIND, -1, -1 }, { AIM_DOWN, BODY_NONE, END_OPP_MARKET }, { AIM_LIMIT, -1, -1 },
+        { AIM_13_NOT_9, -1, -1 }, { AIM_CROSS, -1, -1 }, { AIM_LARGE, BODY_BOUND, -1 }, { AIM_2, -1, -1 },
+        { AIM_13_FAR, -1, -1 }, { AIM_MILLION, -1, -1 }, { AIM_UP, BODY_NONE, END_OPP_MARKET }, { AIM_GREATEST, -1, -1 },
+        { AIM_10, -1, -1 }, { AIM_UP, BODY_LEVELS, -1 }
+    };
     struct draft d;
     struct rng *g = &d.g;
     unsigned char order_bytes[PEER_ORDER_BYTES];
     struct peer_order o, m;
     uint32_t kind = index % 12, turn = index / 12;
     uint32_t mode, s, i;
-    int number = 0, room, body, ending;
+    int number = 0, aim = -1, room, body, ending;
     size_t n;
 
     memset(&d, 0, sizeof d);
@@ -2056,13 +2375,14 @@ size_t gen_tape(uint64_t seed, uint32_t index, unsigned char *out)
     /* Every twelfth tape is refused for its order; numbers, sides and modes
      * take turns, so that each comes up. So do bodies, sides and modes of the
      * twelfth that is aimed at the leftovers of a share, and of the one aimed at
-     * the contracts on offer, where endings take turns too. The rest are drawn. */
+     * the contracts on offer, where endings take turns too; and sides, modes and
+     * aims of the one aimed at the collar. The rest are drawn. */
     d.sell = (int)below(g, 2);
     mode = between(g, 1, 3);
     if (kind == 5) {
-        number = 1 + (int)(turn % 12);
-        d.sell = (int)(turn / 12 % 2);
-        mode = 1 + turn / 24 % 3;
+        number = tested[turn % TESTED];
+        d.sell = (int)(turn / TESTED % 2);
+        mode = 1 + turn / (2 * TESTED) % 3;
         if (number == 11 && mode == PEER_MATCH)
             mode = PEER_STOP;
     }
@@ -2074,7 +2394,7 @@ size_t gen_tape(uint64_t seed, uint32_t index, unsigned char *out)
         body = BODY_NONE;                   /* the midpoint */
     if (kind == 2 && chance(g, 30))
         body = BODY_DAMAGED;
-    if (kind == 3 || kind == 11) {
+    if (kind == 1 || kind == 3 || kind == 11) {
         d.sell = (int)(turn % 2);
         mode = 1 + turn / 2 % 3;
     }
@@ -2087,6 +2407,15 @@ size_t gen_tape(uint64_t seed, uint32_t index, unsigned char *out)
         body = BODY_CAPPED + (int)(turn / 6 % OFFER_BODIES);
         ending = offer_ending[turn / 18 % (sizeof offer_ending / sizeof offer_ending[0])];
     }
+    if (kind == 1) {
+        uint32_t k = turn / 6 % (sizeof collar_turn / sizeof collar_turn[0]);
+
+        aim = collar_turn[k].aim;
+        if (collar_turn[k].body >= 0)
+            body = collar_turn[k].body;
+        if (collar_turn[k].ending >= 0)
+            ending = collar_turn[k].ending;
+    }
     if (index % 500 == 498)
         body = BODY_LONG;
     room = ANY_ROOM;
@@ -2094,10 +2423,15 @@ size_t gen_tape(uint64_t seed, uint32_t index, unsigned char *out)
         room = WIDE_ROOM;
         if (chance(g, 40))
             ending = END_OPP_MARKET;        /* with it come the most fills there can be */
-    } else if (body >= BODY_EQUAL || (body == BODY_LEVELS && chance(g, 60)))
+    } else if (body >= BODY_EQUAL || (body == BODY_LEVELS && chance(g, 60)) || (aim == AIM_DOWN && chance(g, 70)))
         room = SOME_ROOM;
 
-    o = number > 1 ? refused_order(g, mode, number) : good_order(g, mode, room);
+    if (aim >= 0)
+        o = collared_order(g, mode, room, aim);
+    else if (number > 1)
+        o = refused_order(g, mode, turn % TESTED, turn / (6 * TESTED) % 2 == 0 ? ALL_COLLARS : FEW_COLLARS);
+    else
+        o = good_order(g, mode, room, number == 1 || kind == 7 ? SOME_COLLARS : FEW_COLLARS);
     if (body == BODY_GREATEST && chance(g, 70))
         o.size = PEER_SIZE_MAX;             /* then a GTX can be of that size too */
     if (body == BODY_BIG)                   /* then R x s passes 32 bits */
@@ -2118,11 +2452,13 @@ size_t gen_tape(uint64_t seed, uint32_t index, unsigned char *out)
         }
     } else if (kind == 7 && chance(g, 60)) {
         damage_order(order_bytes, turn);    /* whatever comes of it */
+    } else if (aim >= AIM_WORDS) {
+        damage_collar(g, order_bytes, &m, aim);
     }
 
     /* The guide starts from the order as it was before any damage. */
     if (peer_accept(&m, &d.a) != 0) {
-        o = good_order(g, mode, ANY_ROOM);
+        o = good_order(g, mode, ANY_ROOM, FEW_COLLARS);
         m = d.sell ? build_turn_order(o) : o;
         peer_accept(&m, &d.a);
         body = BODY_MIX;

@@ -2,8 +2,8 @@
  *
  * The parts follow the headings of document 01; the amend is document 02's
  * W-201, the contracts on offer are its W-202, the leftovers of a pro rata its
- * W-203. All is worked as a buy; a sell is mirrored on the way in and its
- * fills are mirrored back. */
+ * W-203, the collar its W-205. All is worked as a buy; a sell is mirrored on
+ * the way in and its fills are mirrored back. */
 #include "peer.h"
 
 #include <stdlib.h>
@@ -38,8 +38,10 @@ void peer_read_order(const unsigned char *p, struct peer_order *o)
     o->open = word(p + 36);
     o->close = word(p + 40);
     o->interval = word(p + 44);
+    o->displayed = word(p + 48);
+    o->collar = word(p + 52);
     o->spare = p[3];
-    for (i = 48; i < 64; i++)
+    for (i = 56; i < 64; i++)
         o->spare |= p[i];
 }
 
@@ -86,6 +88,17 @@ static int are_quotes(uint32_t nbb, uint32_t nbo, uint32_t bb, uint32_t bo)
     return is_price(nbb) && is_price(nbo) && bb <= PEER_PRICE_MAX && bo >= 1 && bo <= PEER_MIRROR;
 }
 
+/* The collar's two fields: both zero, or both prices, and the result a price
+ * too. As both are below 2^20 by then, the sum doesn't wrap. */
+static int is_collar(uint32_t side, uint32_t displayed, uint32_t collar)
+{
+    if (displayed == 0 && collar == 0)
+        return 1;
+    if (!is_price(displayed) || !is_price(collar))
+        return 0;
+    return side == PEER_BUY ? displayed > collar : is_price(displayed + collar);
+}
+
 int peer_order_form(const struct peer_order *o)
 {
     if (!is_side(o->side))
@@ -107,6 +120,8 @@ int peer_order_form(const struct peer_order *o)
     if (o->open >= o->close)
         return 0;
     if (o->interval < 100 || o->interval > 1000)
+        return 0;
+    if (!is_collar(o->side, o->displayed, o->collar))
         return 0;
     return o->spare == 0;
 }
@@ -191,6 +206,8 @@ static struct peer_order mirror_order(struct peer_order o)
         o.stop = mirror(o.stop);
     mirror_pair(&o.nbb, &o.nbo);
     mirror_pair(&o.bb, &o.bo);
+    if (o.displayed != 0)                   /* the collar is a difference, and stays */
+        o.displayed = mirror(o.displayed);
     return o;
 }
 
@@ -222,11 +239,19 @@ static struct peer_event mirror_event(struct peer_event e)
 
 static int is_small(const struct peer_order *o) { return o->size < 50; }
 
+/* What counts as BO in the initiating price, and nowhere else: the displayed
+ * price of a collared order less its collar, be it below the quoted BO or above. */
+static uint32_t offer_counted(const struct peer_order *o)
+{
+    return o->displayed != 0 ? o->displayed - o->collar : o->bo;
+}
+
+/* An offer of 1 makes it 0, which is below any bound. */
 static uint32_t initiating_price(const struct peer_order *o)
 {
     uint32_t p = lower(o->limit, o->nbo);
 
-    return is_small(o) ? lower(p, o->bo - 1) : p;
+    return is_small(o) ? lower(p, offer_counted(o) - 1) : p;
 }
 
 /* The bound that a BB and its Customer mark make. */
@@ -293,6 +318,8 @@ int peer_accept(const struct peer_order *raw, struct peer_auction *out)
         return 9;
     if (o.limit < bound)
         return 10;
+    if (a.init < bound)                     /* only a collar can bring it there */
+        return 13;
     if (o.mode != PEER_MATCH && o.stop > a.init)
         return 11;
     guaranteed = o.mode == PEER_MATCH ? a.init : higher(o.stop, bound);

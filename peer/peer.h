@@ -50,6 +50,7 @@ struct peer_order {
     uint32_t size, limit, stop;         /* stop: or the auto-match limit */
     uint32_t nbb, nbo, bb, bo;
     uint32_t time, open, close, interval;
+    uint32_t displayed, collar;         /* of a collared order on the other side; both 0: none */
     uint32_t spare;                     /* all bytes that must be zero, or-ed */
 };
 
@@ -113,7 +114,7 @@ int peer_read_tape(const unsigned char *tape, size_t n, size_t *at, size_t *even
 int peer_order_form(const struct peer_order *o);
 int peer_event_form(const struct peer_event *e);
 
-/* Starts an auction: 0, or the order's number 1 to 12. */
+/* Starts an auction: 0, or the order's number 1 to 13. */
 int peer_accept(const struct peer_order *raw, struct peer_auction *out);
 
 /* The lower bound that holds now. */

@@ -30,22 +30,22 @@ module _ (b : Order) (P : ℕ → Type 0) where
       → (firstBound b ≤ initiatingOf b → P 12) → (firstBound b ≤ initiatingOf b → b .stop ≤ initiatingOf b → P 0) → P (rangeRefusal b)
   unfolding rangeRefusal
   range-by p10 p13 p11 p12 p0 =
-      by P (ltb (b .limit) (firstBound b)) _ _ (λ h. p10 (ltb-true _ _ h)) (λ h10.
-      by P (ltb (initiatingOf b) (firstBound b)) _ _ (λ h. p13 (ltb-false _ _ h10) (ltb-true _ _ h)) (λ h13.
-      by P (ltb (initiatingOf b) (b .stop)) _ _ (λ _. p11 (ltb-false _ _ h13)) (λ h11.
+      by P _ _ _ (λ h. p10 (ltb-true _ _ h)) (λ h10.
+      by P _ _ _ (λ h. p13 (ltb-false _ _ h10) (ltb-true _ _ h)) (λ h13.
+      by P _ _ _ (λ _. p11 (ltb-false _ _ h13)) (λ h11.
       by P (ltb (b .size) 50 && eqb (b .nbo) (b .nbb + 1) && not (eqb (b .nbo) (guaranteedOf b + 1))) _ _ (λ _. p12 (ltb-false _ _ h13)) (λ _. p0 (ltb-false _ _ h13) (ltb-false _ _ h11)))))
 
   pub refusal-by : ((n : ℕ) → 2 ≤ n → n ≤ 9 → P n) → (Early b → P (rangeRefusal b)) → P (buyRefusal b)
   unfolding buyRefusal
   refusal-by p q =
-      by P (ltb (b .nbb) (b .bb) || ltb (b .bo) (b .nbo)) _ _ (λ _. p 2 (omega arith) (omega arith)) (λ h2.
-      by P (eqb (b .size) 0) _ _ (λ _. p 3 (omega arith) (omega arith)) (λ h3.
+      by P _ _ _ (λ _. p 2 (omega arith) (omega arith)) (λ h2.
+      by P _ _ _ (λ _. p 3 (omega arith) (omega arith)) (λ h3.
       by P (ltb (b .time) (b .opens)) _ _ (λ _. p 4 (omega arith) (omega arith)) (λ _.
       by P (leb (b .closes) (b .time + 1000)) _ _ (λ _. p 5 (omega arith) (omega arith)) (λ _.
       by P (bitAt (b .marks) 0) _ _ (λ _. p 6 (omega arith) (omega arith)) (λ _.
       by P (bitAt (b .marks) 1) _ _ (λ _. p 7 (omega arith) (omega arith)) (λ _.
-      by P (leb (b .nbo) (b .nbb)) _ _ (λ _. p 8 (omega arith) (omega arith)) (λ h8.
-      by P (ltb (b .size) 50 && eqb (b .bo) (b .bb + 1)) _ _ (λ _. p 9 (omega arith) (omega arith)) (λ h9.
+      by P _ _ _ (λ _. p 8 (omega arith) (omega arith)) (λ h8.
+      by P _ _ _ (λ _. p 9 (omega arith) (omega arith)) (λ h9.
       q (record {
         bid = ltb-false _ _ (or-left _ (ltb (b .bo) (b .nbo)) h2);
         offer = ltb-false _ _ (or-right (ltb (b .nbb) (b .bb)) _ h2);

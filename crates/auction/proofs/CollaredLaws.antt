@@ -1,28 +1,41 @@
 -- What a collared order moves, and what it leaves. Assumes nothing.
 use mathlib.Core.Path.{_≡_, refl, sym, ap, _∙_}
 use mathlib.Core.Bool.{Bool, true, false, cond, not, _&&_, _||_}
-use Prim.Native.Nat.{ℕ, _+_, _-_, _≤_, min, max}
+use mathlib.Core.Logic.{⊎-elim}
+use Prim.Native.Nat.{ℕ, _+_, _-_, _≤_, _<_, min, max}
 use native.Mathlib.Omega.{arith}
+use lib.ListN.{take}
 use lib.Dec.{leb, ltb, eqb}
 use borrow.Author.Tests.{lt-ltb, le-ltb, le-leb, lt-leb, eq-eqb, ne-eqb, ltb-false, eqb-false}
 use Rattle.words.specs.rules.Bits.{bitAt}
+use Rattle.base.proofs.Numbers.{le-or-lt}
 use Rattle.base.proofs.Bools.{and-both, and-no-left, and-no-right, by, no}
 use Rattle.tape.specs.declared.order.Order.{Order}
-use Rattle.tape.specs.rules.Form.{orderFormed}
+use Rattle.tape.specs.rules.Form.{allFrom, collarFormed, orderTests, orderFormed}
 use Rattle.mirror.specs.rules.Mirror.{mirroredUnless, mirroredOrder, buyOrder}
-use Rattle.auction.specs.rules.Accept.{offerOf, initiatingOf, tickOf, boundOf, bidMark, firstBound, guaranteedOf, rangeRefusal, buyRefusal, orderRefusal, termsOf, quotesOf, openedBy, acceptOf}
+use Rattle.auction.specs.rules.Accept.{countedOffer, initiatingOf, tickOf, boundOf, bidMark, firstBound, guaranteedOf, rangeRefusal, buyRefusal, orderRefusal, termsOf, quotesOf, openedBy, acceptOf}
 use Rattle.auction.specs.promises.Collared.{recollared, withInitiating, reachesRange, quotedInitiating, quotedRefusal, Collared}
 use Rattle.auction.specs.declared.Entry.the-variants.{Accepted}
-use Rattle.auction.proofs.Accepted.{Early, range-by, refusal-by, formed-refusal, opened}
+use Rattle.auction.proofs.Accepted.{Early, range-by, refusal-by, formed-refusal, refusal-of, opened}
+
+-- ---- the form
+
+and-true : (a b : Bool) → (a && b) ≡ (a && true && b)
+and-true true b = refl
+and-true false b = refl
+
+form : (o : Order) (d c : ℕ) → orderFormed (recollared d c o) ≡ (orderFormed (recollared 0 0 o) && collarFormed (o .side) d c)
+unfolding orderFormed orderTests
+form o d c = and-true (allFrom true (take 14 (orderTests o))) (collarFormed (o .side) d c)
 
 -- ---- the initiating price
 
 none-price : (b : Order) → b .displayed ≡ 0 → initiatingOf b ≡ quotedInitiating b
-unfolding initiatingOf offerOf
+unfolding initiatingOf countedOffer
 none-price b z = simp (eq-eqb _ _ z)
 
 some-price : (b : Order) → (b .displayed ≡ 0 → ⊥) → initiatingOf b ≡ cond (ltb (b .size) 50) (min (min (b .limit) (b .nbo)) (b .displayed - b .collar - 1)) (min (b .limit) (b .nbo))
-unfolding initiatingOf offerOf
+unfolding initiatingOf countedOffer
 some-price b n = simp (ne-eqb _ _ n)
 
 -- by the quoted offer, the bound that the limit reaches does not pass it
@@ -128,7 +141,7 @@ by-price o d c f g e =
     let x = displayedFor s d in
     let e′ : initiatingOf (recollared x c (buyOrder o)) ≡ initiatingOf (buyOrder o) = ap initiatingOf (sym (buy-is o d c)) ∙ e in
     let r : orderRefusal (recollared d c o) ≡ orderRefusal o =
-        formed-refusal (recollared d c o) g ∙ ap buyRefusal (buy-is o d c) ∙ same-refusal (buyOrder o) x c e′ ∙ sym (formed-refusal o f) in
+    formed-refusal (recollared d c o) g ∙ ap buyRefusal (buy-is o d c) ∙ same-refusal (buyOrder o) x c e′ ∙ sym (formed-refusal o f) in
     let a : openedBy s (buyOrder (recollared d c o)) ≡ openedBy s (buyOrder o) = ap (openedBy s) (buy-is o d c) ∙ same-opened s (buyOrder o) x c e′ in
     simp (r, a)
 
@@ -199,9 +212,29 @@ none-number o z =
     (λ _ r. no (sym r))
     (λ _ r. let e = early (buyOrder o) r in e .1 ∙ none-range (buyOrder o) (buy-none o z) (e .0))
 
+-- a size of 50 and more, or both fields zero, leaves no 13
+no-13 : (b : Order) → (initiatingOf b ≡ quotedInitiating b) → buyRefusal b ≡ 13 → ⊥
+no-13 b e =
+    refusal-by b (λ k. k ≡ 13 → ⊥) (λ n l m z. omega arith)
+    (λ p. range-by b (λ k. k ≡ 13 → ⊥) (λ _ z. omega arith) (λ l h _. omega (arith, e, quoted-fits b p l)) (λ _ z. omega arith) (λ _ z. omega arith) (λ _ _ z. omega arith))
+
+large-quoted : (b : Order) → 50 ≤ b .size → initiatingOf b ≡ quotedInitiating b
+unfolding initiatingOf
+large-quoted b h = simp (le-ltb _ _ h)
+
+thirteen-only : (o : Order) → orderRefusal o ≡ 13 → (o .size < 50) × (o .displayed ≡ 0 → ⊥)
+thirteen-only o z =
+    let r : buyRefusal (buyOrder o) ≡ 13 = refusal-of o 13 (λ q. omega (arith, q)) z .1 in
+    let large : 50 ≤ o .size → ⊥ = λ h. no-13 (buyOrder o) (large-quoted (buyOrder o) (omega (arith, buy-size o))) r in
+    (small (o .size) large, λ q. no-13 (buyOrder o) (none-price (buyOrder o) (buy-none o q)) r)
+  where
+    small : (n : ℕ) → (50 ≤ n → ⊥) → n < 50
+    small n h = ⊎-elim (λ l. absurd (h l)) (λ l. l) (le-or-lt 50 n)
+
 pub collared : Collared
 collared =
     record {
+      form = form;
       none-price = none-price;
       none-number = none-number;
       some-price = some-price;
@@ -211,5 +244,6 @@ collared =
       by-price = by-price;
       from-50 = from-50;
       thirteen = thirteen;
+      thirteen-only = thirteen-only;
       some-range = λ o h. opened o h .passes .ranged;
     }

@@ -2,7 +2,7 @@
 ghost use mathlib.Core.Path.{_≡_};
 ghost use Prim.Native.Nat.{_+_, _≤_};
 ghost use lib.Dec.{eqb};
-ghost use Rattle.auction.specs.rules.Accept.{offerOf, initiatingOf, tickOf, boundOf, firstBound, guaranteedOf, rangeRefusal, buyRefusal, orderRefusal, termsOf, quotesOf, openedBy, noAuction, acceptOf};
+ghost use Rattle.auction.specs.rules.Accept.{countedOffer, initiatingOf, tickOf, boundOf, firstBound, guaranteedOf, rangeRefusal, buyRefusal, orderRefusal, termsOf, quotesOf, openedBy, noAuction, acceptOf};
 use crate::Auction;
 use crate::Ending;
 use crate::Entry;
@@ -19,9 +19,9 @@ use mirror::buy_order;
 use tape::Order;
 use words::bits::mark;
 
-// What counts as BO in the initiating price: BO, or the price of a collared order on the other side.
-fn offer(o: Order) -> u32
-    ensures { λ r. ⌜ r ≡ offerOf o ⌝ }
+// What counts as BO in the initiating price: BO, or the displayed price minus the collar of a collared order on the other side.
+fn counted_offer(o: Order) -> u32
+    ensures { λ r. ⌜ r ≡ countedOffer o ⌝ }
 {
     if o.displayed == 0 {
         return o.bo;
@@ -33,7 +33,7 @@ fn initiating(o: Order) -> u32
     ensures { λ r. ⌜ r ≡ initiatingOf o ⌝ }
 {
     if o.size < 50 {
-        return lower(lower(o.limit, o.nbo), less(offer(o), 1));
+        return lower(lower(o.limit, o.nbo), less(counted_offer(o), 1));
     }
     lower(o.limit, o.nbo)
 }

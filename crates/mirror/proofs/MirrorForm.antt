@@ -9,7 +9,7 @@ use borrow.Author.Tests.{le-leb, lt-ltb, eq-eqb, ne-eqb, eqb-true, eqb-false}
 use Rattle.words.specs.rules.Bits.{bitAt}
 use Rattle.tape.specs.declared.order.Order.{Order}
 use Rattle.tape.specs.declared.event.Event.{Event}
-use Rattle.tape.specs.rules.Form.{within, inside, sides, prices, collaredPrice, collarFormed, orderTests, orderFormed, shapeOf, shapeTests, eventFormed}
+use Rattle.tape.specs.rules.Form.{within, inside, sides, prices, collarResult, collarFormed, orderTests, orderFormed, shapeOf, shapeTests, eventFormed}
 use Rattle.tape.proofs.FormLaws.{each, within-ge, within-le, CollarForm, without, with, OrderBounds, order-bounds, row-bounds}
 use Rattle.base.specs.Price.{mirrored}
 use Rattle.base.proofs.Numbers.{mirror-twice}
@@ -90,7 +90,7 @@ unfolding mirrored
 price-in p h = simp (le-leb 1 (1000000 - p) (omega (arith, within-le p 1 999999 h)), le-leb (1000000 - p) 999999 (omega (arith, within-ge p 1 999999 h)))
 
 -- what a collared order counts at is mirrored with its displayed price, the collar being a difference
-collared-mirrored : (s d c : ℕ) → 1 ≤ s → s ≤ 2 → d ≤ 1000000 → (s ≡ 1 → c ≤ d) → collaredPrice (mirroredSide s) (mirrored d) c ≡ mirrored (collaredPrice s d c)
+collared-mirrored : (s d c : ℕ) → 1 ≤ s → s ≤ 2 → d ≤ 1000000 → (s ≡ 1 → c ≤ d) → collarResult (mirroredSide s) (mirrored d) c ≡ mirrored (collarResult s d c)
 unfolding mirrored
 collared-mirrored s d c a b h k = go (eqb s 2) refl
   where
@@ -103,14 +103,14 @@ collared-mirrored s d c a b h k = go (eqb s 2) refl
         simp e (omega arith)
 
 -- a collar that is not above the displayed price of a buy
-collar-below : (s d c : ℕ) → within (collaredPrice s d c) 1 999999 ≡ true → s ≡ 1 → c ≤ d
+collar-below : (s d c : ℕ) → within (collarResult s d c) 1 999999 ≡ true → s ≡ 1 → c ≤ d
 collar-below s d c h z = let k : within (d - c) 1 999999 ≡ true = rw z at h in omega (arith, within-ge (d - c) 1 999999 k)
 
 collar-formed : (s d c : ℕ) → 1 ≤ s → s ≤ 2 → CollarForm s d c → collarFormed (mirroredSide s) (mirroredUnless (eqb d 0) d) c ≡ true
 collar-formed s d c a b (without z k) = simp (eq-eqb d 0 z, eq-eqb c 0 k)
 collar-formed s d c a b (with hd hc hp) =
-    let m : within (collaredPrice (mirroredSide s) (mirrored d) c) 1 999999 ≡ true =
-        ap (λ (p : ℕ). within p 1 999999) (collared-mirrored s d c a b (omega (arith, within-le d 1 999999 hd)) (collar-below s d c hp)) ∙ price-in (collaredPrice s d c) hp in
+    let m : within (collarResult (mirroredSide s) (mirrored d) c) 1 999999 ≡ true =
+    ap (λ (p : ℕ). within p 1 999999) (collared-mirrored s d c a b (omega (arith, within-le d 1 999999 hd)) (collar-below s d c hp)) ∙ price-in (collarResult s d c) hp in
     simp (ne-eqb d 0 (λ q. omega (arith, q, within-ge d 1 999999 hd)), price-in d hd, hc, m, or-true (eqb (mirrored d) 0 && eqb c 0))
   where
     or-true : (t : Bool) → (t || true) ≡ true
@@ -128,11 +128,11 @@ order-form o f =
     (collar-formed (o .side) (o .displayed) (o .collar) (b .some-side) (b .side) (b .collar-form))
 
 order-collared : (o : Order) → orderFormed o ≡ true → (o .displayed ≡ 0 → ⊥)
-    → collaredPrice (mirroredOrder o .side) (mirroredOrder o .displayed) (mirroredOrder o .collar) ≡ mirrored (collaredPrice (o .side) (o .displayed) (o .collar))
+    → collarResult (mirroredOrder o .side) (mirroredOrder o .displayed) (mirroredOrder o .collar) ≡ mirrored (collarResult (o .side) (o .displayed) (o .collar))
 unfolding mirroredOrder
 order-collared o f n = go (order-bounds o f .collar-form)
   where
-    go : CollarForm (o .side) (o .displayed) (o .collar) → collaredPrice (mirroredSide (o .side)) (mirroredUnless (eqb (o .displayed) 0) (o .displayed)) (o .collar) ≡ mirrored (collaredPrice (o .side) (o .displayed) (o .collar))
+    go : CollarForm (o .side) (o .displayed) (o .collar) → collarResult (mirroredSide (o .side)) (mirroredUnless (eqb (o .displayed) 0) (o .displayed)) (o .collar) ≡ mirrored (collarResult (o .side) (o .displayed) (o .collar))
     go (without z k) = absurd (n z)
     go (with hd hc hp) =
         let b = order-bounds o f in

@@ -1,6 +1,7 @@
 -- The range at the opening, by the order's own fields. Assumes nothing.
 use mathlib.Core.Path.{_≡_, refl, sym, subst, ap, _∙_}
 use mathlib.Core.Bool.{Bool, true, false, cond, _&&_, _||_}
+use mathlib.Core.Logic.{_≢_}
 use Prim.Native.Nat.{ℕ, _+_, _-_, _≤_, _<_, min, max}
 use native.Mathlib.Omega.{arith}
 use lib.Dec.{leb, ltb, eqb}
@@ -14,14 +15,14 @@ use Rattle.mirror.proofs.MirrorForm.{none-stays, records-mirror}
 use Rattle.auction.specs.declared.Auction.{Auction}
 use Rattle.auction.specs.declared.Range.{Range}
 use Rattle.auction.specs.declared.Entry.the-variants.{Accepted, Refused}
-use Rattle.auction.specs.rules.Accept.{offerOf, initiatingOf, tickOf, boundOf, firstBound, orderRefusal, bidMark, offerMark, termsOf, quotesOf, openedBy, acceptOf}
+use Rattle.auction.specs.rules.Accept.{countedOffer, initiatingOf, tickOf, boundOf, firstBound, orderRefusal, bidMark, offerMark, termsOf, quotesOf, openedBy, acceptOf}
 use Rattle.auction.specs.rules.Range.{word, boundNow, rangeOf}
 use Rattle.trade.specs.rules.Write.{reportedPrice}
 use Rattle.base.proofs.Bools.{and-left, and-right, no}
 use Rattle.auction.specs.promises.Collared.{reachesRange}
-use Rattle.auction.proofs.Accepted.{refusal-of, opened, refusal-is, limit-fits}
+use Rattle.auction.proofs.Accepted.{range-by, refusal-by, refusal-of, opened, refusal-is, limit-fits}
 use Rattle.auction.proofs.CollaredLaws.{collared}
-use Rattle.promise.specs.rules.Sides.{isSell, bidOf, buyRange, sellRange, openingRange, initiatingPrice}
+use Rattle.promise.specs.rules.Sides.{isSell, countedBid, buyRange, sellRange, openingRange, initiatingPrice}
 
 abbrev from : ℕ → ℕ → Range
 from low high = record { low = low; high = high }
@@ -56,18 +57,18 @@ module _ (o : Order) (k : OrderBounds o) where
       low false = omega (arith, k .nbb, k .bb)
 
   -- what counts as BO for the buy that a sell mirrors is the mirror of what counts as BB for the sell
-  offer-is : offerOf (mirroredOrder o) ≡ 1000000 - bidOf o
-  unfolding offerOf mirroredOrder mirrored
+  offer-is : countedOffer (mirroredOrder o) ≡ 1000000 - countedBid o
+  unfolding countedOffer mirroredOrder mirrored
   offer-is = ap (λ (b : Bool). cond b (1000000 - o .bb) (mirroredUnless (eqb (o .displayed) 0) (o .displayed) - o .collar)) (none-stays (o .displayed) (k .displayed)) ∙ go (eqb (o .displayed) 0)
     where
       go : (b : Bool) → cond b (1000000 - o .bb) (mirroredUnless b (o .displayed) - o .collar) ≡ 1000000 - cond b (o .bb) (o .displayed + o .collar)
       go true = refl
       go false = omega arith
 
-  bid-fits : eqb (o .side) 2 ≡ true → bidOf o ≤ 999999
+  bid-fits : eqb (o .side) 2 ≡ true → countedBid o ≤ 999999
   bid-fits s = go (k .collar-form)
     where
-      go : CollarForm (o .side) (o .displayed) (o .collar) → bidOf o ≤ 999999
+      go : CollarForm (o .side) (o .displayed) (o .collar) → countedBid o ≤ 999999
       go (without z c) = simp (eq-eqb _ _ z) (k .bb)
       go (with hd hc hp) =
           let n : o .displayed ≡ 0 → ⊥ = λ z. omega (arith, z, within-ge (o .displayed) 1 999999 hd) in
@@ -88,12 +89,12 @@ module _ (o : Order) (k : OrderBounds o) where
       again : (x y : ℕ) → max x y ≡ max (max x y) x
       again x y = omega arith
 
-      low : (b : Bool) → 1000000 - cond b (min (min (1000000 - o .limit) (1000000 - o .nbb)) (offerOf (mirroredOrder o) - 1)) (min (1000000 - o .limit) (1000000 - o .nbb)) ≡ max (max (o .limit) (o .nbb)) (cond b (bidOf o + 1) (o .limit))
+      low : (b : Bool) → 1000000 - cond b (min (min (1000000 - o .limit) (1000000 - o .nbb)) (countedOffer (mirroredOrder o) - 1)) (min (1000000 - o .limit) (1000000 - o .nbb)) ≡ max (max (o .limit) (o .nbb)) (cond b (countedBid o + 1) (o .limit))
       low true =
-          mirror-lower (min (1000000 - o .limit) (1000000 - o .nbb)) (offerOf (mirroredOrder o) - 1)
-          ∙ ap (λ (x : ℕ). max x (1000000 - (offerOf (mirroredOrder o) - 1))) (back-lower (o .limit) (o .nbb) (k .limit) (k .nbb))
+          mirror-lower (min (1000000 - o .limit) (1000000 - o .nbb)) (countedOffer (mirroredOrder o) - 1)
+          ∙ ap (λ (x : ℕ). max x (1000000 - (countedOffer (mirroredOrder o) - 1))) (back-lower (o .limit) (o .nbb) (k .limit) (k .nbb))
           ∙ ap (λ (x : ℕ). max (max (o .limit) (o .nbb)) (1000000 - (x - 1))) offer-is
-          ∙ ap (max (max (o .limit) (o .nbb))) (above (bidOf o) (bid-fits s))
+          ∙ ap (max (max (o .limit) (o .nbb))) (above (countedBid o) (bid-fits s))
       low false = back-lower (o .limit) (o .nbb) (k .limit) (k .nbb) ∙ again (o .limit) (o .nbb)
 
       below : (x : ℕ) → x ≤ 1000000 → 1000000 - (1000000 - x + 1) ≡ x - 1
@@ -135,7 +136,7 @@ some-range o h =
     let m = opened o h in
     subst (λ (r : Range). r .low ≤ r .high) (range-formed o (m .formed)) (range-some (buyOrder o) (eqb (o .side) 2) (m .passes .ranged))
 
-pub no-range : (o : Order) → acceptOf o .answer ≡ Refused 13 → openingRange o .high < openingRange o .low
+pub no-range : (o : Order) → acceptOf o .answer ≡ Refused 13 → (openingRange o .high < openingRange o .low) × (o .size < 50) × (o .displayed ≢ 0)
 no-range o h =
     let b = buyOrder o in
     let n : orderRefusal o ≡ 13 = refusal-is o 13 h in
@@ -143,7 +144,18 @@ no-range o h =
     let e : (ltb (initiatingOf b) (firstBound b) && leb (firstBound b) (b .limit)) ≡ true = and-right (reachesRange o) _ (sym (collared .thirteen o) ∙ eq-eqb _ _ n) in
     let low : initiatingOf b < firstBound b = ltb-true _ _ (and-left (ltb (initiatingOf b) (firstBound b)) (leb (firstBound b) (b .limit)) e) in
     let high : firstBound b ≤ b .limit = leb-true _ _ (and-right (ltb (initiatingOf b) (firstBound b)) (leb (firstBound b) (b .limit)) e) in
-    subst (λ (r : Range). r .high < r .low) (range-formed o f) (range-none b (eqb (o .side) 2) low (omega (arith, high, limit-fits o f)))
+    let k = collared .thirteen-only o n in
+    (subst (λ (r : Range). r .high < r .low) (range-formed o f) (range-none b (eqb (o .side) 2) low (omega (arith, high, limit-fits o f))), k .0, k .1)
+
+-- a number above 10, where the range would be empty
+pub only-13 : (o : Order) (n : ℕ) → acceptOf o .answer ≡ Refused n → 10 < n → openingRange o .high < openingRange o .low → n ≡ 13
+only-13 o n h l e =
+    let m = refusal-of o n (λ z. omega (arith, z)) (refusal-is o n h) in
+    let b = buyOrder o in
+    let P : ℕ → Type 0 = λ k. k ≡ n → n ≡ 13 in
+    let never : firstBound b ≤ initiatingOf b → ⊥ = λ r. let s : openingRange o .low ≤ openingRange o .high = subst (λ (r : Range). r .low ≤ r .high) (range-formed o (m .0)) (range-some b (eqb (o .side) 2) r) in omega (arith, s, e) in
+    refusal-by b P (λ k _ j z. absurd (omega arith))
+    (λ _. range-by b P (λ _ z. absurd (omega arith)) (λ _ _ z. sym z) (λ r _. absurd (never r)) (λ r _. absurd (never r)) (λ _ _ z. absurd (omega arith))) (m .1)
 
 -- the initiating price, by the order's own fields
 pub initiating-is : (o : Order) → acceptOf o .answer ≡ Accepted → initiatingPrice o ≡ reportedPrice (isSell o) (acceptOf o .auction .head .terms .initiating)

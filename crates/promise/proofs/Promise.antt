@@ -8,7 +8,7 @@ use Rattle.promise.proofs.Counted.{counted}
 use Rattle.promise.proofs.Offered.{offered, mirrors-watch}
 use Rattle.promise.proofs.Tapes.{can-lack, can-mirror}
 use Rattle.promise.proofs.Carried.{accepted, not-accepted}
-use Rattle.promise.proofs.Opening.{opens, some-range, no-range}
+use Rattle.promise.proofs.Opening.{opens, some-range, no-range, only-13}
 use Rattle.promise.proofs.InRealPrices.{trades}
 use Rattle.promise.proofs.Mirrored.{mirrors}
 use Rattle.promise.proofs.Below.{below}
@@ -29,6 +29,7 @@ promise =
       first-range = λ o h. opens o (accepted o h);
       some-range = λ o h. some-range o (accepted o h);
       no-range = λ o h. no-range o (not-accepted o 13 h);
+      only-13 = λ o n h. only-13 o n (not-accepted o n h);
       trades = λ o es h. trades o es (accepted o h);
       counted = counted;
       same-records = same-records;

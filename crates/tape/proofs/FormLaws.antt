@@ -11,7 +11,7 @@ use borrow.Author.Tests.{leb-true, ltb-true, eqb-true}
 use Rattle.tape.specs.declared.order.Order.{Order}
 use Rattle.tape.specs.declared.form.Shape.{Shape}
 use Rattle.tape.specs.declared.form.Range.{Range}
-use Rattle.tape.specs.rules.Form.{allFrom, within, collaredPrice, collarFormed, orderTests, orderFormed, range, inside, unused, sides, sizes, prices, anyNumber, bids, offers, row, shapeOf}
+use Rattle.tape.specs.rules.Form.{allFrom, within, collarResult, collarFormed, orderTests, orderFormed, range, inside, unused, sides, sizes, prices, anyNumber, bids, offers, row, shapeOf}
 use Rattle.base.proofs.Bools.{and-left, and-right, or-either}
 
 all-start : (ts : List Bool) (b : Bool) → allFrom b ts ≡ true → b ≡ true
@@ -49,15 +49,15 @@ stop-some s false e h = within-ge s 1 999999 h
 -- what the form of a collared order says: there is none, or its displayed price, the collar and the result are prices
 pub data CollarForm (side displayed collar : ℕ) : Type 0 where
   without : displayed ≡ 0 → collar ≡ 0 → CollarForm side displayed collar
-  with : within displayed 1 999999 ≡ true → within collar 1 999999 ≡ true → within (collaredPrice side displayed collar) 1 999999 ≡ true → CollarForm side displayed collar
+  with : within displayed 1 999999 ≡ true → within collar 1 999999 ≡ true → within (collarResult side displayed collar) 1 999999 ≡ true → CollarForm side displayed collar
 
 pub collar-form : (side displayed collar : ℕ) → collarFormed side displayed collar ≡ true → CollarForm side displayed collar
 collar-form side displayed collar h =
     ⊎-elim
     (λ z. without (eqb-true _ _ (and-left (eqb displayed 0) (eqb collar 0) z)) (eqb-true _ _ (and-right (eqb displayed 0) (eqb collar 0) z)))
     (λ p.
-    let both = and-left (within displayed 1 999999 && within collar 1 999999) (within (collaredPrice side displayed collar) 1 999999) p in
-    with (and-left (within displayed 1 999999) (within collar 1 999999) both) (and-right (within displayed 1 999999) (within collar 1 999999) both) (and-right (within displayed 1 999999 && within collar 1 999999) (within (collaredPrice side displayed collar) 1 999999) p))
+    let both = and-left (within displayed 1 999999 && within collar 1 999999) (within (collarResult side displayed collar) 1 999999) p in
+    with (and-left (within displayed 1 999999) (within collar 1 999999) both) (and-right (within displayed 1 999999) (within collar 1 999999) both) (and-right (within displayed 1 999999 && within collar 1 999999) (within (collarResult side displayed collar) 1 999999) p))
     (or-either (eqb displayed 0 && eqb collar 0) _ h)
 
 displayed-le : {side displayed collar : ℕ} → CollarForm side displayed collar → displayed ≤ 999999

@@ -1,14 +1,14 @@
 // The stated form of an order and of an event.
 ghost use mathlib.Core.Path.{_≡_};
 ghost use mathlib.Core.Bool.{true};
-ghost use Rattle.tape.specs.rules.Form.{allFrom, collaredPrice, collarFormed, orderFormed, inside, shapeTests, eventFormed};
+ghost use Rattle.tape.specs.rules.Form.{allFrom, collarResult, collarFormed, orderFormed, inside, shapeTests, eventFormed};
 use crate::event::Event;
 use crate::order::Order;
 use words::bits::mark;
 
-// The price at which a collared order on the other side counts: its displayed price plus the collar for a sell, minus it for a buy, and 0 where a buy's collar is the higher.
-fn collared_price(side: u8, displayed: u32, collar: u32) -> u64
-    ensures { λ r. ⌜ r ≡ collaredPrice side displayed collar ⌝ }
+// The displayed price of a collared order plus the collar for a sell, minus it for a buy, and 0 where a buy's collar is the higher.
+fn collar_result(side: u8, displayed: u32, collar: u32) -> u64
+    ensures { λ r. ⌜ r ≡ collarResult side displayed collar ⌝ }
 {
     if side == 2 {
         return base::wide(displayed) + base::wide(collar);
@@ -20,7 +20,7 @@ fn collared_price(side: u8, displayed: u32, collar: u32) -> u64
 fn collar_form(side: u8, displayed: u32, collar: u32) -> bool
     ensures { λ r. ⌜ r ≡ collarFormed side displayed collar ⌝ }
 {
-    let result = collared_price(side, displayed, collar);
+    let result = collar_result(side, displayed, collar);
     ((displayed == 0) & (collar == 0))
         | (((1 <= displayed) & (displayed <= 999999))
             & ((1 <= collar) & (collar <= 999999))

@@ -41,9 +41,7 @@ fn order_spare(s: &[u8]) -> bool
     requires { ⌜ 64 ≤ length (now s) ⌝ }
     ensures { λ r. ⌜ r ≡ orderSpare (now (s .entry)) ⌝ }
 {
-    (s[3] == 0)
-        & (read_word(s, 56) == 0)
-        & (read_word(s, 60) == 0)
+    (s[3] == 0) & (read_word(s, 56) == 0) & (read_word(s, 60) == 0)
 }
 
 // The fields, in their places.

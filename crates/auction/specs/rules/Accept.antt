@@ -5,7 +5,7 @@ use lib.Dec.{leb, ltb, eqb}
 use Rattle.words.specs.rules.Bits.{bitAt}
 use Rattle.board.specs.rules.Board.{emptyBoard}
 use Rattle.tape.specs.declared.order.Order.{Order}
-use Rattle.tape.specs.rules.Form.{collaredPrice, orderFormed}
+use Rattle.tape.specs.rules.Form.{collarResult, orderFormed}
 use Rattle.mirror.specs.rules.Mirror.{buyOrder}
 use Rattle.auction.specs.declared.Auction.{Auction}
 use Rattle.auction.specs.declared.Head.{Head}
@@ -20,13 +20,13 @@ use Rattle.auction.specs.declared.Opening.{Opening}
 
 -- ---- the range
 
--- what counts as BO in the initiating price, and nowhere else: BO, or the price of a collared order on the other side
-unfoldable pub offerOf : Order → ℕ
-offerOf o = cond (eqb (o .displayed) 0) (o .bo) (collaredPrice 1 (o .displayed) (o .collar))
+-- what counts as BO in the initiating price, and nowhere else: BO, or where there is a collared order on the other side, its displayed price minus the collar (side 1 is a buy)
+unfoldable pub countedOffer : Order → ℕ
+countedOffer o = cond (eqb (o .displayed) 0) (o .bo) (collarResult 1 (o .displayed) (o .collar))
 
--- the lower of limit and NBO; under 50 contracts also of BO - 1
+-- the lower of limit and NBO; under 50 contracts also of what counts as BO - 1
 unfoldable pub initiatingOf : Order → ℕ
-initiatingOf o = cond (ltb (o .size) 50) (min (min (o .limit) (o .nbo)) (offerOf o - 1)) (min (o .limit) (o .nbo))
+initiatingOf o = cond (ltb (o .size) 50) (min (min (o .limit) (o .nbo)) (countedOffer o - 1)) (min (o .limit) (o .nbo))
 
 -- the added cent: under 50 contracts, or a Customer at BB
 unfoldable pub tickOf : ℕ → Bool → ℕ

@@ -5,7 +5,7 @@ use Prim.Native.Nat.{ℕ}
 use lib.Dec.{eqb}
 use Rattle.words.specs.rules.Bits.{bitAt}
 use Rattle.base.specs.Price.{mirrored}
-use Rattle.tape.specs.rules.Form.{collaredPrice, orderFormed, eventFormed}
+use Rattle.tape.specs.rules.Form.{collarResult, orderFormed, eventFormed}
 use Rattle.tape.specs.declared.order.Order.{Order}
 use Rattle.tape.specs.declared.event.Event.{Event}
 use Rattle.mirror.specs.rules.Mirror.{mirroredMarks, mirroredOrder, mirroredEvent, buyOrder}
@@ -27,7 +27,7 @@ pub record RecordsMirror : Type 0 where
   pub event-form : (e : Event) → eventFormed e ≡ true → eventFormed (mirroredEvent e) ≡ true
   -- a collared order counts at the mirrored price: the displayed price is mirrored, and the collar, a difference, stays
   pub collared : (o : Order) → orderFormed o ≡ true → (o .displayed ≡ 0 → ⊥)
-      → collaredPrice (mirroredOrder o .side) (mirroredOrder o .displayed) (mirroredOrder o .collar) ≡ mirrored (collaredPrice (o .side) (o .displayed) (o .collar))
+      → collarResult (mirroredOrder o .side) (mirroredOrder o .displayed) (mirroredOrder o .collar) ≡ mirrored (collarResult (o .side) (o .displayed) (o .collar))
   -- the mirrored order is of the other side, and the same buy
   pub other-side : (o : Order) → orderFormed o ≡ true → eqb (mirroredOrder o .side) 2 ≡ cond (eqb (o .side) 2) false true
   pub same-buy : (o : Order) → orderFormed o ≡ true → buyOrder (mirroredOrder o) ≡ buyOrder o

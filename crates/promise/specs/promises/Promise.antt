@@ -1,6 +1,7 @@
 -- The promise: what the user is promised of every tape, on one page. A tape is any list of bytes.
 use mathlib.Core.Path.{_≡_}
 use mathlib.Core.List.{List}
+use mathlib.Core.Logic.{_≢_}
 use Prim.Native.Nat.{ℕ, _≤_, _<_}
 use Rattle.base.specs.Lists.{Every}
 use Rattle.words.specs.rules.Bytes.{AllBytes}
@@ -37,9 +38,10 @@ pub record Promise : Type 0 where
   pub read-back : Demands
   -- 3. Demand 3 in real prices, of every order that is accepted and every list of records after it; where none of them ends the auction it is closed by hand. The range at the opening is that of the order's own fields
   pub first-range : (o : Order) → Accepts o → rangeOf (acceptOf o .auction .head) ≡ openingRange o
-  -- and is not empty; 13 where a collared order on the other side would make it so
+  -- and is not empty. 13 is given where it would be, under 50 contracts and with a collared order on the other side alone; there 11 and 12 are not
   pub some-range : (o : Order) → Accepts o → openingRange o .low ≤ openingRange o .high
-  pub no-range : (o : Order) → entryIs (acceptOf o .answer) ≡ no 13 → openingRange o .high < openingRange o .low
+  pub no-range : (o : Order) → entryIs (acceptOf o .answer) ≡ no 13 → (openingRange o .high < openingRange o .low) × (o .size < 50) × (o .displayed ≢ 0)
+  pub only-13 : (o : Order) (n : ℕ) → entryIs (acceptOf o .answer) ≡ no n → 10 < n → openingRange o .high < openingRange o .low → n ≡ 13
   pub trades : (o : Order) (es : List Event) → Accepts o → InRealPrices o es
   -- 4. A response that stands on the board is never counted twice, and an amended one once, with its latest size and price: what stands is a fold of the records taken
   pub counted : (o : Order) → CountedOnce o

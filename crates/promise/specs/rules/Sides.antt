@@ -10,7 +10,7 @@ use Rattle.board.specs.rules.Board.{liveOf, isGtx}
 use Rattle.share.specs.rules.Fills.{Fill, sizes}
 use Rattle.tape.specs.declared.order.Order.{Order}
 use Rattle.tape.specs.declared.event.Event.{Event}
-use Rattle.tape.specs.rules.Form.{collaredPrice}
+use Rattle.tape.specs.rules.Form.{collarResult}
 use Rattle.tape.specs.rules.Fields.{sizeOf, priceOf, nameOf, newSizeOf, newPriceOf}
 use Rattle.trade.specs.rules.Plan.{Plan, planOf}
 use Rattle.trade.specs.rules.Trade.{fromCustomer, fromOther, guaranteeOf, workingStop}
@@ -50,17 +50,20 @@ responses a = map (sent (a .head .terms .sell)) (liveOf (a .board))
 abbrev pub buyRange : Order → Range
 buyRange o = record { low = firstBound o; high = initiatingOf o }
 
--- what counts as BB in a sell's initiating price: BB, or the displayed price plus the collar of a collared order
-abbrev pub bidOf : Order → ℕ
-bidOf o = cond (eqb (o .displayed) 0) (o .bb) (collaredPrice 2 (o .displayed) (o .collar))
+-- what counts as BB in a sell's initiating price: BB, or where there is a collared order on the other side, its displayed price plus the collar (side 2 is a sell)
+abbrev pub countedBid : Order → ℕ
+countedBid o = cond (eqb (o .displayed) 0) (o .bb) (collarResult 2 (o .displayed) (o .collar))
 
--- a sell: from the higher of limit and NBB, under 50 contracts also of BB + 1, to the lower of NBO and BO - t, where a Customer at BO counts
+-- a sell: from the higher of limit and NBB, under 50 contracts also of what counts as BB + 1, to the lower of NBO and BO - t, where a Customer at BO counts
 abbrev pub sellRange : Order → Range
 sellRange o =
     record {
-      low = max (max (o .limit) (o .nbb)) (cond (ltb (o .size) 50) (bidOf o + 1) (o .limit));
+      low = max (max (o .limit) (o .nbb)) (cond (ltb (o .size) 50) (countedBid o + 1) (o .limit));
       high = min (o .nbo) (o .bo - tickOf (o .size) (offerMark (o .marks)));
     }
+
+abbrev pub openingRange : Order → Range
+openingRange o = cond (isSell o) (sellRange o) (buyRange o)
 
 -- ---- what the records leave standing
 
@@ -80,10 +83,7 @@ module _ (o : Order) where
   abbrev pub sentInstead : Event → Response → Response
   sentInstead e old = record { sequence = e .sequence; size = min (newSizeOf e) (o .size); price = newPriceOf e; customer = old .customer; gtx = true }
 
-  -- the opening range, and the initiating price
-  abbrev pub openingRange : Range
-  openingRange = cond (isSell o) (sellRange o) (buyRange o)
-
+  -- the initiating price
   abbrev pub initiatingPrice : ℕ
   initiatingPrice = cond (isSell o) (sellRange o .low) (buyRange o .high)
 

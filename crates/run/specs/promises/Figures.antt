@@ -168,13 +168,18 @@ cases =
     -- W-205: displayed 109 minus 3 counts as a BO of 106, and a response at 106 is above the range; for a sell 101 plus 3 as a BB of 104
     ∷ case (recollared 109 3 orderC) (gtx 1 3 104 ∷ gtx 2 3 106 ∷ []) true (ended Time 101 105 (contra 104 3 ∷ fill 1 104 3 ∷ contra 105 4 ∷ []))
     ∷ case (recollared 101 3 sellC) (gtxBuy 1 3 106 ∷ gtxBuy 2 3 104 ∷ []) true (ended Time 105 109 (contra 106 3 ∷ fill 1 106 3 ∷ contra 105 4 ∷ []))
-    -- from 50 contracts on it does nothing
+    -- it acts at 49 contracts, and from 50 on not at all
+    ∷ case (recollared 109 3 (order 1 2 49 110 0)) [] false (standing 101 105)
+    ∷ case (recollared 101 3 (order 2 2 49 100 0)) [] false (standing 105 109)
     ∷ case (recollared 109 3 (order 1 2 50 110 0)) [] false (standing 100 110)
     ∷ case (recollared 101 3 (order 2 2 50 100 0)) [] false (standing 100 110)
     -- it stands for BO also where it is above: 120 minus 5 leaves the limit and NBO, where BO would give 109
     ∷ case (recollared 120 5 orderC) [] false (standing 101 110)
     ∷ case (recollared 90 5 sellC) [] false (standing 100 109)
-    -- a range of one price; one cent more of collar makes it empty, 13
+    -- and where there is no exchange offer, or bid
+    ∷ case (quoted 100 110 100 1000000 (recollared 109 3 orderC)) [] false (standing 101 105)
+    ∷ case (quoted 100 110 0 110 (recollared 101 3 sellC)) [] false (standing 105 109)
+    -- a range of one price; one cent more of collar makes it empty, 13 (and a BO of 101, one cent above BB, is not 9)
     ∷ case (recollared 104 2 orderC) [] false (standing 101 101)
     ∷ case (recollared 106 2 sellC) [] false (standing 109 109)
     ∷ case (recollared 104 3 orderC) [] false (refusal 13)
@@ -186,24 +191,38 @@ cases =
     ∷ case (recollared 106 3 (order 2 1 10 100 105)) [] false (refusal 13)
     ∷ case (recollared 104 2 (order 1 1 10 110 105)) [] false (refusal 11)
     ∷ case (recollared 106 2 (order 2 1 10 100 105)) [] false (refusal 11)
-    -- 9 is by the quoted markets, wherever the collared order stands
+    -- 2 and 9 are by the quoted markets, wherever the collared order stands
+    ∷ case (quoted 100 110 100 109 (recollared 120 5 orderC)) [] false (refusal 2)
+    ∷ case (quoted 100 110 101 110 (recollared 90 5 sellC)) [] false (refusal 2)
     ∷ case (quoted 100 101 100 101 (recollared 120 5 (order 1 2 49 101 0))) [] false (refusal 9)
     ∷ case (quoted 100 101 100 101 (recollared 90 5 (order 2 2 49 100 0))) [] false (refusal 9)
-    -- 12 is by the initiating price that it makes: 12 without it, and none with a BO of 101 or a BB of 100
+    -- 12 is by the initiating price that it makes: 12 without it, none with a BO of 101 or a BB of 100, and 13 before it with one cent more of collar
     ∷ case (quoted 100 101 90 110 (order 1 2 10 101 0)) [] false (refusal 12)
     ∷ case (quoted 100 101 90 110 (recollared 103 2 (order 1 2 10 101 0))) [] false (standing 100 100)
     ∷ case (quoted 100 101 91 111 (order 2 2 10 100 0)) [] false (refusal 12)
     ∷ case (quoted 100 101 91 111 (recollared 98 2 (order 2 2 10 100 0))) [] false (standing 101 101)
+    ∷ case (quoted 100 101 90 110 (recollared 102 2 (order 1 2 10 101 0))) [] false (refusal 13)
+    ∷ case (quoted 100 101 91 111 (recollared 99 2 (order 2 2 10 100 0))) [] false (refusal 13)
+    -- and it can make a 12: a BO of 101 leaves 100, a BO of 115 does not
+    ∷ case (quoted 100 101 90 101 (order 1 2 10 101 0)) [] false (standing 100 100)
+    ∷ case (quoted 100 101 90 101 (recollared 120 5 (order 1 2 10 101 0))) [] false (refusal 12)
     -- events keep the quoted markets: a non-routable bid at the collared 106, or an offer at the collared 104, is not at BO, or BB, and ends the auction by improve
     ∷ case (recollared 109 3 orderC) (nonRoutable (bid 1 1 106) ∷ []) false (ended Improve 101 105 (contra 105 10 ∷ []))
     ∷ case (recollared 101 3 sellC) (nonRoutable (offer 1 1 104) ∷ []) false (ended Improve 105 109 (contra 105 10 ∷ []))
-    -- out of form: one field without the other; a field, or the result, that is no price
+    -- and one at the quoted BO, or BB, by same, where the collared order stands beyond it
+    ∷ case (recollared 120 5 orderC) (nonRoutable (bid 1 1 110) ∷ []) false (ended Same 101 110 (contra 110 10 ∷ []))
+    ∷ case (recollared 90 5 sellC) (nonRoutable (offer 1 1 100) ∷ []) false (ended Same 100 109 (contra 100 10 ∷ []))
+    -- out of form: one field without the other; a field, or the result, that is no price; from 50 contracts on too
     ∷ case (recollared 109 0 orderC) [] false (refusal 1)
     ∷ case (recollared 0 3 orderC) [] false (refusal 1)
     ∷ case (recollared 1000000 3 orderC) [] false (refusal 1)
     ∷ case (recollared 109 1000000 sellC) [] false (refusal 1)
     ∷ case (recollared 109 109 orderC) [] false (refusal 1)
     ∷ case (recollared 999998 2 sellC) [] false (refusal 1)
+    ∷ case (recollared 109 0 (order 1 2 50 110 0)) [] false (refusal 1)
+    ∷ case (recollared 0 3 (order 1 2 50 110 0)) [] false (refusal 1)
+    ∷ case (recollared 109 109 (order 1 2 50 110 0)) [] false (refusal 1)
+    ∷ case (recollared 999998 2 (order 2 2 50 100 0)) [] false (refusal 1)
     -- and in form at their ends: a BO of 1, a BB of 999,999
     ∷ case (recollared 999999 999998 orderC) [] false (refusal 13)
     ∷ case (recollared 999998 1 sellC) [] false (refusal 13)

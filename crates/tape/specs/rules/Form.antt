@@ -23,15 +23,15 @@ within x low high = leb low x && leb x high
 abbrev pub stopFormed : ℕ → ℕ → Bool
 stopFormed mode stop = (eqb mode 2 && eqb stop 0) || (not (eqb mode 2) && within stop 1 999999)
 
--- a collared order on the other side counts at this price: for a buy at its displayed price minus the collar, for a sell at its displayed price plus the collar
-abbrev pub collaredPrice : ℕ → ℕ → ℕ → ℕ
-collaredPrice side displayed collar = cond (eqb side 2) (displayed + collar) (displayed - collar)
+-- the result: for a buy the displayed price minus the collar, for a sell the displayed price plus the collar
+abbrev pub collarResult : ℕ → ℕ → ℕ → ℕ
+collarResult side displayed collar = cond (eqb side 2) (displayed + collar) (displayed - collar)
 
--- both zero: there is none; else both are prices, and the result is one
+-- a collared order on the other side: both fields are zero where there is none, and else prices; the result is one too
 abbrev pub collarFormed : ℕ → ℕ → ℕ → Bool
 collarFormed side displayed collar =
     (eqb displayed 0 && eqb collar 0)
-    || (within displayed 1 999999 && within collar 1 999999 && within (collaredPrice side displayed collar) 1 999999)
+    || (within displayed 1 999999 && within collar 1 999999 && within (collarResult side displayed collar) 1 999999)
 
 -- side, mode, marks (bits 0 to 3), size (0 is number 3's), prices, best bid and offer, times, interval, the collared order
 unfoldable pub orderTests : Order → List Bool

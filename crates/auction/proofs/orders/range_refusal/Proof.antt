@@ -1,5 +1,4 @@
-use borrow.Author.Tests.{lt-ltb, le-ltb}
-use Rattle.auction.specs.rules.Accept.{rangeRefusal}
+use Rattle.auction.proofs.RefusalLaws.{number-10, number-13, number-11, number-12, number-0}
 use borrow.Author.Needs.{needs}
 use Rattle.auction.proofs.orders.range_refusal.Statement.{statement}
 use Rattle.auction.proofs.orders.range_refusal.Tie as tie
@@ -17,23 +16,19 @@ wide-requires-2 : tie.Need-wide-requires-2
 wide-requires-2 c κs = search needs
 
 returns : tie.Need-returns
-unfolding rangeRefusal
-returns c = simp (rw (c .before .wide2 .ensures .0, c .before .before .before .before .first-bound .ensures .0) at (lt-ltb _ _ (c .if1 .taken)))
+returns c =
+    let k = c .before in
+    number-10 (k .before .before .before .before .args .o) (k .wide2 .ensures .0) (k .before .before .before .first-bound .ensures .0) (k .before .before .initiating .ensures) (k .before .wide .ensures .0) (c .if1 .taken)
 
 returns-2 : tie.Need-returns-2
-unfolding rangeRefusal
 returns-2 c =
-    simp
-    (rw (c .before .before .wide2 .ensures .0, c .before .before .before .before .before .first-bound .ensures .0) at (le-ltb _ _ (c .before .if1 .left)),
-    rw (c .before .before .before .wide .ensures .0, c .before .before .before .before .initiating .ensures, c .before .before .before .before .before .first-bound .ensures .0) at (lt-ltb _ _ (c .if2 .taken)))
+    let k = c .before .before in
+    number-13 (k .before .before .before .before .args .o) (k .wide2 .ensures .0) (k .before .before .before .first-bound .ensures .0) (k .before .before .initiating .ensures) (k .before .wide .ensures .0) (c .before .if1 .left) (c .if2 .taken)
 
 returns-3 : tie.Need-returns-3
-unfolding rangeRefusal
 returns-3 c =
-    simp
-    (rw (c .before .before .before .before .wide2 .ensures .0, c .before .before .before .before .before .before .before .first-bound .ensures .0) at (le-ltb _ _ (c .before .before .before .if1 .left)),
-    rw (c .before .before .before .before .before .wide .ensures .0, c .before .before .before .before .before .before .initiating .ensures, c .before .before .before .before .before .before .before .first-bound .ensures .0) at (le-ltb _ _ (c .before .before .if2 .left)),
-    rw (c .before .before .before .before .before .before .initiating .ensures) at (lt-ltb _ _ (c .if3 .taken)))
+    let k = c .before .before .before .before in
+    number-11 (k .before .before .before .before .args .o) (k .wide2 .ensures .0) (k .before .before .before .first-bound .ensures .0) (k .before .before .initiating .ensures) (k .before .wide .ensures .0) (c .before .before .before .if1 .left) (c .before .before .if2 .left) (c .if3 .taken)
 
 wide-requires-3 : tie.Need-wide-requires-3
 wide-requires-3 c κs = search needs
@@ -48,22 +43,20 @@ is-next-requires-2 : tie.Need-is-next-requires-2
 is-next-requires-2 c κs = search needs
 
 returns-4 : tie.Need-returns-4
-unfolding rangeRefusal
 returns-4 c =
-    simp
-    (rw (c .before .before .before .before .before .before .before .before .before .before .wide2 .ensures .0, c .before .before .before .before .before .before .before .before .before .before .before .before .before .first-bound .ensures .0) at (le-ltb _ _ (c .before .before .before .before .before .before .before .before .before .if1 .left)),
-    rw (c .before .before .before .before .before .before .before .before .before .before .before .wide .ensures .0, c .before .before .before .before .before .before .before .before .before .before .before .before .initiating .ensures, c .before .before .before .before .before .before .before .before .before .before .before .before .before .first-bound .ensures .0) at (le-ltb _ _ (c .before .before .before .before .before .before .before .before .if2 .left)),
-    rw (c .before .before .before .before .before .before .before .before .before .before .before .before .initiating .ensures) at (le-ltb _ _ (c .before .before .before .before .before .before .if3 .left)),
-    rw (c .before .before .before .is-next .ensures, c .before .is-next2 .ensures, c .before .before .before .before .wide3 .ensures .0, c .before .before .guaranteed .ensures .0) at (c .if4 .taken))
+    let k = c .before .before .before .before .before .before .before .before .before .before in
+    number-12 (k .before .before .before .before .args .o) (k .wide2 .ensures .0) (k .before .before .before .first-bound .ensures .0) (k .before .before .initiating .ensures) (k .before .wide .ensures .0)
+    (c .before .before .before .before .before .before .before .before .before .if1 .left) (c .before .before .before .before .before .before .before .before .if2 .left) (c .before .before .before .before .before .before .if3 .left)
+    (rw (c .before .before .before .before .wide3 .ensures .0) at (c .before .before .before .is-next .ensures))
+    (rw (c .before .before .guaranteed .ensures .0) at (c .before .is-next2 .ensures)) (c .if4 .taken)
 
 returns-5 : tie.Need-returns-5
-unfolding rangeRefusal
 returns-5 c =
-    simp
-    (rw (c .before .before .before .before .before .before .before .before .before .before .wide2 .ensures .0, c .before .before .before .before .before .before .before .before .before .before .before .before .before .first-bound .ensures .0) at (le-ltb _ _ (c .before .before .before .before .before .before .before .before .before .if1 .left)),
-    rw (c .before .before .before .before .before .before .before .before .before .before .before .wide .ensures .0, c .before .before .before .before .before .before .before .before .before .before .before .before .initiating .ensures, c .before .before .before .before .before .before .before .before .before .before .before .before .before .first-bound .ensures .0) at (le-ltb _ _ (c .before .before .before .before .before .before .before .before .if2 .left)),
-    rw (c .before .before .before .before .before .before .before .before .before .before .before .before .initiating .ensures) at (le-ltb _ _ (c .before .before .before .before .before .before .if3 .left)),
-    rw (c .before .before .before .is-next .ensures, c .before .is-next2 .ensures, c .before .before .before .before .wide3 .ensures .0, c .before .before .guaranteed .ensures .0) at (c .if4 .left))
+    let k = c .before .before .before .before .before .before .before .before .before .before in
+    number-0 (k .before .before .before .before .args .o) (k .wide2 .ensures .0) (k .before .before .before .first-bound .ensures .0) (k .before .before .initiating .ensures) (k .before .wide .ensures .0)
+    (c .before .before .before .before .before .before .before .before .before .if1 .left) (c .before .before .before .before .before .before .before .before .if2 .left) (c .before .before .before .before .before .before .if3 .left)
+    (rw (c .before .before .before .before .wide3 .ensures .0) at (c .before .before .before .is-next .ensures))
+    (rw (c .before .before .guaranteed .ensures .0) at (c .before .is-next2 .ensures)) (c .if4 .left)
 
 pub range-refusal-spec : {M : Type 1} → statement M
 range-refusal-spec =

@@ -1,7 +1,7 @@
 use borrow.Author.Tests.{eq-eqb, ne-eqb}
 use borrow.Author.Needs.{needs}
-use Rattle.tape.proofs.form.collared_price.Statement.{statement}
-use Rattle.tape.proofs.form.collared_price.Tie as tie
+use Rattle.tape.proofs.form.collar_result.Statement.{statement}
+use Rattle.tape.proofs.form.collar_result.Tie as tie
 
 wide-requires : tie.Need-wide-requires
 wide-requires c κs = search needs
@@ -24,8 +24,8 @@ wide-requires-3 c κs = search needs
 returns-2 : tie.Need-returns-2
 returns-2 c = simp (ne-eqb _ _ (c .before .before .if1 .left), c .wide3 .ensures .0, c .before .less .ensures)
 
-pub collared-price-spec : {M : Type 1} → statement M
-collared-price-spec =
+pub collar-result-spec : {M : Type 1} → statement M
+collar-result-spec =
     tie.close
     (tie.spec
     wide-requires
