@@ -106,6 +106,14 @@ class Pictures(Case):
         for words in ("END opposite", "price, cents", "time since the start, ms", "1: 30", "2: 60", "3: 40", "9: 40", "2 refused 33", "stop 108", "Buy 100, stop 108, limit 110"):
             self.assertIn(words, drawn.texts)
 
+    def test_a_collared_order(self):
+        """The heading names it, and the range is the one that it makes."""
+        order = FULL.splitlines()[0].replace("size=100", "size=49").replace("stop=108", "stop=104")
+        drawn = Drawn(self, tape_of(order + " displayed=109 collar=3\n"))
+        self.assertTrue([t for t in drawn.texts if "exchange 100 / 110. Collared order: displayed 109, collar 3. Interval" in t], drawn.texts)
+        self.assertEqual(drawn.data("range", "steps"), [("0:101:105",)])
+        self.assertFalse([t for t in Drawn(self, tape_of(order + "\n")).texts if "Collared" in t])
+
     def test_amended_responses(self):
         """An amended response ends in a square, from which a line leads to the one that came; that one keeps the Customer mark."""
         drawn = Drawn(self, tape_of(AMENDED))

@@ -58,7 +58,7 @@ class Statuses(Case):
             os.close(fd)
 
     def test_usage(self):
-        for words in (["--wrong"], ["list", "--wrong"], ["list", "--jobs", "x", "a"], ["list", "--jobs", "-1", "a"], ["list", "--format", "xml", "a"], ["why", "13"],
+        for words in (["--wrong"], ["list", "--wrong"], ["list", "--jobs", "x", "a"], ["list", "--jobs", "-1", "a"], ["list", "--format", "xml", "a"], ["why", "14"],
                       ["why", "x"], ["sweep", self.tape], ["sweep", "--stop", "1"], ["sweep", self.tape, "--stop", "9..1"], ["sweep", self.tape, "--stop", "1.."],
                       ["sweep", self.tape, "--stop", "1..2", "--size", "1..2"], ["sweep", self.tape, "--mode", "other"], ["make", "a", "b"], ["show", "--why"],
                       ["draw", "--wrong"], ["watch", "a", "b"], ["watch", "--format", "csv"], ["check", "-x"], ["list", "-0", "a"], ["list", "--why", "--format", "csv", "a"], ["list", "--names", "-", "-"],

@@ -15,6 +15,11 @@ ORDERS = [
     "order side=sell mode=stop size=100 limit=102 stop=104 nbb=101 nbo=110 bb=100 bo=110 time=34200000 open=34200000 close=57600000 interval=100",
     "order side=buy mode=auto-match-limit size=200 limit=110 stop=103 nbb=100 nbo=110 bb=100 bo=110 time=34200000 open=34200000 close=57600000 interval=100",
 ]
+COLLARED = [
+    "order side=buy mode=auto-match size=10 limit=110 nbb=100 nbo=110 bb=100 bo=110 time=34200000 open=34200000 close=57600000 interval=100 displayed=109 collar=3",
+    "order side=sell mode=stop size=49 limit=100 stop=105 nbb=100 nbo=110 bb=100 bo=110 time=34200000 open=34200000 close=57600000 interval=100 displayed=101 collar=3",
+    "order side=buy mode=stop size=50 limit=110 stop=105 nbb=100 nbo=110 bb=100 bo=110 time=34200000 open=34200000 close=57600000 interval=100 displayed=109 collar=3",
+]
 EVENTS = """
 gtx sequence=1 time=10 side=%(other)s size=30 price=105
 gtx sequence=2 time=15 side=%(other)s size=60 price=%(near)d
@@ -44,6 +49,8 @@ class Sweeping(Case):
             changed = re.sub(r"\b%s=\S+" % key, "%s=%s" % (key, value), text, count=1)
             if key == "mode" and value == "auto-match":
                 changed = re.sub(r" stop=\S+", "", changed, count=1)
+            if key == "displayed" and value == "0":
+                changed = re.sub(r" collar=\S+", "", changed, count=1)
             self.write("%d.tape" % k, tape_of(changed))
             names.append("%d.tape" % k)
         single = list(csv.DictReader(io.StringIO(cube("list", "--format", "csv", *names, cwd=self.folder).stdout.decode())))
@@ -64,6 +71,21 @@ class Sweeping(Case):
                 rows = self.rows(text, "--" + key, values)
                 self.assertEqual(len(rows), count)
                 self.compare(text, rows, key)
+
+    def test_collared_orders(self):
+        for order in COLLARED:
+            text = text_of(order)
+            for key, values, count in (("displayed", "0,95..115", 22), ("collar", "0..20", 21), ("size", "48..51", 4)):
+                rows = self.rows(text, "--" + key, values)
+                self.assertEqual(len(rows), count)
+                self.compare(text, rows, key)
+        rows = self.rows(text_of(COLLARED[0]), "--collar", "0..10")
+        self.assertEqual([r["refused"] for r in rows], ["1"] + [""] * 7 + ["13"] * 3)
+        self.assertEqual([r["high"] for r in rows[1:8]], ["107", "106", "105", "104", "103", "102", "101"])
+        self.assertEqual([r["refused"] for r in self.rows(text_of(COLLARED[0]), "--displayed", "0")], [""])
+        self.assertEqual([r["refused"] for r in self.rows(text_of(COLLARED[0]), "--displayed", "0", "--collar", "3..4")], ["1", "1"])
+        self.assertEqual(self.rows(text_of(ORDERS[0]).replace("size=100", "size=10").replace("stop=108", "stop=103"), "--displayed", "109", "--collar", "1..7"),
+                         self.rows(text_of(ORDERS[0].replace("interval=100", "interval=100 displayed=109 collar=1")).replace("size=100", "size=10").replace("stop=108", "stop=103"), "--collar", "1..7"))
 
     def test_values(self):
         rows = self.rows(text_of(ORDERS[0]), "--stop", "101,103..105,110..116..3")

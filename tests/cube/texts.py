@@ -8,7 +8,7 @@ from support import LISTING, TEXT, Case, cube, random_tapes, tape_of
 ALL = """\
 # every kind and mark
 own bytes=00ff
-order side=sell mode=auto-match-limit size=10 limit=101 stop=104 nbb=100 nbo=110 bb=100 bo=110 time=34200000 open=34200000 close=57600000 interval=100 halted=yes \
+order side=sell mode=auto-match-limit size=10 limit=101 stop=104 nbb=100 nbo=110 bb=100 bo=110 time=34200000 open=34200000 close=57600000 interval=100 displayed=101 collar=3 halted=yes \
 another=yes customer-at-bb=yes customer-at-bo=yes
 gtx sequence=1 time=20 side=buy size=3 price=105 customer=yes
 
@@ -111,6 +111,35 @@ class Texts(Case):
         self.write("c.txt", TEXT.splitlines()[0].encode())
         self.ends(cube("check", "c.txt", cwd=self.folder), 0, "a tape of 80 bytes can be made: an order and 0 events\n")
         self.assertEqual(sorted(os.listdir(self.folder)), ["c.tape", "c.txt"])
+
+    def test_collared_order(self):
+        """The record of document 02, W-205: the displayed price at 48, the collar at 52; each is left out of the text where it is 0. The range and the numbers are the document's."""
+        sell = ORDER.replace("side=buy", "side=sell").replace("limit=110", "limit=100")
+        why = lambda n: re.match(r"\d+  \(order\) (.*)\n", cube("why", str(n)).stdout.decode()).group(1)
+        for order, words, said in ((ORDER, "displayed=109 collar=3", "range 101 to 105"), (sell, "displayed=101 collar=3", "range 105 to 109"), (ORDER, "displayed=104 collar=3", 13),
+                                   (sell, "displayed=106 collar=3", 13), (ORDER, "displayed=109", 1), (ORDER, "collar=3", 1), (ORDER, "displayed=109 collar=109", 1),
+                                   (sell, "displayed=999998 collar=2", 1), (sell, "displayed=999998 collar=1", 13), (ORDER, "displayed=4294967295 collar=4294967295", 1)):
+            text = order + " " + words + "\n"
+            made = cube("make", given=text.encode())
+            fields = dict(re.findall(r"(\w+)=(\d+)", words))
+            self.ends(made, 0)
+            self.assertEqual(made.stdout[48:64], struct.pack("<4I", int(fields.get("displayed", 0)), int(fields.get("collar", 0)), 0, 0))
+            self.ends(cube("show", given=made.stdout), 0, text)
+            listed, last = cube(given=made.stdout), "a tape of 80 bytes can be made: an order and 0 events"
+            if isinstance(said, int):
+                self.ends(listed, 0, "REFUSED %d\n" % said)
+                self.ends(cube("check", given=text.encode()), 0, lines_of("line 1: the engine refuses the order by %d: %s" % (said, why(said)), last))
+            else:
+                self.assertIn(said.encode(), listed.stdout.split(b"\n")[0])
+                self.ends(cube("check", given=text.encode()), 0, lines_of(last))
+        none = cube("make", given=(ORDER + " displayed=0 collar=0\n").encode()).stdout
+        self.ends(cube("show", given=none), 0, lines_of(ORDER))
+        self.wrong(ORDER + " displayed=-1 collar=x", "line 1: displayed=-1 is not a number from 0 to 4294967295", "line 1: collar=x is not a number from 0 to 4294967295")
+        self.wrong(ORDER + " displayed=1 displayed=2", "line 1: displayed stands twice")
+        for at in range(56, 64):
+            odd = none[:at] + b"\x01" + none[at + 1:]
+            self.ends(cube("show", given=odd), 0, lines_of("record hex=" + odd[:64].hex()))
+            self.ends(cube(given=odd), 0, "REFUSED 1\n")
 
     def test_amend(self):
         """The record of document 02: kind 6 with the name, the size and the price in fields 12, 16 and 20. Its fills are those of a response sent so at once."""

@@ -1,4 +1,4 @@
-"""cube sweep: the same tape with another stop, limit, size or mode: which value would have given what."""
+"""cube sweep: the same tape with another stop, limit, size, mode, displayed price or collar: which value would have given what."""
 import itertools
 import os
 import struct
@@ -9,17 +9,20 @@ from .engine import Engine
 from .trouble import FINE, Trouble, reason
 
 NAME = "sweep"
-SUMMARY = "what other stops, limits, sizes or modes would have given"
+SUMMARY = "what other stops, limits, sizes, modes or collared orders would have given"
 DESCRIPTION = """\
 Lists the tape once for each value, with that value in its order and all else as it stands, and prints a row for each. VALUES are numbers and
-ranges, with a step if wanted: `101..109`, `100,110,120`, `50..500..50`; modes are stop, auto-match and auto-match-limit. One of the four options
-may have several values; the others then set one. The average is in cents; the improvement is the order's NBO less the average (for a sell
+ranges, with a step if wanted: `101..109`, `100,110,120`, `50..500..50`; modes are stop, auto-match and auto-match-limit. One of the options may
+have several values; the others then set one. The average is in cents; the improvement is the order's NBO less the average (for a sell
 the average less its NBB). In the table a star marks the rows with the most improvement."""
 EXAMPLES = [("cube sweep c.tape --stop 101..109", "the desk's own question: which stop would have given what"),
-            ("cube sweep c.tape --mode stop --stop 101..109 --format csv", "the same for a tape in another mode")]
+            ("cube sweep c.tape --mode stop --stop 101..109 --format csv", "the same for a tape in another mode"),
+            ("cube sweep c.tape --displayed 104..112 --collar 3", "what a collared order on the other side would have moved")]
 KEYS = ["value", "refused", "ending", "low", "high", "contra", "others", "average", "improvement", "total"]
 # the option's field in the order record: where it stands, and its form
-FIELDS = {"stop": (12, "<I"), "limit": (8, "<I"), "size": (4, "<I"), "mode": (1, "<B")}
+FIELDS = {"stop": (12, "<I"), "limit": (8, "<I"), "size": (4, "<I"), "displayed": (48, "<I"), "collar": (52, "<I"), "mode": (1, "<B")}
+HELP = {"stop": "the order's stop, or auto-match limit", "limit": "the order's limit", "size": "the order's size",
+        "displayed": "the displayed price of a collared order on the other side; 0: there is none, so the collar is then 0", "collar": "one Trading Collar, in cents"}
 MOST = 100000
 
 
@@ -56,20 +59,22 @@ modes.__name__ = "list of modes"
 
 def add(parser):
     parser.add_argument("tape", metavar="TAPE", help="the tape's file; - is standard input")
-    for option in ("stop", "limit", "size"):
-        parser.add_argument("--" + option, metavar="VALUES", type=numbers, help="the order's " + ("stop, or auto-match limit" if option == "stop" else option))
+    for option, words in HELP.items():
+        parser.add_argument("--" + option, metavar="VALUES", type=numbers, help=words)
     parser.add_argument("--mode", metavar="MODES", type=modes, help="the order's mode, by name or number; auto-match has no stop, so the stop is then 0")
     parser.add_argument("--format", choices=["text", "csv", "json"], default="text", help="an aligned table, csv, or one JSON object to a line")
 
 
 def changed(tape, at, swept, values):
-    """The tape with other values in its order record, which stands at `at`. Where modes are swept, or no stop is given, auto-match has stop 0."""
+    """The tape with other values in its order record, which stands at `at`. Where modes are swept, or no stop is given, auto-match has stop 0; a
+    displayed price of 0 has collar 0 in the same way."""
     out = bytearray(tape)
     for option, value in values.items():
         place, packing = FIELDS[option]
         struct.pack_into(packing, out, at + place, value)
-    if values.get("mode") == 2 and (swept == "mode" or "stop" not in values):
-        struct.pack_into("<I", out, at + 12, 0)
+    for option, none, beside in (("mode", 2, "stop"), ("displayed", 0, "collar")):
+        if values.get(option) == none and (swept == option or beside not in values):
+            struct.pack_into("<I", out, at + FIELDS[beside][0], 0)
     return bytes(out)
 
 
@@ -77,7 +82,7 @@ def wanted(args, parser):
     """The option that is swept and its values, and what the others set."""
     given = {o: getattr(args, o) for o in FIELDS if getattr(args, o) is not None}
     if not given:
-        parser.error("one of --stop, --limit, --size and --mode is needed")
+        parser.error("one of %s is needed" % ", ".join("--" + o for o in FIELDS))
     many = [o for o in given if len(given[o]) > 1]
     if len(many) > 1:
         parser.error("--%s and --%s both have several values; one of them may" % tuple(many[:2]))

@@ -54,8 +54,9 @@ def heading(canvas, picture):
     stop = "" if order["mode"] == 2 else " %d" % order["stop"]
     side = form.name_of(form.SIDES, order["side"])
     canvas.text(LEFT, 28, "%s %d, %s%s, limit %d" % (side.capitalize(), order["size"], mode, stop, order["limit"]), class_="title")
-    canvas.text(LEFT, 48, "Quotes at arrival: national %d / %d, exchange %d / %d. Interval %d ms. Tape: %s" % (
-        order["nbb"], order["nbo"], order["bb"], order["bo"], order["interval"], picture.name if len(picture.name) < 60 else "\u2026" + picture.name[-58:]), class_="under")
+    collared = " Collared order: displayed %d, collar %d." % (order["displayed"], order["collar"]) if order["displayed"] else ""
+    canvas.text(LEFT, 48, "Quotes at arrival: national %d / %d, exchange %d / %d.%s Interval %d ms. Tape: %s" % (
+        order["nbb"], order["nbo"], order["bb"], order["bo"], collared, order["interval"], picture.name if len(picture.name) < 60 else "\u2026" + picture.name[-58:]), class_="under")
     average = "" if row["average"] is None else ", average %s" % decimals(row["average"])
     canvas.text(LEFT, 65, "Ended by %s at %d ms, range %d to %d. Filled %d%s: Contra Order %d, others %d." % (
         row["ending"], picture.end, row["low"], row["high"], row["total"], average, row["contra"], row["others"]), class_="under")

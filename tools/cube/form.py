@@ -10,7 +10,8 @@
     amend sequence=6 time=70 of=1 size=2 price=104
     record hex=..                           a record that the forms above cannot say
 
-An order's mode is stop, auto-match or auto-match-limit, the first and the last with stop=PRICE. Marks are `key=yes`: halted, another,
+An order's mode is stop, auto-match or auto-match-limit, the first and the last with stop=PRICE. A collared order on the other side is
+displayed=PRICE collar=CENTS, each left out where it is 0. Marks are `key=yes`: halted, another,
 customer-at-bb, customer-at-bo (order); customer (gtx, limit, market); nonroutable (limit); customer-at-bb, customer-at-bo (quotes).
 A number only has to fit its field: what is out of form is the engine's to refuse. Lines that are empty or begin with # are passed over.
 """
@@ -18,7 +19,9 @@ import struct
 
 SIDES = {"buy": 1, "sell": 2}
 MODES = {"stop": 1, "auto-match": 2, "auto-match-limit": 3}
-ORDER_WORDS = ["size", "limit", "stop", "nbb", "nbo", "bb", "bo", "time", "open", "close", "interval"]
+ORDER_WORDS = ["size", "limit", "stop", "nbb", "nbo", "bb", "bo", "time", "open", "close", "interval", "displayed", "collar"]
+# which of them may be left out, and are then 0
+ORDER_OPTIONS = ["displayed", "collar"]
 ORDER_MARKS = {"halted": 0, "another": 1, "customer-at-bb": 2, "customer-at-bo": 3}
 # a kind: its name, its fields 12, 16, 20, 24, whether it has a side, its marks
 KINDS = {1: ("gtx", ["size", "price"], True, {"customer": 0}),
@@ -101,10 +104,10 @@ class Line:
 
 def order_record(line):
     side, mode = line.choice("side", SIDES), line.choice("mode", MODES)
-    if mode == 2:
-        line.found.setdefault("stop", "0")
+    for word in ORDER_OPTIONS + (["stop"] if mode == 2 else []):
+        line.found.setdefault(word, "0")
     bits = line.marks(ORDER_MARKS)
-    return bytes([side, mode, bits, 0]) + struct.pack("<11I", *[line.number(w) for w in ORDER_WORDS]) + bytes(16)
+    return bytes([side, mode, bits, 0]) + struct.pack("<13I", *[line.number(w) for w in ORDER_WORDS]) + bytes(8)
 
 
 def event_record(kind, line):
@@ -177,12 +180,11 @@ def make(text):
 
 def order_line(b):
     side, mode, bits = name_of(SIDES, b[0]), name_of(MODES, b[1]), b[2]
-    if side is None or mode is None or bits > 15 or b[3] or any(b[48:]):
+    if side is None or mode is None or bits > 15 or b[3] or any(b[56:]):
         return "record hex=" + b.hex()
-    values = dict(zip(ORDER_WORDS, struct.unpack("<11I", b[4:48])))
-    if mode == "auto-match" and values["stop"] == 0:
-        del values["stop"]
-    words = ["side=" + side, "mode=" + mode] + ["%s=%d" % v for v in values.items()]
+    left_out = ORDER_OPTIONS + (["stop"] if mode == "auto-match" else [])
+    values = [(w, n) for w, n in zip(ORDER_WORDS, struct.unpack("<13I", b[4:56])) if n or w not in left_out]
+    words = ["side=" + side, "mode=" + mode] + ["%s=%d" % v for v in values]
     return " ".join(["order"] + words + [m + "=yes" for m, bit in ORDER_MARKS.items() if bits >> bit & 1])
 
 
@@ -222,7 +224,7 @@ def show(tape):
 
 def order_fields(b):
     """The fields of an order record by their names; side and mode are their numbers."""
-    return dict(zip(ORDER_WORDS, struct.unpack("<11I", b[4:48])), side=b[0], mode=b[1])
+    return dict(zip(ORDER_WORDS, struct.unpack("<13I", b[4:56])), side=b[0], mode=b[1])
 
 
 def event_fields(b):

@@ -6,7 +6,9 @@ REASONS = {
     21: ("tape", "tape under 16 or over 65,536 bytes", "The file is no tape: it is too short or too long to be one."),
     22: ("tape", "trailer's first word or last word wrong", "The last 16 bytes are not a trailer: it does not begin with CUBT, or does not end with zero."),
     23: ("tape", "lengths don't add up", "The trailer's offset and event count do not give the tape's length: bytes are missing, or there are too many."),
-    1: ("order", "an order field outside its stated form (size 0 is 3)", "Some field of the order has a value that no order may have: a side, a mode, a mark, a price, a size or a time."),
+    1: ("order", "an order field outside its stated form (size 0 is 3); of a collared order only one field set, or either or the result not a price",
+        "Some field of the order has a value that no order may have: a side, a mode, a mark, a price, a size or a time; or a collared order's displayed price and collar "
+        "do not stand together, or do not give a price."),
     2: ("order", "BB > NBB or BO < NBO", "The exchange's own quote is better than the national best, which can't be."),
     3: ("order", "size 0, (b)(8)", "The order is for no contract."),
     4: ("order", "time < open, (b)(4)", "The order came before the market opened."),
@@ -16,6 +18,7 @@ REASONS = {
     8: ("order", "NBB >= NBO, (b)(9)", "The national market was locked or crossed."),
     9: ("order", "size < 50 and BO - BB = 1, (b)(6)(A)", "The order is under 50 contracts and the exchange's market is one cent wide: there is no price to improve to."),
     10: ("order", "limit < lower bound, (b)(2)", "The order's limit is outside the range of prices that the auction may trade at."),
+    13: ("order", "initiating price below the lower bound, (b)(1)(D)", "The range is empty: the collared order on the other side leaves the order, which is under 50 contracts, no price to trade at."),
     11: ("order", "stop or auto-match limit > initiating price, (c)(1)", "The Contra Order's stop, or its auto-match limit, is worse than the price at which the auction would begin."),
     12: ("order", "size < 50, NBO - NBB = 1, and the guaranteed price isn't NBO - 1, (b)(6)(B)",
          "Under 50 contracts, where the national market is one cent wide, the guaranteed price must improve on it by that cent."),

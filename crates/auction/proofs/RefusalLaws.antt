@@ -7,25 +7,25 @@ use borrow.Author.Tests.{lt-ltb, le-ltb}
 use Rattle.tape.specs.declared.order.Order.{Order}
 use Rattle.auction.specs.rules.Accept.{initiatingOf, firstBound, guaranteedOf, rangeRefusal}
 
-module _ (o : Order) {limit low price high : ℕ} (l : limit ≡ o .limit) (b : low ≡ firstBound o) (p : price ≡ initiatingOf o) (h : high ≡ price) where
+module _ (o : Order) {low high limit stop : ℕ} (b : low ≡ firstBound o) (p : high ≡ initiatingOf o) (l : limit ≡ o .limit) (s : stop ≡ o .stop) where
   pub number-10 : limit < low → 10 ≡ rangeRefusal o
   unfolding rangeRefusal
   number-10 t = simp (rw (l, b) at (lt-ltb limit low t))
 
   pub number-13 : low ≤ limit → high < low → 13 ≡ rangeRefusal o
   unfolding rangeRefusal
-  number-13 s t = simp (rw (l, b) at (le-ltb limit low s), rw (h, p, b) at (lt-ltb high low t))
+  number-13 t u = simp (rw (l, b) at (le-ltb limit low t), rw (p, b) at (lt-ltb high low u))
 
-  pub number-11 : low ≤ limit → low ≤ high → price < o .stop → 11 ≡ rangeRefusal o
+  pub number-11 : low ≤ limit → low ≤ high → high < stop → 11 ≡ rangeRefusal o
   unfolding rangeRefusal
-  number-11 s t u = simp (rw (l, b) at (le-ltb limit low s), rw (h, p, b) at (le-ltb high low t), rw p at (lt-ltb price (o .stop) u))
+  number-11 t u v = simp (rw (l, b) at (le-ltb limit low t), rw (p, b) at (le-ltb high low u), rw (p, s) at (lt-ltb high stop v))
 
   -- the NBBO is one cent wide, and the guaranteed price one cent below NBO
-  module _ (s : low ≤ limit) (t : low ≤ high) (u : o .stop ≤ price) {cent good : Bool} (n : cent ≡ eqb (o .nbo) (o .nbb + 1)) (g : good ≡ eqb (o .nbo) (guaranteedOf o + 1)) where
+  module _ (t : low ≤ limit) (u : low ≤ high) (v : stop ≤ high) {cent good : Bool} (n : cent ≡ eqb (o .nbo) (o .nbb + 1)) (g : good ≡ eqb (o .nbo) (guaranteedOf o + 1)) where
     pub number-12 : (ltb (o .size) 50 && cent && not good) ≡ true → 12 ≡ rangeRefusal o
     unfolding rangeRefusal
-    number-12 v = simp (rw (l, b) at (le-ltb limit low s), rw (h, p, b) at (le-ltb high low t), rw p at (le-ltb price (o .stop) u), rw (n, g) at v)
+    number-12 w = simp (rw (l, b) at (le-ltb limit low t), rw (p, b) at (le-ltb high low u), rw (p, s) at (le-ltb high stop v), rw (n, g) at w)
 
     pub number-0 : (ltb (o .size) 50 && cent && not good) ≡ false → 0 ≡ rangeRefusal o
     unfolding rangeRefusal
-    number-0 v = simp (rw (l, b) at (le-ltb limit low s), rw (h, p, b) at (le-ltb high low t), rw p at (le-ltb price (o .stop) u), rw (n, g) at v)
+    number-0 w = simp (rw (l, b) at (le-ltb limit low t), rw (p, b) at (le-ltb high low u), rw (p, s) at (le-ltb high stop v), rw (n, g) at w)

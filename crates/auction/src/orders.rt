@@ -82,15 +82,16 @@ fn range_refusal(o: Order) -> u32
     ensures { λ r. ⌜ r ≡ rangeRefusal o ⌝ }
 {
     let low = first_bound(o);
-    let price = initiating(o);
-    let high = wide(price);
-    if wide(o.limit) < low {
+    let high = wide(initiating(o));
+    let limit = wide(o.limit);
+    let stop = wide(o.stop);
+    if limit < low {
         return 10;
     }
     if high < low {
         return 13;
     }
-    if price < o.stop {
+    if high < stop {
         return 11;
     }
     if (o.size < 50) & is_next(wide(o.nbb), o.nbo) & !is_next(guaranteed(o), o.nbo) {
