@@ -1,18 +1,18 @@
 -- What the tests of a form say. Assumes nothing.
-use mathlib.Core.Path.{_≡_, refl, sym, subst, _∙_}
+use mathlib.Core.Path.{_≡_, refl, sym, ap, subst, _∙_}
 use mathlib.Core.Bool.{Bool, true, false, cond, not, _&&_, _||_, or-false}
 use mathlib.Core.List.{List, [], _∷_}
 use mathlib.Core.Logic.{⊎-elim}
-use Prim.Native.Nat.{ℕ, zero, suc, _<_, _≤_}
+use Prim.Native.Nat.{ℕ, zero, suc, _+_, _-_, _<_, _≤_}
 use native.Mathlib.Omega.{arith}
 use lib.ListN.{getD}
-use lib.Dec.{leb, eqb}
-use borrow.Author.Tests.{leb-true, ltb-true, eqb-true}
+use lib.Dec.{leb, ltb, eqb}
+use borrow.Author.Tests.{le-leb, lt-ltb, leb-true, ltb-true, eqb-true}
 use Rattle.tape.specs.declared.order.Order.{Order}
 use Rattle.tape.specs.declared.form.Shape.{Shape}
 use Rattle.tape.specs.declared.form.Range.{Range}
 use Rattle.tape.specs.rules.Form.{allFrom, within, collarResult, collarFormed, orderTests, orderFormed, range, inside, unused, sides, sizes, prices, anyNumber, bids, offers, row, shapeOf}
-use Rattle.base.proofs.Bools.{and-left, and-right, or-either}
+use Rattle.base.proofs.Bools.{and-left, and-right, and-both, or-either, same-test}
 
 all-start : (ts : List Bool) (b : Bool) → allFrom b ts ≡ true → b ≡ true
 all-start [] b h = h
@@ -59,6 +59,47 @@ collar-form side displayed collar h =
     let both = and-left (within displayed 1 999999 && within collar 1 999999) (within (collarResult side displayed collar) 1 999999) p in
     with (and-left (within displayed 1 999999) (within collar 1 999999) both) (and-right (within displayed 1 999999) (within collar 1 999999) both) (and-right (within displayed 1 999999 && within collar 1 999999) (within (collarResult side displayed collar) 1 999999) p))
     (or-either (eqb displayed 0 && eqb collar 0) _ h)
+
+-- the same in fewer tests: where the displayed price and the result are prices, and the collar is not 0, the collar is one
+module _ (d c : ℕ) where
+  price-if : (x : ℕ) → 1 ≤ x → x ≤ 999999 → within x 1 999999 ≡ true
+  price-if x l h = and-both (le-leb 1 x l) (le-leb x 999999 h)
+
+  -- a sell, a buy
+  sum-tests : (within d 1 999999 && within c 1 999999 && within (d + c) 1 999999) ≡ (within d 1 999999 && leb 1 c && leb (d + c) 999999)
+  sum-tests =
+      same-test _ _
+      (λ h.
+      let l = and-left (within d 1 999999 && within c 1 999999) (within (d + c) 1 999999) h in
+      and-both (and-both (and-left (within d 1 999999) (within c 1 999999) l) (le-leb 1 c (within-ge c 1 999999 (and-right (within d 1 999999) (within c 1 999999) l))))
+      (le-leb (d + c) 999999 (within-le (d + c) 1 999999 (and-right (within d 1 999999 && within c 1 999999) (within (d + c) 1 999999) h))))
+      (λ h.
+      let l = and-left (within d 1 999999 && leb 1 c) (leb (d + c) 999999) h in
+      let low : 1 ≤ c = leb-true 1 c (and-right (within d 1 999999) (leb 1 c) l) in
+      let high : d + c ≤ 999999 = leb-true (d + c) 999999 (and-right (within d 1 999999 && leb 1 c) (leb (d + c) 999999) h) in
+      and-both (and-both (and-left (within d 1 999999) (leb 1 c) l) (price-if c low (omega arith))) (price-if (d + c) (omega arith) high))
+
+  difference-tests : (within d 1 999999 && within c 1 999999 && within (d - c) 1 999999) ≡ (within d 1 999999 && leb 1 c && ltb c d)
+  difference-tests =
+      same-test _ _
+      (λ h.
+      let l = and-left (within d 1 999999 && within c 1 999999) (within (d - c) 1 999999) h in
+      let some : 1 ≤ d - c = within-ge (d - c) 1 999999 (and-right (within d 1 999999 && within c 1 999999) (within (d - c) 1 999999) h) in
+      and-both (and-both (and-left (within d 1 999999) (within c 1 999999) l) (le-leb 1 c (within-ge c 1 999999 (and-right (within d 1 999999) (within c 1 999999) l)))) (lt-ltb c d (omega arith)))
+      (λ h.
+      let l = and-left (within d 1 999999 && leb 1 c) (ltb c d) h in
+      let w : within d 1 999999 ≡ true = and-left (within d 1 999999) (leb 1 c) l in
+      let high : d ≤ 999999 = within-le d 1 999999 w in
+      let low : 1 ≤ c = leb-true 1 c (and-right (within d 1 999999) (leb 1 c) l) in
+      let below : c < d = ltb-true c d (and-right (within d 1 999999 && leb 1 c) (ltb c d) h) in
+      and-both (and-both w (price-if c low (omega arith))) (price-if (d - c) (omega arith) (omega arith)))
+
+  pub collar-tests : (side : ℕ) → collarFormed side d c ≡ ((eqb d 0 && eqb c 0) || (within d 1 999999 && leb 1 c && ((eqb side 2 && leb (d + c) 999999) || (not (eqb side 2) && ltb c d))))
+  collar-tests side = ap (λ (b : Bool). (eqb d 0 && eqb c 0) || b) (go (eqb side 2))
+    where
+      go : (t : Bool) → (within d 1 999999 && within c 1 999999 && within (cond t (d + c) (d - c)) 1 999999) ≡ (within d 1 999999 && leb 1 c && ((t && leb (d + c) 999999) || (not t && ltb c d)))
+      go true = sum-tests ∙ ap (λ (b : Bool). within d 1 999999 && leb 1 c && b) (sym (or-false (leb (d + c) 999999)))
+      go false = difference-tests
 
 displayed-le : {side displayed collar : ℕ} → CollarForm side displayed collar → displayed ≤ 999999
 displayed-le (without d c) = omega (arith, d)

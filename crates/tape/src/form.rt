@@ -1,30 +1,20 @@
 // The stated form of an order and of an event.
 ghost use mathlib.Core.Path.{_≡_};
 ghost use mathlib.Core.Bool.{true};
-ghost use Rattle.tape.specs.rules.Form.{allFrom, collarResult, collarFormed, orderFormed, inside, shapeTests, eventFormed};
+ghost use Rattle.tape.specs.rules.Form.{allFrom, collarFormed, orderFormed, inside, shapeTests, eventFormed};
 use crate::event::Event;
 use crate::order::Order;
 use words::bits::mark;
 
-// The displayed price of a collared order plus the collar for a sell, minus it for a buy, and 0 where a buy's collar is the higher.
-fn collar_result(side: u8, displayed: u32, collar: u32) -> u64
-    ensures { λ r. ⌜ r ≡ collarResult side displayed collar ⌝ }
-{
-    if side == 2 {
-        return base::wide(displayed) + base::wide(collar);
-    }
-    base::wide(base::less(displayed, collar))
-}
-
-// There is no collared order, or its displayed price, the collar and the result are prices.
+// There is no collared order, or its displayed price, the collar and the result are prices. The result of a sell is their sum; that of a buy, the difference, is a price where the collar is below the displayed price.
 fn collar_form(side: u8, displayed: u32, collar: u32) -> bool
     ensures { λ r. ⌜ r ≡ collarFormed side displayed collar ⌝ }
 {
-    let result = collar_result(side, displayed, collar);
+    let sum = base::wide(displayed) + base::wide(collar);
     ((displayed == 0) & (collar == 0))
         | (((1 <= displayed) & (displayed <= 999999))
-            & ((1 <= collar) & (collar <= 999999))
-            & ((1 <= result) & (result <= 999999)))
+            & (1 <= collar)
+            & (((side == 2) & (sum <= 999999)) | ((side != 2) & (collar < displayed))))
 }
 
 // Every field of an order is in its range: one test with no branch.
