@@ -86,12 +86,23 @@ static void out_of_order(uint32_t size)
     respond(size, 950);
 }
 
-static void tape(uint32_t mode)
+static void tape_of(struct peer_order o)
 {
-    struct peer_order o = order_of(mode);
-
     length[0] = build_tape(tapes[0], &o, event, n_events);
     n_tapes = 1;
+}
+
+static void tape(uint32_t mode) { tape_of(order_of(mode)); }
+
+/* An order of 49, for which a collared order on the other side makes the initiating price 989. */
+static struct peer_order collared(void)
+{
+    struct peer_order o = order_of(PEER_MATCH);
+
+    o.size = 49;
+    o.displayed = 1040;
+    o.collar = 50;
+    return o;
 }
 
 /* The market order that takes all that the order buys. */
@@ -183,6 +194,8 @@ static int make(const char *name)
 #define IS(k) (strcmp(kind, k) == 0)
     if (IS("order")) {
         tape(PEER_STOP);
+    } else if (IS("collared")) {
+        tape_of(collared());
     } else if (IS("standing")) {
         responses(n, 0, 100);
         tape(PEER_STOP);
@@ -252,7 +265,7 @@ static int make(const char *name)
 }
 
 static const char *const cases[] = {
-    "refused", "order", "standing-0", "standing-1", "standing-8", "standing-63", "quotes-0", "quotes-8", "quotes-63", "pairs-0", "pairs-8", "pairs-63",
+    "refused", "order", "collared", "standing-0", "standing-1", "standing-8", "standing-63", "quotes-0", "quotes-8", "quotes-63", "pairs-0", "pairs-8", "pairs-63",
     "amended-1", "amended-8", "amended-63",
     "limits-8", "resent-8", "shared-1", "shared-8", "shared-40", "shared-64", "shared_market-0", "shared_market-1", "shared_market-8", "shared_market-40",
     "shared_market-64", "whole-40", "whole-64", "whole_market-0", "whole_market-40", "whole_market-64", "apart-40", "apart-64", "apart_market-0",
