@@ -1,6 +1,6 @@
 -- What a collared order moves, and what it leaves. Assumes nothing.
 use mathlib.Core.Path.{_≡_, refl, sym, ap, _∙_}
-use mathlib.Core.Bool.{Bool, true, false, cond, not, _&&_, _||_}
+use mathlib.Core.Bool.{Bool, true, false, cond, not, _&&_, _||_, and-true}
 use mathlib.Core.Logic.{⊎-elim}
 use Prim.Native.Nat.{ℕ, _+_, _-_, _≤_, _<_, min, max}
 use native.Mathlib.Omega.{arith}
@@ -20,19 +20,19 @@ use Rattle.auction.proofs.Accepted.{Early, range-by, refusal-by, formed
 
 -- ---- the form
 
-and-true : (a b : Bool) → (a && b) ≡ (a && true && b)
-and-true true b = refl
-and-true false b = refl
-
 form : (o : Order) (d c : ℕ) → orderFormed (recollared d c o) ≡ (orderFormed (recollared 0 0 o) && collarFormed (o .side) d c)
 unfolding orderFormed orderTests
-form o d c = and-true (allFrom true (take 14 (orderTests o))) (collarFormed (o .side) d c)
+form o d c = ap (λ (b : Bool). b && collarFormed (o .side) d c) (sym (and-true (allFrom true (take 14 (orderTests o)))))
 
 -- ---- the initiating price
 
 none-price : (b : Order) → b .displayed ≡ 0 → initiatingOf b ≡ quotedInitiating b
 unfolding initiatingOf countedOffer
 none-price b z = simp (eq-eqb _ _ z)
+
+large-quoted : (b : Order) → 50 ≤ b .size → initiatingOf b ≡ quotedInitiating b
+unfolding initiatingOf
+large-quoted b h = simp (le-ltb _ _ h)
 
 some-price : (b : Order) → (b .displayed ≡ 0 → ⊥) → initiatingOf b ≡ cond (ltb (b .size) 50) (min (min (b .limit) (b .nbo)) (b .displayed - b .collar - 1)) (min (b .limit) (b .nbo))
 unfolding initiatingOf countedOffer
@@ -145,16 +145,14 @@ by-price o d c f g e =
     let a : openedBy s (buyOrder (recollared d c o)) ≡ openedBy s (buyOrder o) = ap (openedBy s) (buy-is o d c) ∙ same-opened s (buyOrder o) x c e′ in
     simp (r, a)
 
-large-price : (b : Order) (d c : ℕ) → 50 ≤ b .size → initiatingOf (recollared d c b) ≡ initiatingOf b
-unfolding initiatingOf
-large-price b d c h = simp (le-ltb _ _ h)
-
 buy-size : (o : Order) → buyOrder o .size ≡ o .size
 unfolding buyOrder mirroredOrder
 buy-size o = by (λ (b : Order). b .size ≡ o .size) (eqb (o .side) 2) _ _ (λ _. refl) (λ _. refl)
 
 from-50 : (o : Order) (d c : ℕ) → orderFormed o ≡ true → orderFormed (recollared d c o) ≡ true → 50 ≤ o .size → acceptOf (recollared d c o) ≡ acceptOf o
-from-50 o d c f g h = by-price o d c f g (ap initiatingOf (buy-is o d c) ∙ large-price (buyOrder o) _ c (omega (arith, buy-size o)))
+from-50 o d c f g h =
+    let large : 50 ≤ buyOrder o .size = omega (arith, buy-size o) in
+    by-price o d c f g (ap initiatingOf (buy-is o d c) ∙ large-quoted (recollared (displayedFor (eqb (o .side) 2) d) c (buyOrder o)) large ∙ sym (large-quoted (buyOrder o) large))
 
 -- ---- 13
 
@@ -217,10 +215,6 @@ no-13 : (b : Order) → (initiatingOf b ≡ quotedInitiating b) → buyRefusal b
 no-13 b e =
     refusal-by b (λ k. k ≡ 13 → ⊥) (λ n l m z. omega arith)
     (λ p. range-by b (λ k. k ≡ 13 → ⊥) (λ _ z. omega arith) (λ l h _. omega (arith, e, quoted-fits b p l)) (λ _ z. omega arith) (λ _ z. omega arith) (λ _ _ z. omega arith))
-
-large-quoted : (b : Order) → 50 ≤ b .size → initiatingOf b ≡ quotedInitiating b
-unfolding initiatingOf
-large-quoted b h = simp (le-ltb _ _ h)
 
 thirteen-only : (o : Order) → orderRefusal o ≡ 13 → (o .size < 50) × (o .displayed ≡ 0 → ⊥)
 thirteen-only o z =

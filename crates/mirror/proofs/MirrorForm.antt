@@ -1,6 +1,6 @@
 -- The mirror of an order or an event in form is in form, and twice is once. Assumes nothing.
 use mathlib.Core.Path.{_≡_, refl, sym, ap, _∙_}
-use mathlib.Core.Bool.{Bool, true, false, cond, not, _&&_, _||_}
+use mathlib.Core.Bool.{Bool, true, false, cond, not, _&&_, _||_, or-true}
 use Prim.Native.Nat.{ℕ, _+_, _-_, _≤_, _<_}
 use native.Mathlib.Omega.{arith}
 use lib.Dec.{leb, eqb}
@@ -112,10 +112,6 @@ collar-formed s d c a b (with hd hc hp) =
     let m : within (collarResult (mirroredSide s) (mirrored d) c) 1 999999 ≡ true =
     ap (λ (p : ℕ). within p 1 999999) (collared-mirrored s d c a b (omega (arith, within-le d 1 999999 hd)) (collar-below s d c hp)) ∙ price-in (collarResult s d c) hp in
     simp (ne-eqb d 0 (λ q. omega (arith, q, within-ge d 1 999999 hd)), price-in d hd, hc, m, or-true (eqb (mirrored d) 0 && eqb c 0))
-  where
-    or-true : (t : Bool) → (t || true) ≡ true
-    or-true true = refl
-    or-true false = refl
 
 pub order-form : (o : Order) → orderFormed o ≡ true → orderFormed (mirroredOrder o) ≡ true
 unfolding mirroredOrder mirrored

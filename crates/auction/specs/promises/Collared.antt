@@ -33,18 +33,24 @@ recollared displayed collar o =
       collar = collar;
     }
 
--- the auction with other terms, and with another initiating price
-abbrev pub withTerms : Terms → Auction → Auction
-withTerms t a =
-    record {
-      head = record { terms = t; quotes = a .head .quotes; sequence = a .head .sequence; clock = a .head .clock; ending = a .head .ending; market = a .head .market; offered = a .head .offered };
-      board = a .board;
-    }
-
+-- the auction with another initiating price
 abbrev pub withInitiating : ℕ → Auction → Auction
 withInitiating p a =
-    let t = a .head .terms in
-    withTerms (record { sell = t .sell; mode = t .mode; size = t .size; initiating = p; floor = t .floor; stop = t .stop; interval = t .interval }) a
+    let h = a .head in
+    let t = h .terms in
+    record {
+      head =
+          record {
+            terms = record { sell = t .sell; mode = t .mode; size = t .size; initiating = p; floor = t .floor; stop = t .stop; interval = t .interval };
+            quotes = h .quotes;
+            sequence = h .sequence;
+            clock = h .clock;
+            ending = h .ending;
+            market = h .market;
+            offered = h .offered;
+          };
+      board = a .board;
+    }
 
 -- none of 1 to 9 refuses the order
 abbrev pub reachesRange : Order → Bool
@@ -64,7 +70,7 @@ quotedRefusal b =
 pub record Collared : Type 0 where
   -- the form of the two fields is tested beside that of all others, at every size
   pub form : (o : Order) (d c : ℕ) → orderFormed (recollared d c o) ≡ (orderFormed (recollared 0 0 o) && collarFormed (o .side) d c)
-  -- both fields zero: document 01 as it was
+  -- both fields zero: document 01 as it was (2 to 9 do not read them)
   pub none-price : (b : Order) → b .displayed ≡ 0 → initiatingOf b ≡ quotedInitiating b
   pub none-number : (o : Order) → o .displayed ≡ 0 → reachesRange o ≡ true → orderRefusal o ≡ quotedRefusal (buyOrder o)
   -- a collared order: its displayed price minus the collar stands for BO, also where it is above the quoted one, and under 50 contracts alone
