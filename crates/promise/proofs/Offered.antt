@@ -8,9 +8,9 @@ use lib.Dec.{leb, eqb}
 use borrow.Author.Tests.{eq-eqb, ne-eqb}
 use Rattle.base.specs.Lists.{sum}
 use Rattle.board.specs.declared.Response.{Response}
-use Rattle.board.specs.rules.Board.{inSequence, liveOf}
-use Rattle.board.proofs.Theorems.{ordering}
+use Rattle.board.specs.rules.Board.{liveOf}
 use Rattle.share.specs.rules.Fills.{sizes}
+use Rattle.trade.proofs.WriteLaws.{sizes-sequence}
 use Rattle.tape.specs.declared.order.Order.{Order}
 use Rattle.tape.specs.declared.event.Event.{Event}
 use Rattle.tape.specs.rules.Form.{eventFormed}
@@ -25,7 +25,7 @@ use Rattle.events.specs.rules.Step.{sightOf, stepOf}
 use Rattle.run.specs.rules.Run.{Said, said, run, isTaken}
 use Rattle.run.specs.promises.Demands.{Sound, brings, takesAway, flipped, mirroredRecords}
 use Rattle.run.proofs.Mirrors.{mirrors, same-name, steps}
-use Rattle.run.proofs.BoardSteps.{sees, sum-map}
+use Rattle.run.proofs.BoardSteps.{sees}
 use Rattle.run.proofs.Resend.{keeps}
 use Rattle.run.proofs.SoundLaws.{sound-opened, sound-run, closed-ended}
 use Rattle.run.proofs.OnOffer.{on-offer}
@@ -36,10 +36,6 @@ use Rattle.promise.specs.promises.Parts.{auctionAfter, Offered}
 use Rattle.promise.proofs.Carried.{accepted}
 use Rattle.promise.proofs.RealLaws.{sizes-sent}
 use Rattle.promise.proofs.Standing.{by-records, takes-is, ours-after}
-
--- the sum of the sizes, in whatever order
-sizes-sequence : (rs : List Response) → sum (sizes (inSequence rs)) ≡ sum (sizes rs)
-sizes-sequence rs = omega (arith, sum-map (inSequence rs), sum-map rs, ordering .sums-stay (λ r. r .size) rs)
 
 -- an auction's responses have the sizes that stand on its board
 sizes-are : (a : Auction) → sum (sizes (liveOf (a .board))) ≡ sum (sizes (responses a))

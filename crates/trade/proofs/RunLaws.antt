@@ -10,7 +10,7 @@ use borrow.Author.Tests.{lt-ltb, le-ltb, le-leb, lt-leb, eq-eqb, ne-eqb}
 use lib.Dec.{leb, ltb, eqb}
 use lib.ListN.{length, getD}
 use lib.Pow.{pow-pos}
-use Rattle.base.proofs.Bools.{by, bool-or, and-both, and-no-left, and-no-right}
+use Rattle.base.proofs.Bools.{by, bool-or, and-both, and-no-left, and-no-right, or-either}
 use Rattle.base.proofs.Numbers.{le-or-lt, eq-or}
 use Rattle.words.specs.rules.Bits.{bitAt, withBit, withoutBit, trailingZeros, withoutLowest}
 use Rattle.words.proofs.BitLaws.{bit-or, bit-half, bit-low, bit-le, no-bit, past-bit, with-clear, with-same, with-other, without-set, without-not, without-in, without-lt, without-lowest, lowest-set, LowestBit}
@@ -159,12 +159,8 @@ sum-bit a b (suc j) h =
     ∙ sum-bit (a / 2) (b / 2) j (λ k t u. h (suc k) (sym (bit-half a k) ∙ t) (sym (bit-half b k) ∙ u))
     ∙ ap₂ (λ (x y : Bool). x || y) (bit-half a j) (bit-half b j)
 
-either : (x y : Bool) → (x || y) ≡ true → (x ≡ true) ⊎ (y ≡ true)
-either true y e = inl refl
-either false y e = inr e
-
 sum-in : (a b j : ℕ) → Apart a b → bitAt (a + b) j ≡ true → (bitAt a j ≡ true) ⊎ (bitAt b j ≡ true)
-sum-in a b j h t = either (bitAt a j) (bitAt b j) (sym (sum-bit a b j h) ∙ t)
+sum-in a b j h t = or-either (bitAt a j) (bitAt b j) (sym (sum-bit a b j h) ∙ t)
 
 sum-left : (a b j : ℕ) → Apart a b → bitAt a j ≡ true → bitAt (a + b) j ≡ true
 sum-left a b j h t = sum-bit a b j h ∙ ap (λ (x : Bool). x || bitAt b j) t
