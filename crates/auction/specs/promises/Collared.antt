@@ -8,7 +8,6 @@ use Rattle.tape.specs.rules.Form.{collarFormed, orderFormed}
 use Rattle.mirror.specs.rules.Mirror.{buyOrder}
 use Rattle.auction.specs.rules.Accept.{initiatingOf, firstBound, orderRefusal, acceptOf}
 use Rattle.auction.specs.declared.Auction.{Auction}
-use Rattle.auction.specs.declared.Terms.{Terms}
 use Rattle.auction.specs.declared.Entry.the-variants.{Accepted}
 
 -- the order with another displayed price and collar

@@ -1,5 +1,5 @@
 -- Which orders are accepted, and the auction that one opens (document 01, "Numbers for no", "Range and guarantee", and W-205 for collared orders): a sell is tested as the buy that it mirrors.
-use mathlib.Core.Bool.{Bool, true, false, cond, not, _&&_, _||_}
+use mathlib.Core.Bool.{Bool, false, cond, not, _&&_, _||_}
 use Prim.Native.Nat.{ℕ, _+_, _-_, min, max}
 use lib.Dec.{leb, ltb, eqb}
 use Rattle.words.specs.rules.Bits.{bitAt}
@@ -8,13 +8,10 @@ use Rattle.tape.specs.declared.order.Order.{Order}
 use Rattle.tape.specs.rules.Form.{collarResult, orderFormed}
 use Rattle.mirror.specs.rules.Mirror.{buyOrder}
 use Rattle.auction.specs.declared.Auction.{Auction}
-use Rattle.auction.specs.declared.Head.{Head}
 use Rattle.auction.specs.declared.Terms.{Terms}
 use Rattle.auction.specs.declared.Quotes.{Quotes}
 use Rattle.auction.specs.declared.Market.{Market}
-use Rattle.auction.specs.declared.Ending.{Ending}
 use Rattle.auction.specs.declared.Ending.the-variants.{Open, Time}
-use Rattle.auction.specs.declared.Entry.{Entry}
 use Rattle.auction.specs.declared.Entry.the-variants.{Accepted, Refused}
 use Rattle.auction.specs.declared.Opening.{Opening}
 
