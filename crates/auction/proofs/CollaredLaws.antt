@@ -15,6 +15,7 @@ use Rattle.tape.specs.rules.Form.{allFrom, collarFormed, orderTests, orderForme
 use Rattle.mirror.specs.rules.Mirror.{mirroredUnless, mirroredOrder, buyOrder}
 use Rattle.auction.specs.rules.Accept.{countedOffer, initiatingOf, tickOf, boundOf, bidMark, firstBound, guaranteedOf, rangeRefusal, buyRefusal, orderRefusal, termsOf, quotesOf, openedBy, acceptOf}
 use Rattle.auction.specs.promises.Collared.{recollared, withInitiating, reachesRange, quotedInitiating, quotedRefusal, Collared}
+use Rattle.auction.specs.declared.Auction.{Auction}
 use Rattle.auction.specs.declared.Entry.the-variants.{Accepted}
 use Rattle.auction.proofs.Accepted.{Early, range-by, refusal-by, formed-refusal, refusal-of, opened}
 
@@ -210,6 +211,10 @@ none-number o z =
     (λ _ r. no (sym r))
     (λ _ r. let e = early (buyOrder o) r in e .1 ∙ none-range (buyOrder o) (buy-none o z) (e .0))
 
+none-auction : (o : Order) → o .displayed ≡ 0 → acceptOf o .answer ≡ Accepted → acceptOf o .auction .head .terms .initiating ≡ quotedInitiating (buyOrder o)
+unfolding openedBy termsOf
+none-auction o z h = ap (λ (a : Auction). a .head .terms .initiating) (opened o h .auction) ∙ none-price (buyOrder o) (buy-none o z)
+
 -- a size of 50 and more, or both fields zero, leaves no 13
 no-13 : (b : Order) → (initiatingOf b ≡ quotedInitiating b) → buyRefusal b ≡ 13 → ⊥
 no-13 b e =
@@ -231,6 +236,7 @@ collared =
       form = form;
       none-price = none-price;
       none-number = none-number;
+      none-auction = none-auction;
       some-price = some-price;
       up-to-10 = up-to-10;
       one-bound = one-bound;

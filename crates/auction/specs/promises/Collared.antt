@@ -72,6 +72,7 @@ pub record Collared : Type 0 where
   -- both fields zero: document 01 as it was (2 to 9 do not read them)
   pub none-price : (b : Order) → b .displayed ≡ 0 → initiatingOf b ≡ quotedInitiating b
   pub none-number : (o : Order) → o .displayed ≡ 0 → reachesRange o ≡ true → orderRefusal o ≡ quotedRefusal (buyOrder o)
+  pub none-auction : (o : Order) → o .displayed ≡ 0 → acceptOf o .answer ≡ Accepted → acceptOf o .auction .head .terms .initiating ≡ quotedInitiating (buyOrder o)
   -- a collared order: its displayed price minus the collar stands for BO, also where it is above the quoted one, and under 50 contracts alone
   pub some-price : (b : Order) → (b .displayed ≡ 0 → ⊥) → initiatingOf b ≡ cond (ltb (b .size) 50) (min (min (b .limit) (b .nbo)) (b .displayed - b .collar - 1)) (min (b .limit) (b .nbo))
   -- two orders in form that differ in the two fields alone: 2 to 10 refuse both or neither, and the bound is one
