@@ -1,11 +1,24 @@
--- The numbers 10, 13, 11 and 12, from what the code computes and tests. Assumes nothing.
-use mathlib.Core.Path.{_≡_}
-use mathlib.Core.Bool.{Bool, true, false, not, _&&_}
-use Prim.Native.Nat.{ℕ, _+_, _≤_, _<_}
+-- The two offers, and the numbers 10, 13, 11 and 12, from what the code computes and tests. Assumes nothing.
+use mathlib.Core.Path.{_≡_, refl, sym}
+use mathlib.Core.Bool.{Bool, true, false, cond, not, _&&_}
+use Prim.Native.Nat.{ℕ, _+_, _-_, _≤_, _<_}
 use lib.Dec.{ltb, eqb}
-use borrow.Author.Tests.{lt-ltb, le-ltb}
+use borrow.Author.Tests.{lt-ltb, le-ltb, not-true, not-false}
+use Rattle.base.proofs.Bools.{no}
 use Rattle.tape.specs.declared.order.Order.{Order}
-use Rattle.auction.specs.rules.Accept.{initiatingOf, firstBound, guaranteedOf, rangeRefusal}
+use Rattle.auction.specs.rules.Accept.{countedOffer, initiatingOf, firstBound, guaranteedOf, rangeRefusal}
+
+-- what counts as BO, where it is asked for and there is a collared order; else BO
+module _ (o : Order) where
+  pub offer-collared : (counted : Bool) → (counted && not (eqb (o .displayed) 0)) ≡ true → o .displayed - o .collar ≡ cond counted (countedOffer o) (o .bo)
+  unfolding countedOffer
+  offer-collared true h = simp (not-true (eqb (o .displayed) 0) h)
+  offer-collared false h = no (sym h)
+
+  pub offer-quoted : (counted : Bool) → (counted && not (eqb (o .displayed) 0)) ≡ false → o .bo ≡ cond counted (countedOffer o) (o .bo)
+  unfolding countedOffer
+  offer-quoted true h = simp (not-false (eqb (o .displayed) 0) h)
+  offer-quoted false h = refl
 
 module _ (o : Order) {low high limit stop : ℕ} (b : low ≡ firstBound o) (p : high ≡ initiatingOf o) (l : limit ≡ o .limit) (s : stop ≡ o .stop) where
   pub number-10 : limit < low → 10 ≡ rangeRefusal o

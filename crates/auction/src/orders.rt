@@ -1,5 +1,6 @@
 // Acceptance: the numbers 1 to 13, and the auction that an accepted order opens.
 ghost use mathlib.Core.Path.{_≡_};
+ghost use mathlib.Core.Bool.{cond};
 ghost use Prim.Native.Nat.{_+_, _≤_};
 ghost use lib.Dec.{eqb};
 ghost use Rattle.auction.specs.rules.Accept.{countedOffer, initiatingOf, tickOf, boundOf, firstBound, guaranteedOf, rangeRefusal, buyRefusal, orderRefusal, termsOf, quotesOf, openedBy, noAuction, acceptOf};
@@ -19,21 +20,21 @@ use mirror::buy_order;
 use tape::Order;
 use words::bits::mark;
 
-// What counts as BO in the initiating price: BO, or the displayed price minus the collar of a collared order on the other side.
-fn counted_offer(o: Order) -> u32
-    ensures { λ r. ⌜ r ≡ countedOffer o ⌝ }
+// BO as it is quoted, or what counts as BO in the initiating price: BO, or the displayed price minus the collar of a collared order on the other side.
+fn offer(o: Order, counted: bool) -> u32
+    ensures { λ r. ⌜ r ≡ cond counted (countedOffer o) (o .bo) ⌝ }
 {
-    if o.displayed == 0 {
-        return o.bo;
+    if counted & (o.displayed != 0) {
+        return less(o.displayed, o.collar);
     }
-    less(o.displayed, o.collar)
+    o.bo
 }
 
 fn initiating(o: Order) -> u32
     ensures { λ r. ⌜ r ≡ initiatingOf o ⌝ }
 {
     if o.size < 50 {
-        return lower(lower(o.limit, o.nbo), less(counted_offer(o), 1));
+        return lower(lower(o.limit, o.nbo), less(offer(o, true), 1));
     }
     lower(o.limit, o.nbo)
 }
@@ -125,7 +126,7 @@ fn buy_refusal(o: Order) -> u32
     if o.nbo <= o.nbb {
         return 8;
     }
-    if (o.size < 50) & is_next(wide(o.bb), o.bo) {
+    if (o.size < 50) & is_next(wide(o.bb), offer(o, false)) {
         return 9;
     }
     range_refusal(o)

@@ -50,19 +50,22 @@ returns-7 c = simp ((c .before .before .before .before .before .before .before .
 wide-requires-3 : tie.Need-wide-requires-3
 wide-requires-3 c κs = search needs
 
+offer-requires : tie.Need-offer-requires
+offer-requires c κs = search needs
+
 is-next-requires : tie.Need-is-next-requires
 is-next-requires c κs = search needs
 
 returns-8 : tie.Need-returns-8
 unfolding buyRefusal
-returns-8 c = simp ((c .before .before .before .before .before .before .before .before .before .before .before .before .before .before .before .before .before .if1 .left), (ne-eqb _ _ (c .before .before .before .before .before .before .before .before .before .before .before .before .before .before .before .if2 .left)), (le-ltb _ _ (c .before .before .before .before .before .before .before .before .before .before .before .before .before .if3 .left)), (rw (c .before .before .before .before .before .before .before .before .before .before .before .before .wide .ensures .0, c .before .before .before .before .before .before .before .before .before .before .before .wide2 .ensures .0) at (lt-leb _ _ (c .before .before .before .before .before .before .before .before .before .before .if4 .left))), (rw (c .before .before .before .before .before .before .before .before .before .mark .ensures) at (c .before .before .before .before .before .before .before .before .if5 .left)), (rw (c .before .before .before .before .before .before .before .mark2 .ensures) at (c .before .before .before .before .before .before .if6 .left)), (lt-leb _ _ (c .before .before .before .before .if7 .left)), (rw (c .before .is-next .ensures, c .before .before .wide3 .ensures .0) at (c .if8 .taken)))
+returns-8 c = simp ((c .before .before .before .before .before .before .before .before .before .before .before .before .before .before .before .before .before .before .if1 .left), (ne-eqb _ _ (c .before .before .before .before .before .before .before .before .before .before .before .before .before .before .before .before .if2 .left)), (le-ltb _ _ (c .before .before .before .before .before .before .before .before .before .before .before .before .before .before .if3 .left)), (rw (c .before .before .before .before .before .before .before .before .before .before .before .before .before .wide .ensures .0, c .before .before .before .before .before .before .before .before .before .before .before .before .wide2 .ensures .0) at (lt-leb _ _ (c .before .before .before .before .before .before .before .before .before .before .before .if4 .left))), (rw (c .before .before .before .before .before .before .before .before .before .before .mark .ensures) at (c .before .before .before .before .before .before .before .before .before .if5 .left)), (rw (c .before .before .before .before .before .before .before .before .mark2 .ensures) at (c .before .before .before .before .before .before .before .if6 .left)), (lt-leb _ _ (c .before .before .before .before .before .if7 .left)), (rw (c .before .is-next .ensures, c .before .before .offer .ensures, c .before .before .before .wide3 .ensures .0) at (c .if8 .taken)))
 
 range-refusal-requires : tie.Need-range-refusal-requires
 range-refusal-requires c κs = search needs
 
 returns-9 : tie.Need-returns-9
 unfolding buyRefusal
-returns-9 c = simp ((c .before .before .before .before .before .before .before .before .before .before .before .before .before .before .before .before .before .before .if1 .left), (ne-eqb _ _ (c .before .before .before .before .before .before .before .before .before .before .before .before .before .before .before .before .if2 .left)), (le-ltb _ _ (c .before .before .before .before .before .before .before .before .before .before .before .before .before .before .if3 .left)), (rw (c .before .before .before .before .before .before .before .before .before .before .before .before .before .wide .ensures .0, c .before .before .before .before .before .before .before .before .before .before .before .before .wide2 .ensures .0) at (lt-leb _ _ (c .before .before .before .before .before .before .before .before .before .before .before .if4 .left))), (rw (c .before .before .before .before .before .before .before .before .before .before .mark .ensures) at (c .before .before .before .before .before .before .before .before .before .if5 .left)), (rw (c .before .before .before .before .before .before .before .before .mark2 .ensures) at (c .before .before .before .before .before .before .before .if6 .left)), (lt-leb _ _ (c .before .before .before .before .before .if7 .left)), (rw (c .before .before .is-next .ensures, c .before .before .before .wide3 .ensures .0) at (c .before .if8 .left))) (c .range-refusal .ensures)
+returns-9 c = simp ((c .before .before .before .before .before .before .before .before .before .before .before .before .before .before .before .before .before .before .before .if1 .left), (ne-eqb _ _ (c .before .before .before .before .before .before .before .before .before .before .before .before .before .before .before .before .before .if2 .left)), (le-ltb _ _ (c .before .before .before .before .before .before .before .before .before .before .before .before .before .before .before .if3 .left)), (rw (c .before .before .before .before .before .before .before .before .before .before .before .before .before .before .wide .ensures .0, c .before .before .before .before .before .before .before .before .before .before .before .before .before .wide2 .ensures .0) at (lt-leb _ _ (c .before .before .before .before .before .before .before .before .before .before .before .before .if4 .left))), (rw (c .before .before .before .before .before .before .before .before .before .before .before .mark .ensures) at (c .before .before .before .before .before .before .before .before .before .before .if5 .left)), (rw (c .before .before .before .before .before .before .before .before .before .mark2 .ensures) at (c .before .before .before .before .before .before .before .before .if6 .left)), (lt-leb _ _ (c .before .before .before .before .before .before .if7 .left)), (rw (c .before .before .is-next .ensures, c .before .before .before .offer .ensures, c .before .before .before .before .wide3 .ensures .0) at (c .before .if8 .left))) (c .range-refusal .ensures)
 
 pub buy-refusal-spec : {M : Type 1} → statement M
 buy-refusal-spec =
@@ -81,6 +84,7 @@ buy-refusal-spec =
     returns-6
     returns-7
     wide-requires-3
+    offer-requires
     is-next-requires
     returns-8
     range-refusal-requires

@@ -7,8 +7,8 @@ use Rattle.auction.proofs.orders.initiating.Tie as tie
 lower-requires : tie.Need-lower-requires
 lower-requires c κs = search needs
 
-counted-offer-requires : tie.Need-counted-offer-requires
-counted-offer-requires c κs = search needs
+offer-requires : tie.Need-offer-requires
+offer-requires c κs = search needs
 
 less-requires : tie.Need-less-requires
 less-requires c κs = search needs
@@ -32,7 +32,7 @@ initiating-spec =
     tie.close
     (tie.spec
     lower-requires
-    counted-offer-requires
+    offer-requires
     less-requires
     lower-requires-2
     returns
