@@ -32,11 +32,11 @@ void build_order(unsigned char *p, const struct peer_order *o)
     build_word(p + 52, o->collar);
 }
 
-void build_event(unsigned char *p, const struct peer_event *e)
+void build_event(unsigned char *p, size_t form, const struct peer_event *e)
 {
     int i;
 
-    memset(p, 0, PEER_EVENT_BYTES);
+    memset(p, 0, form);
     build_word(p, e->seq);
     build_word(p + 4, e->time);
     p[8] = (unsigned char)e->kind;
@@ -44,11 +44,13 @@ void build_event(unsigned char *p, const struct peer_event *e)
     p[10] = (unsigned char)e->side;
     for (i = 0; i < 4; i++)
         build_word(p + 12 + 4 * i, e->field[i]);
+    if (form == PEER_NEW)
+        build_word(p + 32, e->participant);
 }
 
-void build_trailer(unsigned char *p, uint32_t s, uint32_t n)
+void build_trailer(unsigned char *p, size_t form, uint32_t s, uint32_t n)
 {
-    memcpy(p, "CUBT", 4);
+    memcpy(p, form == PEER_NEW ? "CUB2" : "CUBT", 4);
     build_word(p + 4, s);
     build_word(p + 8, n);
     build_word(p + 12, 0);
@@ -122,6 +124,12 @@ struct peer_event build_amend(uint32_t seq, uint32_t time, uint32_t which, uint3
     return e;
 }
 
+struct peer_event build_by(uint32_t participant, struct peer_event e)
+{
+    e.participant = participant;
+    return e;
+}
+
 static uint32_t turn(uint32_t p) { return 1000000 - p; }
 
 struct peer_order build_turn_order(struct peer_order o)
@@ -161,15 +169,15 @@ struct peer_event build_turn_event(struct peer_event e)
     return m;
 }
 
-size_t build_tape(unsigned char *out, const struct peer_order *o, const struct peer_event *e, int n)
+size_t build_tape(unsigned char *out, size_t form, const struct peer_order *o, const struct peer_event *e, int n)
 {
     unsigned char *p = out;
     int i;
 
     build_order(p, o);
     p += PEER_ORDER_BYTES;
-    for (i = 0; i < n; i++, p += PEER_EVENT_BYTES)
-        build_event(p, &e[i]);
-    build_trailer(p, 0, (uint32_t)n);
+    for (i = 0; i < n; i++, p += form)
+        build_event(p, form, &e[i]);
+    build_trailer(p, form, 0, (uint32_t)n);
     return (size_t)(p - out) + PEER_TRAILER_BYTES;
 }

@@ -35,12 +35,31 @@ static int read_tape_file(const char *dir, long i, unsigned char *out, size_t *n
 /* Prices as of a buy, so that lower is better for the order. */
 static uint32_t as_buy(const struct peer_auction *a, uint32_t p) { return a->sell ? PEER_MIRROR - p : p; }
 
-static struct peer_event record(const unsigned char *events, int i)
+/* The event records of a tape. */
+struct records {
+    const unsigned char *first;
+    size_t form;
+    int n;
+};
+
+static const unsigned char *bytes_of(const struct records *events, int i)
+{
+    return events->first + events->form * (size_t)i;
+}
+
+static struct peer_event record(const struct records *events, int i)
 {
     struct peer_event e;
 
-    peer_read_event(events + PEER_EVENT_BYTES * i, &e);
+    peer_read_event(bytes_of(events, i), events->form, &e);
     return e;
+}
+
+static struct records records_of(const unsigned char *tape, const struct peer_layout *l)
+{
+    struct records events = { tape + l->at + PEER_ORDER_BYTES, l->form, (int)l->events };
+
+    return events;
 }
 
 static int applied(int answer) { return answer == PEER_TAKEN || answer == PEER_ENDED; }
@@ -130,6 +149,7 @@ static void fold_record(struct fold *f, const struct peer_auction *start, const 
     r->size = size_of(e);
     r->price = as_buy(start, price_of(e));
     r->customer = customer;
+    r->participant = e->participant;
     r->gtx = e->kind != PEER_LIMIT;
     if (r->gtx && r->size > start->order.size)
         r->size = start->order.size;
@@ -452,7 +472,7 @@ static const char *const amend_name[AMENDS] = {
 };
 
 /* Counts one record of kind 6; the fold is of those before it. */
-static void count_amend(long cell[AMENDS][COLUMNS], int column, const struct peer_run *r, const unsigned char *events,
+static void count_amend(long cell[AMENDS][COLUMNS], int column, const struct peer_run *r, const struct records *events,
                         const struct fold *f, int i)
 {
     struct peer_event e = record(events, i);
@@ -477,7 +497,7 @@ static void count_amend(long cell[AMENDS][COLUMNS], int column, const struct pee
     cell[AMEND_UNDER][column] += price < peer_bound(&r->start);
 }
 
-static void count_amends(long cell[AMENDS][COLUMNS], int column, const struct peer_run *r, const unsigned char *events)
+static void count_amends(long cell[AMENDS][COLUMNS], int column, const struct peer_run *r, const struct records *events)
 {
     struct fold f = { .n = 0 };
     int i;
@@ -530,13 +550,13 @@ static int is_above(const struct peer_auction *start, const struct peer_event *e
 }
 
 /* Is it the very record of a GTX that was taken before? */
-static int is_resend(const struct peer_run *r, const unsigned char *events, int i)
+static int is_resend(const struct peer_run *r, const struct records *events, int i)
 {
     struct peer_event e = record(events, i);
     int made = place_of(r, e.seq);
 
     return e.kind == PEER_GTX && made >= 0 && made < i &&
-           memcmp(events + PEER_EVENT_BYTES * made, events + PEER_EVENT_BYTES * i, PEER_EVENT_BYTES) == 0;
+           memcmp(bytes_of(events, made), bytes_of(events, i), events->form) == 0;
 }
 
 /* How many live ones are of about the greatest size. */
@@ -550,7 +570,7 @@ static int count_large(const struct fold *f)
 }
 
 /* Counts a cancel or an amend that was taken; the fold is of those before it. */
-static void count_move(long cell[WATCHES][COLUMNS], int column, const struct peer_run *r, const unsigned char *events,
+static void count_move(long cell[WATCHES][COLUMNS], int column, const struct peer_run *r, const struct records *events,
                        const struct fold *f, const struct peer_event *e)
 {
     uint32_t cap = r->start.order.size, size = size_of(e), old;
@@ -580,7 +600,7 @@ static void count_move(long cell[WATCHES][COLUMNS], int column, const struct pee
 }
 
 /* Counts one record; the fold is of those before it. */
-static void count_watch(long cell[WATCHES][COLUMNS], int column, const struct peer_run *r, const unsigned char *events,
+static void count_watch(long cell[WATCHES][COLUMNS], int column, const struct peer_run *r, const struct records *events,
                         const struct fold *f, int i)
 {
     struct peer_event e = record(events, i);
@@ -606,7 +626,7 @@ static void count_watch(long cell[WATCHES][COLUMNS], int column, const struct pe
     cell[WATCH_ENDS_MARKET][column] += ended && e.kind == PEER_MARKET && f->n > 0;
 }
 
-static void count_watches(long cell[WATCHES][COLUMNS], int column, const struct peer_run *r, const unsigned char *events)
+static void count_watches(long cell[WATCHES][COLUMNS], int column, const struct peer_run *r, const struct records *events)
 {
     struct fold f = { .n = 0 };
     int i, large = 0, greatest = 0;
@@ -642,7 +662,7 @@ static const char *const share_name[SHARES] = {
 /* Counts two members of whom only the first has a leftover. The equal parts
  * are cut between them if theirs are equal; then the second may stand before
  * the first, since it was amended or came to a place that was free again. */
-static void see_pair(int *seen, const struct peer_run *r, const unsigned char *events, const struct shares *s,
+static void see_pair(int *seen, const struct peer_run *r, const struct records *events, const struct shares *s,
                      int i, int j)
 {
     const struct peer_response *with = &s->of[i], *without = &s->of[j];
@@ -678,7 +698,7 @@ static void see_member(int *seen, const struct peer_run *r, const struct shares 
     seen[SHARE_ENDS] |= r->event[place_of(r, m->seq)].answer == PEER_ENDED;
 }
 
-static void see_share(int *seen, const struct peer_run *r, const unsigned char *events, const struct shares *s,
+static void see_share(int *seen, const struct peer_run *r, const struct records *events, const struct shares *s,
                       int n_live)
 {
     uint64_t held = contra_below(r, s->price);
@@ -707,7 +727,7 @@ static void see_share(int *seen, const struct peer_run *r, const unsigned char *
     seen[SHARE_HELD] = held >= guarantee_of(r->end.order.size, n_live);
 }
 
-static void count_shares(long cell[SHARES][COLUMNS], int column, const struct peer_run *r, const unsigned char *events)
+static void count_shares(long cell[SHARES][COLUMNS], int column, const struct peer_run *r, const struct records *events)
 {
     struct fold f = { .n = 0 };
     uint32_t price = 0;
@@ -861,7 +881,7 @@ static void count_collar_event(long cell[COLLARS][COLUMNS], int column, const st
 
 /* Counts the events and fills of an auction with a collar. */
 static void count_collared(long cell[COLLARS][COLUMNS], int column, const struct peer_run *r,
-                           const unsigned char *events, const struct terms *t, int cause)
+                           const struct records *events, const struct terms *t, int cause)
 {
     struct quotes q = first_quotes(t);
     int i, top = 0, prices = 1;
@@ -885,8 +905,232 @@ static void count_collared(long cell[COLLARS][COLUMNS], int column, const struct
     cell[COLLAR_PRICES][column] += prices > 1;
 }
 
+/* What comes up with participants, on new tapes; the six kinds are in a row.
+ * "Told" is said of a participant that stands by a fill. */
+enum firm {
+    FIRM_ACCEPTED, FIRM_32, FIRM_32_FIRM, FIRM_KIND, FIRM_GTX = FIRM_KIND + 6, FIRM_LIMIT, FIRM_ENDS, FIRM_ZERO,
+    FIRM_GREATEST, FIRM_EQUAL, FIRM_AMENDED, FIRM_AMENDED_ZERO, FIRM_AMENDED_TWICE, FIRM_OTHER_CANCEL, FIRM_OTHER_REFUSED,
+    FIRM_OTHER_RESEND, FIRM_OTHER_LATE, FIRM_MARKET, FIRMS
+};
+
+static const char *const firm_name[FIRMS] = {
+    "new form, accepted", "32 by the last word", "the same, participant",
+    "participant, GTX", "participant, cancel", "participant, limit", "participant, market", "participant, quotes",
+    "participant, amend", "told, GTX", "told, limit order", "told, it ended it", "told, 0", "told, 4294967295",
+    "told, two are equal", "told, amended", "told, amended to 0", "told, amended twice", "cancelled by another",
+    "told, other's amend 36", "told, other's resend", "told, other's late", "participant of market"
+};
+
+/* Is nothing wrong with a new record but its last word? */
+static int only_last_word(const struct records *events, int i)
+{
+    struct peer_event e;
+
+    peer_read_event(bytes_of(events, i), PEER_OLD, &e);
+    return events->form == PEER_NEW && peer_event_form(&e) && any_set(bytes_of(events, i) + 36, 4);
+}
+
+/* Counts a response that trades, made by the record at a place. */
+static void count_told(long cell[FIRMS][COLUMNS], int column, const struct peer_run *r, const struct records *events,
+                       int made)
+{
+    struct peer_event e = record(events, made), old;
+    int i, k;
+
+    cell[FIRM_GTX][column] += e.kind == PEER_GTX && e.participant != 0;
+    cell[FIRM_LIMIT][column] += e.kind == PEER_LIMIT && e.participant != 0;
+    cell[FIRM_ENDS][column] += e.kind == PEER_LIMIT && e.participant != 0 && r->event[made].answer == PEER_ENDED;
+    cell[FIRM_ZERO][column] += e.participant == 0;
+    cell[FIRM_GREATEST][column] += e.participant == UINT32_MAX;
+    if (e.kind == PEER_AMEND && (k = place_of(r, e.field[0])) >= 0) {
+        old = record(events, k);
+        cell[FIRM_AMENDED][column] += old.participant != e.participant;
+        cell[FIRM_AMENDED_ZERO][column] += old.participant != 0 && e.participant == 0;
+        cell[FIRM_AMENDED_TWICE][column] += old.kind == PEER_AMEND && old.participant != e.participant;
+    }
+    for (i = made + 1; i < events->n; i++) {        /* others that would have it, and don't */
+        int answer = r->event[i].answer;
+        struct peer_event other = record(events, i);
+
+        if (other.participant == e.participant)
+            continue;
+        cell[FIRM_OTHER_REFUSED][column] += other.kind == PEER_AMEND && other.field[0] == e.seq && answer == 36;
+        cell[FIRM_OTHER_LATE][column] += other.kind == PEER_AMEND && other.field[0] == e.seq && answer == PEER_LATE;
+        cell[FIRM_OTHER_RESEND][column] += other.kind == e.kind && other.seq == e.seq && answer == 33;
+    }
+}
+
+static void count_firms(long cell[FIRMS][COLUMNS], int column, const struct peer_run *r, const struct records *events)
+{
+    int i, j;
+
+    if (events->form != PEER_NEW)
+        return;
+    cell[FIRM_ACCEPTED][column]++;
+    for (i = 0; i < r->n_events; i++) {
+        struct peer_event e = record(events, i);
+
+        cell[FIRM_32][column] += r->event[i].answer == 32 && only_last_word(events, i);
+        cell[FIRM_32_FIRM][column] += r->event[i].answer == 32 && only_last_word(events, i) && e.participant != 0;
+        if (!applied(r->event[i].answer))
+            continue;
+        cell[FIRM_KIND + e.kind - PEER_GTX][column] += e.participant != 0;
+        j = place_of(r, e.field[0]);
+        cell[FIRM_OTHER_CANCEL][column] += e.kind == PEER_CANCEL && record(events, j).participant != e.participant;
+    }
+    for (i = 0; i < r->n_fills; i++) {
+        int made = place_of(r, r->fill[i].party);
+        struct peer_event e;
+
+        if (made < 0)
+            continue;
+        e = record(events, made);
+        if (e.kind == PEER_MARKET) {
+            cell[FIRM_MARKET][column] += e.participant != 0;
+            continue;
+        }
+        count_told(cell, column, r, events, made);
+        for (j = 0; j < i; j++) {
+            int before = place_of(r, r->fill[j].party);
+
+            if (before >= 0 && e.participant != 0 && record(events, before).participant == e.participant)
+                break;
+        }
+        cell[FIRM_EQUAL][column] += j < i;
+    }
+}
+
+/* What comes up with the words of the forms, and with the moves between them. */
+enum moves {
+    FORM_NEW, FORM_OLD, FORM_22_NEAR, FORM_22_LAST_WORD, FORM_23_NEW, FORM_23_NEW_OF_OLD, FORM_23_OLD_OF_NEW,
+    FORM_23_WRAPS, FORM_MISREAD,
+    TO_NEW, TO_NEW_PREFIX, TO_NEW_ODD, TO_NEW_ODD_ORDER, TO_NEW_EMPTY, TO_NEW_UNDER, TO_NEW_FULL, TO_NEW_EMPTY_FULL,
+    TO_NEW_21, TO_NEW_21_LONG, TO_NEW_22, TO_NEW_22_NOT_23, TO_NEW_22_BAD, TO_NEW_23, TO_NEW_26, TO_NEW_26_LEAST,
+    TO_NEW_26_MANY,
+    TO_OLD, TO_OLD_PREFIX, TO_OLD_ODD, TO_OLD_EMPTY, TO_OLD_FULL, TO_OLD_21, TO_OLD_22, TO_OLD_22_NOT_23,
+    TO_OLD_22_BAD, TO_OLD_23, TO_OLD_25_FIRST, TO_OLD_25_LAST, TO_OLD_25_FIRM, TO_OLD_25_WORD, TO_OLD_25_FIRST_WORD,
+    TO_OLD_25_LAST_WORD, TO_OLD_25_ONE_BYTE, MOVES
+};
+
+static const char *const moves_name[MOVES] = {
+    "new form, opened", "old form, opened", "22, three letters of CUB2", "22, CUB2 and the last word", "23, CUB2",
+    "23, CUB2, adds up for CUBT", "23, CUBT, adds up for CUB2", "23, CUB2, adds up if it wraps", "misread, but adds up",
+    "move new", "move new, prefix", "move new, 32 on it", "move new, order is 1", "move new, no events",
+    "move new, to 65,528 and up", "move new, to 65,536", "move new, 65,536, no events",
+    "move new 21, too short", "move new 21, too long", "move new 22, is new", "move new 22, is new, lengths wrong",
+    "move new 22, neither", "move new 23", "move new 26", "move new 26, to 65,544 at most", "move new 26, no prefix",
+    "move old", "move old, prefix", "move old, 32 on it", "move old, no events", "move old, of 65,536", "move old 21",
+    "move old 22, is old", "move old 22, is old, lengths wrong", "move old 22, neither", "move old 23",
+    "move old 25, first alone", "move old 25, last alone", "move old 25, participants alone",
+    "move old 25, last words alone", "move old 25, first's last word", "move old 25, last's last word",
+    "move old 25, one byte alone"
+};
+
+/* Counts what a tape's last two words stop from moving back. */
+static void count_25(long *cell, const struct records *events)
+{
+    long firms = 0, words = 0, records = 0, bytes = 0;
+    int i, k, first = 0, last = 0;
+
+    for (i = 0; i < events->n; i++) {
+        const unsigned char *p = bytes_of(events, i);
+
+        firms += any_set(p + 32, 4);
+        words += any_set(p + 36, 4);
+        records += any_set(p + 32, 8);
+        for (k = 32; k < 40; k++)
+            bytes += p[k] != 0;
+        if (i == 0)
+            first = any_set(p + 32, 8);
+        if (i == events->n - 1)
+            last = any_set(p + 32, 8);
+    }
+    first = first && records == 1 && events->n > 1;
+    last = last && records == 1 && events->n > 1;
+    cell[TO_OLD_25_FIRST] += first && firms;
+    cell[TO_OLD_25_LAST] += last && firms;
+    cell[TO_OLD_25_FIRST_WORD] += first && words;
+    cell[TO_OLD_25_LAST_WORD] += last && words;
+    cell[TO_OLD_25_FIRM] += words == 0;
+    cell[TO_OLD_25_WORD] += firms == 0;
+    cell[TO_OLD_25_ONE_BYTE] += bytes == 1;
+}
+
+/* Counts a tape that isn't in one of the two forms, or whose lengths are wrong. */
+static void count_form(long *cell, const unsigned char *tape, size_t n, int number)
+{
+    const unsigned char *trailer = tape + n - PEER_TRAILER_BYTES;
+    int is_new = memcmp(trailer, "CUB2", 4) == 0, is_old = memcmp(trailer, "CUBT", 4) == 0, same = 0, i;
+    int64_t s = word_at(trailer + 4), count = word_at(trailer + 8), rest = (int64_t)n - 80;
+
+    for (i = 0; i < 4; i++)
+        same += trailer[i] == "CUB2"[i];
+    cell[FORM_22_NEAR] += number == 22 && same == 3 && !is_old;
+    cell[FORM_22_LAST_WORD] += number == 22 && is_new;
+    if (number != 23)
+        return;
+    cell[FORM_23_NEW] += is_new;
+    cell[FORM_23_NEW_OF_OLD] += is_new && s + 32 * count == rest;
+    cell[FORM_23_OLD_OF_NEW] += is_old && s + 40 * count == rest;
+    cell[FORM_23_WRAPS] += is_new && rest >= 0 && (uint32_t)(s + 40 * count) == (uint32_t)rest;
+}
+
+/* Counts the moves of one tape; the run is its own. */
+static void count_moves(long *cell, const struct peer_run *r, const unsigned char *tape, size_t n)
+{
+    static unsigned char out[PEER_TAPE_MAX];
+    size_t length = 0;
+    int to_new = peer_move(tape, n, 1, out, sizeof out, &length), to_old, odd = 0, i;
+    struct records events = { NULL, 0, 0 };
+    struct peer_layout l;
+
+    to_old = peer_move(tape, n, 0, out, sizeof out, &length);
+    cell[TO_NEW_21] += to_new == 21 && n < 16;
+    cell[TO_NEW_21_LONG] += to_new == 21 && n > 16;
+    cell[TO_OLD_21] += to_old == 21;
+    if (to_new == 21)
+        return;
+    count_form(cell, tape, n, r->refused);
+    cell[TO_NEW_22] += to_new == 22 && to_old != 22;
+    cell[TO_OLD_22] += to_old == 22 && to_new != 22;
+    cell[TO_NEW_22_NOT_23] += to_new == 22 && to_old == 23;
+    cell[TO_OLD_22_NOT_23] += to_old == 22 && to_new == 23;
+    cell[TO_NEW_22_BAD] += to_new == 22 && to_old == 22;
+    cell[TO_OLD_22_BAD] += to_new == 22 && to_old == 22;
+    cell[TO_NEW_23] += to_new == 23;
+    cell[TO_OLD_23] += to_old == 23;
+    if (peer_read_tape(tape, n, &l) != 0)
+        return;
+    events = records_of(tape, &l);
+    for (i = 0; i < events.n; i++) {
+        struct peer_event e = record(&events, i);
+
+        odd += !peer_event_form(&e);
+    }
+    cell[l.form == PEER_NEW ? FORM_NEW : FORM_OLD]++;
+    cell[FORM_MISREAD] += events.n > 2 && odd == events.n;
+    cell[TO_NEW] += to_new == 0;
+    cell[TO_NEW_PREFIX] += to_new == 0 && l.at > 0;
+    cell[TO_NEW_ODD] += to_new == 0 && odd > 0;
+    cell[TO_NEW_ODD_ORDER] += to_new == 0 && r->refused == 1;
+    cell[TO_NEW_EMPTY] += to_new == 0 && events.n == 0;
+    cell[TO_NEW_UNDER] += to_new == 0 && n + 8 * l.events >= PEER_TAPE_MAX - 8 && n + 8 * l.events < PEER_TAPE_MAX;
+    cell[TO_NEW_FULL] += to_new == 0 && n + 8 * l.events == PEER_TAPE_MAX && events.n > 0;
+    cell[TO_NEW_EMPTY_FULL] += to_new == 0 && n == PEER_TAPE_MAX;
+    cell[TO_NEW_26] += to_new == 26;
+    cell[TO_NEW_26_LEAST] += to_new == 26 && n + 8 * l.events <= PEER_TAPE_MAX + 8;
+    cell[TO_NEW_26_MANY] += to_new == 26 && l.at == 0;
+    cell[TO_OLD] += to_old == 0;
+    cell[TO_OLD_PREFIX] += to_old == 0 && l.at > 0;
+    cell[TO_OLD_ODD] += to_old == 0 && odd > 0;
+    cell[TO_OLD_EMPTY] += to_old == 0 && events.n == 0;
+    cell[TO_OLD_FULL] += to_old == 0 && n == PEER_TAPE_MAX && events.n > 0;
+    if (to_old == 25)
+        count_25(cell, &events);
+}
+
 /* Which kind of ending a run had. */
-static int cause_of(const struct peer_run *r, const unsigned char *events)
+static int cause_of(const struct peer_run *r, const struct records *events)
 {
     int i;
 
@@ -956,33 +1200,38 @@ int stats(const char *dir)
     static unsigned char tape[PEER_TAPE_MAX + 1];
     static struct peer_run r;
     static long number[NUMBERS][COLUMNS], ending[CAUSES][COLUMNS], amend[AMENDS][COLUMNS],
-                watch[WATCHES][COLUMNS], share[SHARES][COLUMNS], collar[COLLARS][COLUMNS];
+                watch[WATCHES][COLUMNS], share[SHARES][COLUMNS], collar[COLLARS][COLUMNS], firm[FIRMS][COLUMNS];
+    static long moves[MOVES];
     static long full_end[COLUMNS], only_one[COLUMNS], none[COLUMNS], many_prices[COLUMNS];
     static const int bucket_low[] = { 1, 2, 3, 4, 6, 10, 20, 40, 64, 100, 129, 130 };
     enum { BUCKETS = sizeof bucket_low / sizeof bucket_low[0] };
     static long bucket[BUCKETS][COLUMNS];
     long tapes, accepted = 0, refused_tape[NUMBERS] = { 0 }, missing = 0, some_refused = 0;
-    size_t n, at, events;
+    struct peer_layout l;
+    size_t n;
     int i, k;
     char name[40];
 
     for (tapes = 0; read_tape_file(dir, tapes, tape, &n); tapes++) {
         struct peer_order o;
+        struct records events;
         struct terms t;
         int column, cause, seen = 0;
 
         peer_run(tape, n, 0, &r);
+        count_moves(moves, &r, tape, n);
         if (r.refused >= 21) {
             refused_tape[r.refused]++;
             continue;
         }
-        peer_read_tape(tape, n, &at, &events);
-        peer_read_order(tape + at, &o);
+        peer_read_tape(tape, n, &l);
+        events = records_of(tape, &l);
+        peer_read_order(tape + l.at, &o);
         column = (o.side == PEER_SELL ? 3 : 0) + (int)(o.mode >= 1 && o.mode <= 3 ? o.mode - 1 : 0);
         if (r.refused == 1)
-            count_collar_form(collar, column, tape + at);
+            count_collar_form(collar, column, tape + l.at);
         else
-            t = terms_of(tape + at);
+            t = terms_of(tape + l.at);
         if (r.refused != 1 && t.collared)
             count_collar_number(collar, column, &t, r.refused);
         if (r.refused) {
@@ -997,13 +1246,14 @@ int stats(const char *dir)
             }
         }
         some_refused += seen;
-        cause = cause_of(&r, tape + at + PEER_ORDER_BYTES);
+        cause = cause_of(&r, &events);
         ending[cause][column]++;
         if (t.collared)
-            count_collared(collar, column, &r, tape + at + PEER_ORDER_BYTES, &t, cause);
-        count_amends(amend, column, &r, tape + at + PEER_ORDER_BYTES);
-        count_watches(watch, column, &r, tape + at + PEER_ORDER_BYTES);
-        count_shares(share, column, &r, tape + at + PEER_ORDER_BYTES);
+            count_collared(collar, column, &r, &events, &t, cause);
+        count_amends(amend, column, &r, &events);
+        count_watches(watch, column, &r, &events);
+        count_shares(share, column, &r, &events);
+        count_firms(firm, column, &r, &events);
         full_end[column] += r.end.n_live == PEER_PLACES;
         only_one[column] += r.end.n_live == 1;
         none[column] += r.end.n_live == 0;
@@ -1031,6 +1281,7 @@ int stats(const char *dir)
     print_rows(watch_name, watch, WATCHES);
     print_rows(share_name, share, SHARES);
     print_rows(collar_name, collar, COLLARS);
+    print_rows(firm_name, firm, FIRMS);
     print_row("64 live at the end", full_end);
     print_row("one live at the end", only_one);
     print_row("none live at the end", none);
@@ -1042,6 +1293,10 @@ int stats(const char *dir)
             sprintf(name, "fills %d", bucket_low[i]);
         print_row(name, bucket[i]);
     }
+
+    printf("\n");
+    for (i = 0; i < MOVES; i++)
+        printf("%-34s %7ld\n", moves_name[i], moves[i]);
 
     for (i = 21; i <= 23; i++)
         if (refused_tape[i] == 0 && ++missing)
@@ -1061,6 +1316,10 @@ int stats(const char *dir)
     missing += print_rows_missing(collar_name, collar, COLLAR_13_AND_11);
     for (i = COLLAR_13_AND_11; i < COLLARS; i++)
         missing += print_missing(collar_name[i], collar[i], PEER_MATCH);
+    missing += print_rows_missing(firm_name, firm, FIRMS);
+    for (i = 0; i < MOVES; i++)
+        if (moves[i] == 0 && ++missing)
+            printf("MISSING %s\n", moves_name[i]);
     missing += print_missing("64 live at the end", full_end, 0);
     printf(missing ? "%ld cells missing\n" : "nothing missing\n", missing);
     return missing != 0;
@@ -1206,7 +1465,7 @@ static void check_shares(const struct peer_run *r, const struct fold *told)
 }
 
 /* The tape turned to the other side gives the run turned to the other side. */
-static void check_mirror(const struct peer_run *r, const unsigned char *tape, size_t at)
+static void check_mirror(const struct peer_run *r, const unsigned char *tape, size_t at, const struct records *events)
 {
     static unsigned char turned[PEER_TAPE_MAX];
     static struct peer_run t;
@@ -1219,18 +1478,16 @@ static void check_mirror(const struct peer_run *r, const unsigned char *tape, si
     o = build_turn_order(o);
     build_order(turned, &o);
     n += PEER_ORDER_BYTES;
-    for (i = 0; i < r->n_events; i++, n += PEER_EVENT_BYTES) {
-        const unsigned char *p = tape + at + n;
-
-        peer_read_event(p, &e);
+    for (i = 0; i < r->n_events; i++, n += events->form) {
+        e = record(events, i);
         if (peer_event_form(&e)) {
             e = build_turn_event(e);
-            build_event(turned + n, &e);
+            build_event(turned + n, events->form, &e);
         } else {
-            memcpy(turned + n, p, PEER_EVENT_BYTES);
+            memcpy(turned + n, bytes_of(events, i), events->form);
         }
     }
-    build_trailer(turned + n, 0, (uint32_t)r->n_events);
+    build_trailer(turned + n, events->form, 0, (uint32_t)r->n_events);
     n += PEER_TRAILER_BYTES;
     peer_run(turned, n, r->watch, &t);
     if (t.refused) {
@@ -1243,6 +1500,9 @@ static void check_mirror(const struct peer_run *r, const unsigned char *tape, si
     for (i = 0; i < r->n_events; i++)
         if (t.event[i].answer != r->event[i].answer || t.event[i].on_offer != r->event[i].on_offer)
             fault("the mirror answers otherwise");
+    for (i = 0; i < r->end.n_live && i < t.end.n_live; i++)
+        if (t.end.live[i].seq != r->end.live[i].seq || t.end.live[i].participant != r->end.live[i].participant)
+            fault("the mirror has another participant");
     for (i = 0; i < r->n_fills && i < t.n_fills; i++)
         if (t.fill[i].party != r->fill[i].party || t.fill[i].quantity != r->fill[i].quantity ||
             t.fill[i].price + r->fill[i].price != PEER_MIRROR)
@@ -1265,7 +1525,7 @@ static int number_due(const struct fold *f, const struct peer_auction *start, co
 
 /* Answers that must agree with each other along a tape; gives the live
  * responses that the records tell. */
-static struct fold check_answers(const struct peer_run *r, const unsigned char *events)
+static struct fold check_answers(const struct peer_run *r, const struct records *events)
 {
     struct fold f = { .n = 0 };
     uint32_t top = 0, clock = 0;
@@ -1314,7 +1574,7 @@ static struct fold check_answers(const struct peer_run *r, const unsigned char *
 
 /* After each record the watch tells the sum over the live responses; one that
  * is refused or late leaves it, and after the ending it stands. */
-static void check_watch(const struct peer_run *r, const unsigned char *events)
+static void check_watch(const struct peer_run *r, const struct records *events)
 {
     struct fold f = { .n = 0 };
     uint32_t before = 0;
@@ -1377,14 +1637,15 @@ static void check_live(const struct peer_auction *a, const struct fold *f)
         for (k = 0; k < f->n && f->live[k].seq != x->seq; k++)
             ;
         if (k == f->n || f->live[k].size != x->size || f->live[k].price != x->price ||
-            f->live[k].customer != x->customer || f->live[k].gtx != x->gtx)
+            f->live[k].customer != x->customer || f->live[k].gtx != x->gtx ||
+            f->live[k].participant != x->participant)
             fault("a live response that the records don't tell");
     }
 }
 
 /* Each party's own record, without the fold: it was applied, nothing took it
  * away or amended it later, and it trades within its size and price. */
-static void check_parties(const struct peer_run *r, const unsigned char *events)
+static void check_parties(const struct peer_run *r, const struct records *events)
 {
     int i, j;
 
@@ -1553,7 +1814,8 @@ static void check_order(const struct peer_run *r, const unsigned char *tape, siz
 
 /* The endings by the quotes that the records leave, and the last range as it
  * is printed. */
-static void check_endings(const struct peer_run *r, const unsigned char *tape, size_t n, size_t at)
+static void check_endings(const struct peer_run *r, const unsigned char *tape, size_t n, size_t at,
+                          const struct records *events)
 {
     static const char *const ending[] = { "open", "time", "same", "opposite", "improve" };
     static char listing[PEER_LISTING_MAX + 1];
@@ -1563,7 +1825,7 @@ static void check_endings(const struct peer_run *r, const unsigned char *tape, s
     char line[200], *end;
 
     for (i = 0; i < r->n_events && stands == PEER_OPEN; i++) {
-        struct peer_event e = record(tape + at + PEER_ORDER_BYTES, i);
+        struct peer_event e = record(events, i);
         int answer = r->event[i].answer;
 
         if (answer == PEER_LATE)
@@ -1591,42 +1853,263 @@ static void check_refused_mirror(int number, const unsigned char *tape, size_t a
 
     peer_read_order(tape + at, &o);
     o = build_turn_order(o);
-    got[peer_listing(turned, build_tape(turned, &o, NULL, 0), got)] = 0;
+    got[peer_listing(turned, build_tape(turned, PEER_OLD, &o, NULL, 0), got)] = 0;
     if (number_in(got) != number)
         fault("the mirror is refused otherwise");
+}
+
+/* The participant of the record that made a party what it is, read straight from
+ * the bytes, or -1: the last one taken of a kind 1, 3 or 6 under its sequence. */
+static int64_t participant_due(const struct peer_run *r, const struct records *events, int64_t party)
+{
+    int i;
+
+    for (i = events->n - 1; i >= 0; i--) {
+        const unsigned char *p = bytes_of(events, i);
+
+        if (word_at(p) == party && (p[8] == 1 || p[8] == 3 || p[8] == 6) && applied(r->event[i].answer))
+            return events->form == 40 ? word_at(p + 32) : 0;
+    }
+    return -1;
+}
+
+/* The listing with participants is the listing, but for those that are due at
+ * the ends of its FILL lines. */
+static void check_firms(const struct peer_run *r, const unsigned char *tape, size_t n, const struct records *events)
+{
+    static char plain[PEER_LISTING_MAX + 1], firms[PEER_LISTING_MAX + 1], want[PEER_LISTING_MAX + 1];
+    char *from = plain, *to = want;
+
+    plain[peer_listing(tape, n, plain)] = 0;
+    firms[peer_firms(tape, n, firms)] = 0;
+    if (strstr(plain, "participant") != NULL)
+        fault("the listing tells a participant");
+    while (*from) {
+        size_t line = strcspn(from, "\n");
+
+        memcpy(to, from, line);
+        to += line;
+        if (strncmp(from, "FILL ", 5) == 0 && strncmp(from, "FILL contra ", 12) != 0) {
+            int64_t who = participant_due(r, events, (int64_t)strtoul(from + 5, NULL, 10));
+
+            if (who >= 0)
+                to += sprintf(to, " participant %lu", (unsigned long)who);
+        }
+        *to++ = '\n';
+        from += line + 1;
+    }
+    *to = 0;
+    if (strcmp(firms, want) != 0)
+        fault("not the listing with the participants that are due");
+}
+
+/* What a move is worked from, and its number or 0; all from the bytes alone. */
+struct plan {
+    int number;
+    int64_t s, count, from, to, length;
+};
+
+static struct plan plan_of(const unsigned char *tape, size_t n, int to_new)
+{
+    const unsigned char *last;
+    struct plan p = { .number = 21 };
+    int64_t i;
+
+    if (n < 16 || n > 65536)
+        return p;
+    last = tape + n - 16;
+    p.number = 22;
+    if (last[0] != 'C' || last[1] != 'U' || last[2] != 'B' || last[3] != (to_new ? 'T' : '2') || any_set(last + 12, 4))
+        return p;
+    p.from = to_new ? 32 : 40;
+    p.to = to_new ? 40 : 32;
+    p.s = word_at(last + 4);
+    p.count = word_at(last + 8);
+    p.number = 23;
+    if ((int64_t)n - 80 - p.s != p.from * p.count)
+        return p;
+    p.number = 25;
+    for (i = 0; i < p.count && !to_new; i++)
+        if (any_set(last - 8 - 40 * i, 8))
+            return p;
+    p.length = (int64_t)n + (to_new ? 8 : -8) * p.count;
+    p.number = p.length > 65536 ? 26 : 0;
+    return p;
+}
+
+/* The byte that a moved tape has at a place. */
+static unsigned char moved_byte(const unsigned char *tape, const struct plan *p, int64_t i)
+{
+    int64_t k = i - p->s - 64, end = p->to * p->count;      /* from the first record on */
+
+    if (k < 0)
+        return tape[i];
+    if (k >= end)
+        return k == end + 3 ? (p->to == 40 ? '2' : 'T') : tape[p->s + 64 + p->from * p->count + k - end];
+    return k % p->to >= 32 ? 0 : tape[p->s + 64 + k / p->to * p->from + k % p->to];
+}
+
+enum { BEYOND = 80, UNTOUCHED = 0xA7 };
+
+/* Moves a tape into some room: the answer and each byte, also those past the
+ * moved tape and past the room. */
+static void check_move(const unsigned char *tape, size_t n, int to_new, const struct plan *p, int64_t room)
+{
+    static unsigned char out[PEER_TAPE_MAX + BEYOND];
+    int64_t look = least(2 * (int64_t)n, PEER_TAPE_MAX) + BEYOND, done, i;
+    int number = p->number == 0 && room < p->length ? 24 : p->number;
+    size_t length = UNTOUCHED;
+
+    memset(out, UNTOUCHED, (size_t)look);
+    if (peer_move(tape, n, to_new, out, (size_t)room, &length) != number)
+        fault("not the number of the move that is due");
+    if ((int64_t)length != (number ? UNTOUCHED : p->length))
+        fault("the moved length");
+    done = number ? 0 : p->length;
+    for (i = 0; i < done && out[i] == moved_byte(tape, p, i); i++)
+        ;
+    if (i < done)
+        fault("a moved byte");
+    for (i = done; i < look && out[i] == UNTOUCHED; i++)
+        ;
+    if (i < look)
+        fault(number ? "a refused move changes a byte" : "a byte past the moved tape is changed");
+}
+
+typedef size_t printer(const unsigned char *tape, size_t n, char *out);
+
+/* Are two tapes printed the same? */
+static int printed_same(printer *print, const unsigned char *a, size_t n, const unsigned char *b, size_t m)
+{
+    static char one[PEER_LISTING_MAX], other[PEER_LISTING_MAX];
+    size_t length = print(a, n, one);
+
+    return print(b, m, other) == length && memcmp(one, other, length) == 0;
+}
+
+/* A tape that can be moved: there and back, what is printed of it there, and
+ * what other participants change there. */
+static void check_there(const unsigned char *tape, size_t n, int to_new, const struct plan *p)
+{
+    static unsigned char there[PEER_TAPE_MAX], back[PEER_TAPE_MAX];
+    static char firms[PEER_LISTING_MAX + 1];
+    size_t length = 0, m = 0;
+    char *line, *next;
+    int64_t i;
+
+    if (peer_move(tape, n, to_new, there, sizeof there, &length) != 0)
+        return;                             /* said already */
+    if (peer_move(there, length, to_new, back, sizeof back, &m) != 22)
+        fault("a moved tape is not in the form that was wanted");
+    if (peer_move(there, length, !to_new, back, sizeof back, &m) != 0 || m != n || memcmp(back, tape, n) != 0)
+        fault("there and back gives other bytes");
+    if (!printed_same(peer_listing, tape, n, there, length))
+        fault("the moved tape is listed otherwise");
+    if (!printed_same(peer_watch, tape, n, there, length))
+        fault("the moved tape is watched otherwise");
+    if (!printed_same(peer_firms, tape, n, there, length))
+        fault("the moved tape has other participants");
+    firms[peer_firms(there, length, firms)] = 0;
+    for (line = firms; (next = strchr(line, '\n')) != NULL; line = next + 1) {
+        char *who = strstr(line, " participant ");
+
+        if (who != NULL && who < next && strncmp(who, " participant 0\n", 15) != 0)
+            fault("a moved tape with a participant");
+    }
+    if (!to_new)
+        return;
+    for (i = 0; i < p->count; i++)          /* no two alike */
+        build_word(there + p->s + 64 + 40 * i + 32, (uint32_t)(2654435769u * (uint64_t)(i + 1 + current)));
+    if (!printed_same(peer_listing, tape, n, there, length) || !printed_same(peer_watch, tape, n, there, length))
+        fault("a participant is seen in the listing or the watch");
+}
+
+static void check_moves(const unsigned char *tape, size_t n)
+{
+    int to_new;
+
+    for (to_new = 0; to_new <= 1; to_new++) {
+        struct plan p = plan_of(tape, n, to_new);
+
+        check_move(tape, n, to_new, &p, 0);
+        check_move(tape, n, to_new, &p, PEER_TAPE_MAX);
+        if (p.number != 0)
+            continue;
+        check_move(tape, n, to_new, &p, p.length);
+        check_move(tape, n, to_new, &p, p.length - 1);
+        check_move(tape, n, to_new, &p, current % p.length);
+        check_there(tape, n, to_new, &p);
+    }
+}
+
+/* A new tape with every participant another: the same is printed. With a byte
+ * of some record's last word set: that one is 32 if the auction hasn't ended. */
+static void check_words(const struct peer_run *r, const unsigned char *tape, size_t n, const struct records *events)
+{
+    static unsigned char other[PEER_TAPE_MAX];
+    static struct peer_run run;
+    unsigned char *first = other + (events->first - tape), *p;
+    int i, k, at;
+
+    if (events->form != PEER_NEW || events->n == 0)
+        return;
+    memcpy(other, tape, n);
+    for (i = 0; i < events->n; i++)
+        for (k = 32; k < 36; k++)
+            first[40 * i + k] ^= 255;
+    if (!printed_same(peer_listing, tape, n, other, n) || !printed_same(peer_watch, tape, n, other, n))
+        fault("a participant is seen in the listing or the watch");
+
+    at = (int)(current % events->n);
+    p = first + 40 * at + 36 + current % 4;
+    *p = (unsigned char)(*p | 1u << current % 8);
+    peer_run(other, n, 1, &run);
+    for (i = 0; i < at; i++)
+        if (run.event[i].answer != r->event[i].answer)
+            fault("a later record's last word is seen");
+    if (run.event[at].answer != (r->event[at].answer == 31 ? 31 : 32))
+        fault("a last word that isn't zero, and no 32");
 }
 
 int check(const char *dir)
 {
     static unsigned char tape[PEER_TAPE_MAX + 1];
     static struct peer_run r;
+    struct records events;
+    struct peer_layout l;
     struct fold told;
-    size_t n, at, events;
+    size_t n;
     long accepted = 0;
     int most_fills = 0;
 
     for (current = 0; read_tape_file(dir, current, tape, &n); current++) {
         peer_run(tape, n, 1, &r);
         check_text(&r, tape, n);
+        check_moves(tape, n);
+        if (r.refused)
+            check_firms(&r, tape, n, NULL); /* there is no FILL to look up */
         if (r.refused >= 21)
             continue;
-        peer_read_tape(tape, n, &at, &events);
-        check_order(&r, tape, n, at);
+        peer_read_tape(tape, n, &l);
+        events = records_of(tape, &l);
+        check_order(&r, tape, n, l.at);
         if (r.refused > 1)
-            check_refused_mirror(r.refused, tape, at);
+            check_refused_mirror(r.refused, tape, l.at);
         if (r.refused)
             continue;
         accepted++;
         if (r.n_fills > most_fills)
             most_fills = r.n_fills;
-        told = check_answers(&r, tape + at + PEER_ORDER_BYTES);
-        check_watch(&r, tape + at + PEER_ORDER_BYTES);
-        check_endings(&r, tape, n, at);
+        told = check_answers(&r, &events);
+        check_watch(&r, &events);
+        check_endings(&r, tape, n, l.at, &events);
         check_live(&r.end, &told);
         check_fills(&r, &told);
         check_shares(&r, &told);
-        check_parties(&r, tape + at + PEER_ORDER_BYTES);
-        check_mirror(&r, tape, at);
+        check_parties(&r, &events);
+        check_firms(&r, tape, n, &events);
+        check_words(&r, tape, n, &events);
+        check_mirror(&r, tape, l.at, &events);
     }
     printf("checked %ld tapes, %ld accepted, most fills %d, faults %ld\n", current, accepted, most_fills, faults);
     return faults != 0;

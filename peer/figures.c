@@ -1,11 +1,13 @@
 /* figures.c: the document's figures a to k and its listing, on both sides,
  * with case b as W-203 has it; other listings worked out by hand from its
- * sentences, from W-201, from W-203 and from W-205; and for W-202 tables of
- * records with what is on offer after each.
+ * sentences, from W-201, from W-203 and from W-205; for W-202 tables of records
+ * with what is on offer after each; and for W-206 listings with participants,
+ * and tapes moved byte by byte.
  *
  * Each case is one tape, and the listing that the document's words give it.
  * Its mirror is made here, apart from the engine, and checked as well.
- * "figures tape" writes the tape of the document's own listing. */
+ * "figures tape" writes the tape of the document's own listing, "figures firms" a
+ * new one of it with participants 77 and 5. */
 #include "build.h"
 
 #include <stdio.h>
@@ -41,6 +43,7 @@ static void turn_text(const char *text, char *out)
 {
     char line[200], word1[40], word2[40];
     unsigned a, b, c;
+    int end;
 
     *out = 0;
     while (*text) {
@@ -53,8 +56,10 @@ static void turn_text(const char *text, char *out)
             sprintf(line, "AUCTION %s size %u range %u to %u", strcmp(word1, "buy") ? "buy" : "sell", a, turn(c), turn(b));
         else if (sscanf(line, "END %39s range %u to %u", word1, &a, &b) == 3)
             sprintf(line, "END %s range %u to %u", word1, turn(b), turn(a));
-        else if (sscanf(line, "FILL %39s %u %u", word2, &a, &b) == 3)
-            sprintf(line, "FILL %s %u %u", word2, turn(a), b);
+        else if (sscanf(line, "FILL %39s %u %u%n", word2, &a, &b, &end) == 3) {
+            out += sprintf(out, "FILL %s %u %u%s\n", word2, turn(a), b, line + end);
+            continue;
+        }
         out += sprintf(out, "%s\n", line);
     }
 }
@@ -74,7 +79,7 @@ static void compare(const char *name, const char *side, const struct peer_order 
 {
     unsigned char tape[4096];
     char got[PEER_LISTING_MAX + 1];
-    size_t len = build_tape(tape, o, e, n);
+    size_t len = build_tape(tape, PEER_OLD, o, e, n);
 
     got[peer_listing(tape, len, got)] = 0;
     same_text(name, side, want, got);
@@ -1371,7 +1376,7 @@ static void compare_watch(const char *name, const char *side, const struct peer_
 
     for (i = 0; i < n; i++)
         e[i] = turned ? build_turn_event(s[i].e) : s[i].e;
-    len = build_tape(tape, o, e, n);
+    len = build_tape(tape, PEER_OLD, o, e, n);
     plain[peer_listing(tape, len, plain)] = 0;
     got[peer_watch(tape, len, got)] = 0;
     p += sprintf(p, "%.*s\n", (int)strcspn(plain, "\n"), plain);
@@ -1646,6 +1651,163 @@ static void watched_boards(void)
     watch("the longest tape", buy(10, 1, 110, 108), s, (size_t)n);
 }
 
+/* The wanted text with every participant 0, or with none told. */
+static void plain_text(const char *text, const char *instead, char *out)
+{
+    const char *who;
+
+    while ((who = strstr(text, " participant ")) != NULL) {
+        out += sprintf(out, "%.*s%s", (int)(who - text), text, instead);
+        text = who + strcspn(who, "\n");
+    }
+    strcpy(out, text);
+}
+
+/* A new tape, with participants told, and listed; and an old one of the same events. */
+static void compare_firms(const char *name, const char *side, const struct peer_order *o, const struct peer_event *e,
+                          int n, const char *want)
+{
+    static char got[PEER_LISTING_MAX + 1], text[PEER_LISTING_MAX + 1];
+    unsigned char tape[4096];
+    size_t len = build_tape(tape, PEER_NEW, o, e, n);
+
+    got[peer_firms(tape, len, got)] = 0;
+    same_text(name, side, want, got);
+    got[peer_listing(tape, len, got)] = 0;
+    plain_text(want, "", text);
+    same_text(name, side, text, got);
+    len = build_tape(tape, PEER_OLD, o, e, n);
+    got[peer_listing(tape, len, got)] = 0;
+    same_text(name, side, text, got);
+    got[peer_firms(tape, len, got)] = 0;
+    plain_text(want, " participant 0", text);
+    same_text(name, side, text, got);
+}
+
+static void firms(const char *name, struct peer_order o, const struct peer_event *e, int n, const char *want)
+{
+    struct peer_event turned[100];
+    char text[4096];
+    int i;
+
+    compare_firms(name, "participants", &o, e, n, want);
+    o = build_turn_order(o);
+    for (i = 0; i < n; i++)
+        turned[i] = build_turn_event(e[i]);
+    turn_text(want, text);
+    compare_firms(name, "participants, mirror", &o, turned, n, text);
+}
+
+#define FIRMS(name, order, want, ...) \
+    firms(name, order, (const struct peer_event[]){ __VA_ARGS__ }, \
+          sizeof((const struct peer_event[]){ __VA_ARGS__ }) / sizeof(struct peer_event), want)
+
+/* W-206, worked out by hand: whose participant stands with a response. */
+static void participants(void)
+{
+    FIRMS("the document's listing, with participants", buy(10, 2, 110, 0),
+          "AUCTION buy size 10 range 101 to 109\n"
+          "EVENT 1 taken\nEVENT 1 refused 33\n"
+          "END time range 101 to 109\n"
+          "FILL contra 105 3\nFILL 1 105 3 participant 77\nFILL contra 109 4\nTOTAL 10\n",
+          build_by(77, SELL_GTX(1, 3, 105)), build_by(5, SELL_GTX(1, 3, 105)));
+
+    FIRMS("each has its own, and they may be equal", buy(100, 1, 110, 108),
+          "AUCTION buy size 100 range 100 to 110\n"
+          "EVENT 1 taken\nEVENT 2 taken\nEVENT 3 taken\nEVENT 4 taken\nEVENT 5 taken\n"
+          "END time range 100 to 110\n"
+          "FILL 5 103 1 participant 7\nFILL 4 104 2 participant 0\nFILL 3 105 3 participant 4294967295\n"
+          "FILL 2 106 4 participant 7\nFILL 1 107 5 participant 1\nFILL contra 108 85\nTOTAL 100\n",
+          build_by(1, SELL_GTX(1, 5, 107)), build_by(7, SELL_GTX(2, 4, 106)), build_by(UINT32_MAX, SELL_GTX(3, 3, 105)),
+          build_by(0, SELL_GTX(4, 2, 104)), build_by(7, SELL_GTX(5, 1, 103)));
+
+    FIRMS("a limit order that takes a place", buy(100, 1, 110, 108),
+          "AUCTION buy size 100 range 100 to 110\n"
+          "EVENT 1 taken\nEVENT 2 taken\n"
+          "END time range 100 to 110\n"
+          "FILL 2 104 20 participant 4\nFILL 1 105 30 participant 9\nFILL contra 108 50\nTOTAL 100\n",
+          build_by(9, SELL(1, 30, 105)), build_by(4, SELL(2, 20, 104)));
+
+    FIRMS("a marketable one, that ends the auction", buy(100, 1, 110, 108),
+          "AUCTION buy size 100 range 100 to 110\n"
+          "EVENT 1 taken\nEVENT 2 ended\nEVENT 3 refused 31\n"
+          "END opposite range 100 to 110\n"
+          "FILL 2 100 50 participant 8\nFILL 1 105 30 participant 7\nFILL contra 108 20\nTOTAL 100\n",
+          build_by(7, SELL_GTX(1, 30, 105)), build_by(8, SELL(2, 50, 100)), build_by(9, AMEND(3, 1, 30, 105)));
+
+    FIRMS("a market order's is not kept", buy(100, 1, 110, 108),
+          "AUCTION buy size 100 range 100 to 110\n"
+          "EVENT 1 taken\nEVENT 2 ended\n"
+          "END opposite range 100 to 110\n"
+          "FILL 2 105 20\nFILL 1 105 30 participant 7\nFILL contra 108 50\nTOTAL 100\n",
+          build_by(7, SELL_GTX(1, 30, 105)), build_by(8, build_market(2, 20, PEER_SELL, 20, 0)));
+
+    FIRMS("kept with a Customer's", buy(100, 1, 110, 108),
+          "AUCTION buy size 100 range 100 to 110\n"
+          "EVENT 1 taken\nEVENT 2 taken\nEVENT 3 taken\n"
+          "END time range 100 to 110\n"
+          "FILL 2 108 10 participant 2\nFILL 3 108 20 participant 6\nFILL contra 108 40\nFILL 1 108 30 participant 3\n"
+          "TOTAL 100\n",
+          build_by(3, SELL_GTX(1, 100, 108)), build_by(2, build_gtx(2, 20, PEER_SELL, 10, 108, PEER_CUSTOMER)),
+          build_by(6, build_limit(3, 20, PEER_SELL, 20, 108, PEER_CUSTOMER)));
+
+    FIRMS("bids, quotes and cancels may have one", buy(100, 1, 110, 108),
+          "AUCTION buy size 100 range 100 to 110\n"
+          "EVENT 1 taken\nEVENT 2 taken\nEVENT 3 taken\nEVENT 4 taken\nEVENT 5 taken\nEVENT 6 ended\n"
+          "END same range 102 to 110\n"
+          "FILL 1 105 30 participant 7\nFILL contra 108 70\nTOTAL 100\n",
+          build_by(7, SELL_GTX(1, 30, 105)), build_by(8, BID(2, 5, 101)),
+          build_by(9, build_quotes(3, 20, 102, 110, 102, 110, 0)), build_by(10, SELL_GTX(4, 30, 105)),
+          build_by(11, CANCEL(5, 4)), build_by(12, build_market(6, 20, PEER_BUY, 5, 0)));
+}
+
+/* W-206 and amends, cancels and refusals. */
+static void participants_move(void)
+{
+    struct peer_event low = AMEND(2, 1, 20, 105), high = AMEND(2, 1, 20, 111), late = AMEND(2, 1, 20, 105);
+
+    FIRMS("an amend brings the event's", buy(100, 1, 110, 108),
+          "AUCTION buy size 100 range 100 to 110\n"
+          "EVENT 1 taken\nEVENT 2 taken\n"
+          "END time range 100 to 110\n"
+          "FILL 2 106 20 participant 8\nFILL contra 108 80\nTOTAL 100\n",
+          build_by(7, SELL_GTX(1, 30, 105)), build_by(8, AMEND(2, 1, 20, 106)));
+    FIRMS("also where it is 0", buy(100, 1, 110, 108),
+          "AUCTION buy size 100 range 100 to 110\n"
+          "EVENT 1 taken\nEVENT 2 taken\n"
+          "END time range 100 to 110\n"
+          "FILL 2 106 20 participant 0\nFILL contra 108 80\nTOTAL 100\n",
+          build_by(7, SELL_GTX(1, 30, 105)), build_by(0, AMEND(2, 1, 20, 106)));
+    FIRMS("and the last of three", buy(100, 1, 110, 108),
+          "AUCTION buy size 100 range 100 to 110\n"
+          "EVENT 1 taken\nEVENT 2 taken\nEVENT 3 taken\nEVENT 4 taken\nEVENT 5 taken\n"
+          "END time range 100 to 110\n"
+          "FILL 5 104 10 participant 3\nFILL 2 107 5 participant 6\nFILL contra 108 85\nTOTAL 100\n",
+          build_by(7, SELL_GTX(1, 30, 105)), build_by(6, SELL_GTX(2, 5, 107)), build_by(8, AMEND(3, 1, 20, 106)),
+          build_by(9, AMEND(4, 3, 20, 105)), build_by(3, AMEND(5, 4, 10, 104)));
+
+    /* 7's is cancelled by 9; 8's comes to its place. */
+    FIRMS("a cancel by another", buy(100, 1, 110, 108),
+          "AUCTION buy size 100 range 100 to 110\n"
+          "EVENT 1 taken\nEVENT 2 taken\nEVENT 3 taken\nEVENT 4 taken\n"
+          "END time range 100 to 110\n"
+          "FILL 2 105 20 participant 6\nFILL 4 106 10 participant 8\nFILL contra 108 70\nTOTAL 100\n",
+          build_by(7, SELL_GTX(1, 30, 105)), build_by(6, SELL_GTX(2, 20, 105)), build_by(9, CANCEL(3, 1)),
+          build_by(8, SELL_GTX(4, 10, 106)));
+
+    low.time = 19;
+    late.time = 100;
+    FIRMS("refused and late ones leave it", buy(100, 1, 110, 108),
+          "AUCTION buy size 100 range 100 to 110\n"
+          "EVENT 1 taken\nEVENT 1 refused 33\nEVENT 1 refused 33\nEVENT 2 refused 34\nEVENT 2 refused 36\n"
+          "EVENT 2 refused 37\nEVENT 2 refused 32\nEVENT 2 late\nEVENT 3 refused 31\n"
+          "END time range 100 to 110\n"
+          "FILL 1 105 30 participant 7\nFILL contra 108 70\nTOTAL 100\n",
+          build_by(7, SELL_GTX(1, 30, 105)), build_by(8, SELL_GTX(1, 30, 105)), build_by(8, AMEND(1, 1, 30, 105)),
+          build_by(8, low), build_by(8, high), build_by(8, AMEND(2, 9, 20, 105)), build_by(8, AMEND(2, 1, 0, 105)),
+          build_by(8, late), build_by(8, AMEND(3, 1, 20, 105)));
+}
+
 /* One tape whose bytes are given, and its whole listing. */
 static void bytes_give(const char *name, const unsigned char *tape, size_t n, const char *want)
 {
@@ -1669,7 +1831,7 @@ static void amend_bytes(void)
     size_t i, n;
 
     e[0] = e[1] = SELL_GTX(1, 30, 105);
-    n = build_tape(t, &o, e, 2);
+    n = build_tape(t, PEER_OLD, &o, e, 2);
     memset(p, 0, 32);
     p[0] = 2;
     p[4] = 20;
@@ -1696,7 +1858,7 @@ static void collar_bytes(void)
     const char *sold = "AUCTION sell size 10 range 105 to 109\nEND time range 105 to 109\nFILL contra 105 10\nTOTAL 10\n";
     size_t i, n;
 
-    n = build_tape(t, &o, NULL, 0);
+    n = build_tape(t, PEER_OLD, &o, NULL, 0);
     bytes_give("no collar", t, n, none);
     for (i = 48; i < 64; i++) {
         t[i] = 1;
@@ -1720,13 +1882,244 @@ static void collar_bytes(void)
     t[51] = t[55] = 1;                      /* 16,777,216 more in each */
     bytes_give("the fourth bytes", t, n, "REFUSED 1\n");
 
-    n = build_tape(t, &s, NULL, 0);
+    n = build_tape(t, PEER_OLD, &s, NULL, 0);
     t[48] = 101;
     t[52] = 3;
     bytes_give("a collar's bytes, sell", t, n, sold);
     t[48] = 3;
     t[52] = 101;
     bytes_give("a collar's bytes, sell, changed about", t, n, sold);
+}
+
+/* The last eight bytes of a new record, each put at its place by hand. */
+static void new_bytes(void)
+{
+    unsigned char t[64 + 2 * 40 + 16], *p = t + 64 + 40;
+    struct peer_order o = buy(100, 1, 110, 108);
+    struct peer_event e[2];
+    const char *fine = "AUCTION buy size 100 range 100 to 110\nEVENT 1 taken\nEVENT 2 taken\n"
+                       "END time range 100 to 110\nFILL 1 105 30 participant 7\nFILL 2 106 20 participant 67305985\n"
+                       "FILL contra 108 50\nTOTAL 100\n";
+    const char *plain = "AUCTION buy size 100 range 100 to 110\nEVENT 1 taken\nEVENT 2 taken\n"
+                        "END time range 100 to 110\nFILL 1 105 30\nFILL 2 106 20\nFILL contra 108 50\nTOTAL 100\n";
+    const char *not_in_form = "AUCTION buy size 100 range 100 to 110\nEVENT 1 taken\nEVENT 2 refused 32\n"
+                              "END time range 100 to 110\nFILL 1 105 30\nFILL contra 108 70\nTOTAL 100\n";
+    char got[PEER_LISTING_MAX + 1];
+    size_t i, n;
+
+    e[0] = build_by(7, SELL_GTX(1, 30, 105));
+    e[1] = SELL_GTX(2, 20, 106);
+    n = build_tape(t, PEER_NEW, &o, e, 2);
+    for (i = 0; i < 4; i++)                 /* 1 + 2 x 256 + 3 x 65,536 + 4 x 16,777,216 */
+        p[32 + i] = (unsigned char)(i + 1);
+    got[peer_firms(t, n, got)] = 0;
+    same_text("a participant's bytes", "bytes", fine, got);
+    bytes_give("a participant's bytes", t, n, plain);
+    for (i = 36; i < 40; i++) {
+        p[i] = 1;
+        bytes_give("a byte of the last word", t, n, not_in_form);
+        p[i] = 0;
+    }
+    for (i = 28; i < 32; i++) {
+        p[i] = 128;
+        bytes_give("a byte before the participant", t, n, not_in_form);
+        p[i] = 0;
+    }
+    memset(p, 255, 40);
+    bytes_give("a record out of form", t, n,
+               "AUCTION buy size 100 range 100 to 110\nEVENT 1 taken\nEVENT 4294967295 refused 32\n"
+               "END time range 100 to 110\nFILL 1 105 30\nFILL contra 108 70\nTOTAL 100\n");
+}
+
+enum { UNTOUCHED = 0x5A, BEYOND = 64 };
+
+/* One move: its number, or the moved bytes, and not one byte more. */
+static void moves_to(const char *name, const unsigned char *tape, size_t n, int to_new, size_t room, int number,
+                     const unsigned char *want, size_t length)
+{
+    static unsigned char out[PEER_TAPE_MAX + BEYOND], whole[PEER_TAPE_MAX + BEYOND];
+    size_t got = UNTOUCHED;
+    int answer;
+
+    memset(out, UNTOUCHED, sizeof out);
+    memset(whole, UNTOUCHED, sizeof whole);
+    if (number == 0)
+        memcpy(whole, want, length);
+    answer = peer_move(tape, n, to_new, out, room, &got);
+    if (answer == number && got == (number ? UNTOUCHED : length) && memcmp(out, whole, sizeof out) == 0) {
+        passed++;
+        return;
+    }
+    failed++;
+    printf("FAILED %s (move %s): answer %d, length %lu\n", name, to_new ? "new" : "old", answer, (unsigned long)got);
+}
+
+static void move_refused(const char *name, const unsigned char *tape, size_t n, int to_new, int number)
+{
+    moves_to(name, tape, n, to_new, PEER_TAPE_MAX, number, NULL, 0);
+    moves_to(name, tape, n, to_new, 0, number, NULL, 0);
+}
+
+/* Both ways, into enough room, just enough, and one byte less. */
+static void moves_both(const char *name, const unsigned char *old, size_t n, const unsigned char *new, size_t m)
+{
+    moves_to(name, old, n, 1, PEER_TAPE_MAX, 0, new, m);
+    moves_to(name, old, n, 1, m, 0, new, m);
+    moves_to(name, old, n, 1, m - 1, 24, NULL, 0);
+    moves_to(name, old, n, 1, 0, 24, NULL, 0);
+    moves_to(name, new, m, 0, PEER_TAPE_MAX, 0, old, n);
+    moves_to(name, new, m, 0, n, 0, old, n);
+    moves_to(name, new, m, 0, n - 1, 24, NULL, 0);
+    moves_to(name, new, m, 0, 0, 24, NULL, 0);
+    move_refused(name, old, n, 0, 22);
+    move_refused(name, new, m, 1, 22);
+}
+
+/* W-206: a prefix, an order and records that are out of form are moved as they are. */
+static void moves(void)
+{
+    unsigned char old[5 + 64 + 3 * 32 + 16], new[5 + 64 + 3 * 40 + 16], *p = new + 5 + 64;
+    struct peer_order o = buy(100, 1, 110, 108);
+    struct peer_event e[3];
+    size_t n = sizeof old, m = sizeof new, i;
+
+    e[0] = SELL_GTX(1, 30, 105);
+    e[1] = AMEND(2, 1, 20, 106);
+    e[2] = CANCEL(3, 9);
+    build_tape(old + 5, PEER_OLD, &o, e, 3);
+    build_tape(new + 5, PEER_NEW, &o, e, 3);
+    memcpy(old, "CUB2!", 5);
+    memcpy(new, "CUB2!", 5);
+    old[n - 12] = new[m - 12] = 5;          /* the offset */
+    moves_both("a prefix of five bytes", old, n, new, m);
+    memset(old + 5, 254, 64);
+    memset(new + 5, 254, 64);
+    moves_both("an order out of form", old, n, new, m);
+    memset(old + 5 + 64 + 32, 255, 32);
+    memset(p + 40, 255, 32);
+    moves_both("a record out of form", old, n, new, m);
+
+    for (i = 0; i < 3 * 40; i++) {          /* any byte of any record's last two words */
+        if (i % 40 < 32)
+            continue;
+        p[i] = 1;
+        move_refused("a last word or a participant that isn't 0", new, m, 0, 25);
+        move_refused("already new, whatever is in it", new, m, 1, 22);
+        p[i] = 0;
+    }
+    moves_both("all zero again", old, n, new, m);
+
+    old[n - 1] = new[m - 1] = 1;
+    p[32] = 1;
+    move_refused("the last word of the trailer", old, n, 1, 22);
+    move_refused("the last word of the trailer", new, m, 0, 22);
+    old[n - 1] = new[m - 1] = 0;
+    old[n - 12] = new[m - 12] = 6;
+    move_refused("the offset", old, n, 1, 23);
+    move_refused("the offset, before 25", new, m, 0, 23);
+    move_refused("already old, and the offset", old, n, 0, 22);
+    move_refused("already new, and the offset", new, m, 1, 22);
+    old[n - 12] = new[m - 12] = 5;
+    old[n - 13] = '2';
+    new[m - 13] = 'T';
+    move_refused("the other word", old, n, 0, 23);
+    move_refused("the other word", new, m, 1, 23);
+    move_refused("the other word, wanted", old, n, 1, 22);
+    move_refused("the other word, wanted", new, m, 0, 22);
+    old[n - 13] = new[m - 13] = '3';
+    move_refused("neither word", old, n, 0, 22);
+    move_refused("neither word", new, m, 1, 22);
+    for (i = 0; i < 2; i++) {
+        move_refused("no bytes", old, 0, (int)i, 21);
+        move_refused("15 bytes", old, 15, (int)i, 21);
+        move_refused("16 bytes of no trailer", old, 16, (int)i, 22);
+    }
+}
+
+/* W-206 about the greatest length. */
+static void long_moves(void)
+{
+    static unsigned char old[PEER_TAPE_MAX + 64], new[PEER_TAPE_MAX + 64];
+    static struct peer_event e[PEER_EVENTS_MAX];
+    static const size_t count[] = { 0, 1, 3, 1635, 1636 };
+    struct peer_order o = buy(100, 1, 110, 108);
+    size_t i, n, m, s;
+
+    for (i = 0; i < PEER_EVENTS_MAX; i++)
+        e[i] = SELL_GTX((uint32_t)i + 1, 30, 105);
+    for (i = 0; i < sizeof count / sizeof count[0]; i++) {
+        s = 65536 - 80 - 40 * count[i];     /* 16 for 1,636 events */
+        memset(old, 0xC3, s);
+        memset(new, 0xC3, s);
+        n = s + build_tape(old + s, PEER_OLD, &o, e, (int)count[i]);
+        m = s + build_tape(new + s, PEER_NEW, &o, e, (int)count[i]);
+        build_word(old + n - 12, (uint32_t)s);
+        build_word(new + m - 12, (uint32_t)s);
+        moves_both("to 65,536 bytes", old, n, new, m);
+        if (count[i] == 0)
+            continue;                       /* the next one is 21 */
+        n = s + 1 + build_tape(old + s + 1, PEER_OLD, &o, e, (int)count[i]);
+        old[s] = 0xC3;
+        build_word(old + n - 12, (uint32_t)s + 1);
+        move_refused("to 65,537 bytes", old, n, 1, 26);
+        move_refused("is old", old, n, 0, 22);
+        new[m - 24 + 7] = 1;                /* the last record's last byte */
+        move_refused("65,536 bytes, the last record's last byte", new, m, 0, 25);
+    }
+    n = build_tape(old, PEER_OLD, &o, e, 1636);
+    m = build_tape(new, PEER_NEW, &o, e, 1636);
+    moves_both("1,636 events alone", old, n, new, m);
+    n = build_tape(old, PEER_OLD, &o, e, 1637);
+    move_refused("1,637 events", old, n, 1, 26);
+    n = build_tape(old, PEER_OLD, &o, e, PEER_EVENTS_MAX);
+    move_refused("2,045 events", old, n, 1, 26);
+    memset(old, 0, sizeof old);
+    move_refused("65,536 bytes of zero", old, PEER_TAPE_MAX, 1, 22);
+    move_refused("65,537 bytes", old, PEER_TAPE_MAX + 1, 1, 21);
+    move_refused("65,537 bytes", old, PEER_TAPE_MAX + 1, 0, 21);
+}
+
+/* The numbers 21, 22, 23 of a new tape. */
+static void new_tapes(void)
+{
+    static unsigned char t[PEER_TAPE_MAX + 64];
+    struct peer_order o = buy(10, 2, 110, 0);
+    struct peer_event e = SELL_GTX(1, 3, 105);
+    const char *none = "AUCTION buy size 10 range 101 to 109\nEND time range 101 to 109\nFILL contra 109 10\nTOTAL 10\n";
+    const char *fine = "AUCTION buy size 10 range 101 to 109\nEVENT 1 taken\nEND time range 101 to 109\n"
+                       "FILL contra 105 3\nFILL 1 105 3\nFILL contra 109 4\nTOTAL 10\n";
+    size_t n;
+
+    n = build_tape(t, PEER_NEW, &o, NULL, 0);
+    bytes_give("80 new bytes", t, n, none);
+    bytes_give("a new trailer alone", t + 64, 16, "REFUSED 23\n");
+    n = build_tape(t, PEER_NEW, &o, &e, 1);
+    bytes_give("120 new bytes", t, n, fine);
+    build_trailer(t + 104, PEER_OLD, 0, 1);
+    bytes_give("CUBT and 40 bytes", t, n, "REFUSED 23\n");
+    build_trailer(t + 104, PEER_NEW, 0, 1 + (1u << 29));
+    bytes_give("a new sum that would wrap", t, n, "REFUSED 23\n");
+    build_trailer(t + 104, PEER_NEW, 0u - 40, 2);
+    bytes_give("a new offset that would wrap", t, n, "REFUSED 23\n");
+    build_trailer(t + 104, PEER_NEW, 0, 1);
+    t[n - 1] = 1;
+    bytes_give("a new tape's last word", t, n, "REFUSED 22\n");
+    t[n - 1] = 0;
+    t[n - 13] = '3';
+    bytes_give("CUB3", t, n, "REFUSED 22\n");
+    t[n - 13] = 2;
+    bytes_give("CUB and a 2 that is no letter", t, n, "REFUSED 22\n");
+    n = build_tape(t, PEER_OLD, &o, &e, 1);
+    build_trailer(t + 96, PEER_NEW, 0, 1);
+    bytes_give("CUB2 and 32 bytes", t, n, "REFUSED 23\n");
+
+    memset(t, 0xEE, sizeof t);
+    build_tape(t + PEER_TAPE_MAX - 120, PEER_NEW, &o, &e, 1);
+    build_trailer(t + PEER_TAPE_MAX - 16, PEER_NEW, PEER_TAPE_MAX - 120, 1);
+    bytes_give("the greatest length, new", t, PEER_TAPE_MAX, fine);
+    build_tape(t + PEER_TAPE_MAX - 119, PEER_NEW, &o, &e, 1);
+    build_trailer(t + PEER_TAPE_MAX - 15, PEER_NEW, PEER_TAPE_MAX - 119, 1);
+    bytes_give("one byte over, new", t, PEER_TAPE_MAX + 1, "REFUSED 21\n");
 }
 
 /* The numbers 21, 22, 23 and the recorder's bytes. */
@@ -1737,20 +2130,20 @@ static void tapes(void)
     const char *fine = "AUCTION buy size 10 range 101 to 109\nEND time range 101 to 109\nFILL contra 109 10\nTOTAL 10\n";
     size_t n;
 
-    n = build_tape(t, &o, NULL, 0);
+    n = build_tape(t, PEER_OLD, &o, NULL, 0);
     bytes_give("80 bytes", t, n, fine);
     bytes_give("no bytes", t, 0, "REFUSED 21\n");
     bytes_give("15 bytes", t, 15, "REFUSED 21\n");
     bytes_give("16 bytes of an order", t, 16, "REFUSED 22\n");
     bytes_give("a trailer alone", t + 64, 16, "REFUSED 23\n");
     bytes_give("one byte short in front", t + 1, n - 1, "REFUSED 23\n");
-    build_trailer(t + 64, 1, 0);
+    build_trailer(t + 64, PEER_OLD, 1, 0);
     bytes_give("the offset one too high", t, n, "REFUSED 23\n");
-    build_trailer(t + 64, 0, 1u << 27);
+    build_trailer(t + 64, PEER_OLD, 0, 1u << 27);
     bytes_give("a sum that would wrap", t, n, "REFUSED 23\n");
-    build_trailer(t + 64, 0u - 32, 1);
+    build_trailer(t + 64, PEER_OLD, 0u - 32, 1);
     bytes_give("an offset that would wrap", t, n, "REFUSED 23\n");
-    build_trailer(t + 64, 0, 0);
+    build_trailer(t + 64, PEER_OLD, 0, 0);
     t[79] = 1;
     bytes_give("the last word", t, n, "REFUSED 22\n");
     t[79] = 0;
@@ -1758,24 +2151,25 @@ static void tapes(void)
     bytes_give("the first word", t, n, "REFUSED 22\n");
 
     memset(t, 0xEE, sizeof t);
-    build_tape(t + PEER_TAPE_MAX - 80, &o, NULL, 0);
-    build_trailer(t + PEER_TAPE_MAX - 16, PEER_TAPE_MAX - 80, 0);
+    build_tape(t + PEER_TAPE_MAX - 80, PEER_OLD, &o, NULL, 0);
+    build_trailer(t + PEER_TAPE_MAX - 16, PEER_OLD, PEER_TAPE_MAX - 80, 0);
     bytes_give("the greatest length", t, PEER_TAPE_MAX, fine);
-    build_tape(t + PEER_TAPE_MAX - 79, &o, NULL, 0);
-    build_trailer(t + PEER_TAPE_MAX - 15, PEER_TAPE_MAX - 79, 0);
+    build_tape(t + PEER_TAPE_MAX - 79, PEER_OLD, &o, NULL, 0);
+    build_trailer(t + PEER_TAPE_MAX - 15, PEER_OLD, PEER_TAPE_MAX - 79, 0);
     bytes_give("one byte over", t, PEER_TAPE_MAX + 1, "REFUSED 21\n");
 }
 
 int main(int argc, char **argv)
 {
-    if (argc == 2 && strcmp(argv[1], "tape") == 0) {
+    if (argc == 2) {
         unsigned char t[200];
         struct peer_order o = buy(10, 2, 110, 0);
         struct peer_event e[2];
         size_t n;
 
-        e[0] = e[1] = SELL_GTX(1, 3, 105);
-        n = build_tape(t, &o, e, 2);
+        e[0] = build_by(77, SELL_GTX(1, 3, 105));
+        e[1] = build_by(5, SELL_GTX(1, 3, 105));
+        n = build_tape(t, strcmp(argv[1], "firms") == 0 ? PEER_NEW : PEER_OLD, &o, e, 2);
         return fwrite(t, 1, n, stdout) == n ? EXIT_SUCCESS : EXIT_FAILURE;
     }
     figures();
@@ -1796,7 +2190,13 @@ int main(int argc, char **argv)
     watched_endings();
     watched_refusals();
     watched_boards();
+    participants();
+    participants_move();
+    new_bytes();
+    moves();
+    long_moves();
     tapes();
+    new_tapes();
     printf("figures: %d passed, %d failed\n", passed, failed);
     return failed ? EXIT_FAILURE : EXIT_SUCCESS;
 }

@@ -2,8 +2,9 @@
  *
  * A tape is drafted as a buy, and mirrored record by record for a sell, so
  * that every edge is as common on either side. While drafting, the engine
- * is run along as a guide to where the edges are. No expression draws two
- * random numbers, since C leaves the order of the draws open. */
+ * is run along as a guide to where the edges are. Records are drafted in the
+ * old form; a new tape's get their participants when all are there. No expression
+ * draws two random numbers, since C leaves the order of the draws open. */
 #include "gen.h"
 
 #include "build.h"
@@ -620,11 +621,12 @@ struct draft {
     struct rng g;
     int sell;
     struct peer_auction a;                  /* the guide */
-    unsigned char bytes[PEER_EVENTS_MAX * PEER_EVENT_BYTES];
+    unsigned char bytes[PEER_EVENTS_MAX * PEER_OLD];
     int n;
     uint32_t last_seq;                      /* the highest sent, taken or not */
     uint32_t customers;                     /* per cent of responses */
     uint32_t market;                        /* size planned for the market order that ends it */
+    int firms;                              /* are there to be participants? */
 };
 
 static void send_bytes(struct draft *d, const unsigned char *p)
@@ -633,8 +635,8 @@ static void send_bytes(struct draft *d, const unsigned char *p)
 
     if (d->n == PEER_EVENTS_MAX)
         return;
-    memcpy(d->bytes + PEER_EVENT_BYTES * d->n++, p, PEER_EVENT_BYTES);
-    peer_read_event(p, &e);
+    memcpy(d->bytes + PEER_OLD * d->n++, p, PEER_OLD);
+    peer_read_event(p, PEER_OLD, &e);
     peer_step(&d->a, &e);
     if (e.seq > d->last_seq)
         d->last_seq = e.seq;
@@ -645,12 +647,12 @@ static void to_bytes(const struct draft *d, const struct peer_event *e, unsigned
 {
     struct peer_event m = d->sell && peer_event_form(e) ? build_turn_event(*e) : *e;
 
-    build_event(p, &m);
+    build_event(p, PEER_OLD, &m);
 }
 
 static void send_event(struct draft *d, const struct peer_event *e)
 {
-    unsigned char p[PEER_EVENT_BYTES];
+    unsigned char p[PEER_OLD];
 
     to_bytes(d, e, p);
     send_bytes(d, p);
@@ -662,7 +664,7 @@ static int answer_to(const struct draft *d, const unsigned char *p, struct peer_
     struct peer_event e;
 
     *after = d->a;
-    peer_read_event(p, &e);
+    peer_read_event(p, PEER_OLD, &e);
     return peer_step(after, &e);
 }
 
@@ -857,7 +859,7 @@ static uint32_t seq_of_sent(const struct draft *d, int i)
 {
     struct peer_event e;
 
-    peer_read_event(d->bytes + PEER_EVENT_BYTES * i, &e);
+    peer_read_event(d->bytes + PEER_OLD * i, PEER_OLD, &e);
     return e.seq;
 }
 
@@ -868,7 +870,7 @@ static uint32_t named_before(struct draft *d)
     int i, from = (int)below(&d->g, (uint32_t)d->n + 1);
 
     for (i = 0; i < d->n; i++) {
-        peer_read_event(d->bytes + PEER_EVENT_BYTES * ((from + i) % d->n), &e);
+        peer_read_event(d->bytes + PEER_OLD * ((from + i) % d->n), PEER_OLD, &e);
         if (e.kind == PEER_CANCEL || e.kind == PEER_AMEND)
             return e.field[0];
     }
@@ -1063,14 +1065,14 @@ static void odd_bytes(struct draft *d, unsigned char *p)
         if (d->n > 0) {
             uint32_t i = below(&d->g, (uint32_t)d->n);
 
-            memcpy(p, d->bytes + PEER_EVENT_BYTES * i, PEER_EVENT_BYTES);
+            memcpy(p, d->bytes + PEER_OLD * i, PEER_OLD);
             return;
         }
         e = any_event(d);
         break;
     case 2:                                 /* the last record again */
         if (d->n > 0) {
-            memcpy(p, d->bytes + PEER_EVENT_BYTES * (d->n - 1), PEER_EVENT_BYTES);
+            memcpy(p, d->bytes + PEER_OLD * (d->n - 1), PEER_OLD);
             return;
         }
         e = any_event(d);
@@ -1123,7 +1125,7 @@ static void odd_bytes(struct draft *d, unsigned char *p)
 /* Sends an odd record; it seldom ends the auction. */
 static void send_odd(struct draft *d)
 {
-    unsigned char p[PEER_EVENT_BYTES];
+    unsigned char p[PEER_OLD];
     int tries;
 
     for (tries = 0; tries < 20; tries++) {
@@ -1137,7 +1139,7 @@ static void send_odd(struct draft *d)
 /* Sends the event unless it would end the auction. */
 static int send_quiet(struct draft *d, const struct peer_event *e)
 {
-    unsigned char p[PEER_EVENT_BYTES];
+    unsigned char p[PEER_OLD];
 
     to_bytes(d, e, p);
     if (ending_after(d, p) != d->a.ending)
@@ -1478,13 +1480,13 @@ static void amend_script(struct draft *d)
         case 2: cancel_named(d, name); break;
         case 3: amend_named(d, old); break;
         case 4: name = amend_named(d, name); break;
-        case 5: send_bytes(d, d->bytes + PEER_EVENT_BYTES * sent_at); break;
+        case 5: send_bytes(d, d->bytes + PEER_OLD * sent_at); break;
         case 6: case 7:                     /* time going back, to before the amend */
             e = stamp(d, build_gtx(0, 0, PEER_SELL, 1, d->a.init, 0));
             e.time = clamp((int64_t)d->a.clock - 1, 0, PEER_TIME_MAX);
             send_event(d, &e);
             break;
-        default: send_bytes(d, d->bytes + PEER_EVENT_BYTES * (d->n - 1)); break;
+        default: send_bytes(d, d->bytes + PEER_OLD * (d->n - 1)); break;
         }
     }
 }
@@ -1525,7 +1527,7 @@ static void script(struct draft *d)
 {
     const struct peer_auction *a = &d->a;
     struct peer_event e;
-    unsigned char p[PEER_EVENT_BYTES];
+    unsigned char p[PEER_OLD];
     uint32_t seq, marks;
 
     switch (below(&d->g, 9)) {
@@ -1586,10 +1588,10 @@ static void script(struct draft *d)
         cancel_named(d, seq);
         send_bytes(d, p);
         if (chance(&d->g, 50)) {
-            peer_read_event(p, &e);
+            peer_read_event(p, PEER_OLD, &e);
             e.seq = d->last_seq + 1;
             e.time = a->clock;
-            build_event(p, &e);
+            build_event(p, PEER_OLD, &e);
             send_bytes(d, p);
         }
         if (chance(&d->g, 30))
@@ -1623,7 +1625,7 @@ static void script(struct draft *d)
 /* Many records at and past the bounds of their fields. */
 static void body_damaged(struct draft *d)
 {
-    unsigned char p[PEER_EVENT_BYTES];
+    unsigned char p[PEER_OLD];
     int k;
 
     for (k = (int)between(&d->g, 10, 60); k > 0; k--) {
@@ -1724,7 +1726,7 @@ static const unsigned char *sent_before(struct draft *d)
         for (k = 0; k < d->n; k++)
             if (seq_of_sent(d, k) == gone)
                 i = k;
-    return d->bytes + PEER_EVENT_BYTES * i;
+    return d->bytes + PEER_OLD * i;
 }
 
 /* Sends a record that the number refuses, if it is found; without that number
@@ -1734,7 +1736,7 @@ static void send_refused(struct draft *d, uint32_t number)
     const struct peer_auction *a = &d->a;
     struct peer_event e = offer_event(d);
     struct peer_auction after;
-    unsigned char p[PEER_EVENT_BYTES];
+    unsigned char p[PEER_OLD];
     int again = 0;
 
     switch (number) {
@@ -1770,7 +1772,7 @@ static void send_refused(struct draft *d, uint32_t number)
         break;
     }
     if (again)
-        memcpy(p, sent_before(d), PEER_EVENT_BYTES);
+        memcpy(p, sent_before(d), PEER_OLD);
     else
         to_bytes(d, &e, p);
     if (answer_to(d, p, &after) == (int)number)
@@ -2130,7 +2132,7 @@ static void send_ending(struct draft *d, int ending)
         PEER_BY_TIME, PEER_BY_TIME, PEER_BY_SAME, PEER_BY_SAME, PEER_BY_OPPOSITE, PEER_BY_OPPOSITE,
         PEER_BY_IMPROVE, PEER_BY_IMPROVE, PEER_BY_OPPOSITE
     };
-    unsigned char p[PEER_EVENT_BYTES];
+    unsigned char p[PEER_OLD];
     struct peer_event e;
     int tries;
 
@@ -2151,6 +2153,37 @@ static void send_ending(struct draft *d, int ending)
                                       d->a.cust_bb ? PEER_CUST_BB : 0));
             send_quiet(d, &e);
         }
+    }
+}
+
+/* Records that would change who is behind the lowest GTX, and don't: the record
+ * that made it again, an amend above the initiating price, a late amend. */
+static void firm_script(struct draft *d, int ending)
+{
+    const struct peer_response *r = NULL;
+    struct peer_event e;
+    uint32_t seq;
+    int i;
+
+    for (i = 0; i < d->a.n_live; i++)
+        if (d->a.live[i].gtx && (r == NULL || d->a.live[i].price < r->price))
+            r = &d->a.live[i];
+    if (r == NULL)
+        return;
+    seq = r->seq;
+    e = build_amend(0, 0, seq, r->size, as_price((int64_t)d->a.init + PICK(&d->g, 1, 1, 2, 50)));
+    for (i = d->n - 1; i >= 0 && seq_of_sent(d, i) != seq; i--)
+        ;
+    if (i >= 0 && chance(&d->g, 60))
+        send_bytes(d, d->bytes + PEER_OLD * i);
+    if (chance(&d->g, 60)) {
+        e = stamp(d, e);
+        send_quiet(d, &e);
+    }
+    if ((ending == END_LATE || ending == END_CLOSE) && chance(&d->g, 60)) {
+        e = stamp(d, build_amend(0, 0, seq, 1, d->a.init));
+        e.time = d->a.order.interval;
+        send_event(d, &e);
     }
 }
 
@@ -2231,6 +2264,8 @@ static void draft_events(struct draft *d, int body, int ending, int wide)
         send_odd(d);
     if (chance(&d->g, 8))                   /* the last word before the ending */
         send_some(d, aimed_amend);
+    if (d->firms && chance(&d->g, 30))
+        firm_script(d, ending);
     send_ending(d, ending);
     if (ending != END_CLOSE && chance(&d->g, body >= BODY_CAPPED ? 60 : 25))
         send_tail(d);
@@ -2239,8 +2274,218 @@ static void draft_events(struct draft *d, int body, int ending, int wide)
             send_odd(d);
 }
 
+/* ------------------------------------------------------------------ */
+/* The two forms of a tape                                            */
+
+/* What a tape aimed at the moves between the forms is to be. */
+enum move_aim {
+    MOVE_NO_AIM,
+    MOVE_ZERO, MOVE_ZERO_ODD, MOVE_NEW_EMPTY, MOVE_NEW_FULL,                    /* new, and can go back */
+    MOVE_FIRST, MOVE_LAST, MOVE_FIRST_WORD, MOVE_LAST_WORD, MOVE_ONE_BYTE, MOVE_ALL,    /* new, and can't */
+    MOVE_NEW_FITS, MOVE_NEW_DAMAGED,
+    MOVE_LAST_NEW = MOVE_NEW_DAMAGED,
+    MOVE_ODD, MOVE_ODD_ORDER, MOVE_OLD_EMPTY, MOVE_TO_FULL, MOVE_TO_UNDER,      /* old, and can be made new */
+    MOVE_TO_OVER, MOVE_OLD_FULL, MOVE_MANY,                                     /* about the greatest length */
+    MOVE_OLD_FITS, MOVE_OLD_DAMAGED, MOVE_AIMS
+};
+
+/* Who is behind an event: few numbers, so that many are equal. */
+static uint32_t participant(struct rng *h)
+{
+    return (uint32_t)PICK(h, 0, 0, 0, 1, 1, 2, 2, 3, 7, 77, 256, 65536, 16777216, INT32_MAX, INT32_MIN, -1, -1, -1);
+}
+
+/* The last record before one with this sequence, of a kind that can make a response; or -1. */
+static int sent_as(const struct draft *d, int i, uint32_t seq)
+{
+    struct peer_event e;
+
+    while (--i >= 0) {
+        peer_read_event(d->bytes + PEER_OLD * i, PEER_OLD, &e);
+        if (e.seq == seq && (e.kind == PEER_GTX || e.kind == PEER_LIMIT || e.kind == PEER_AMEND))
+            return i;
+    }
+    return -1;
+}
+
+/* The drafted records in the new form, each with a participant. An amend has
+ * most often another one than what it names, a resend another one or the same. */
+static void put_participants(struct rng *h, const struct draft *d, int n, unsigned char *out)
+{
+    uint32_t style = below(h, 8), same = participant(h), who[PEER_EVENTS_MAX_NEW];
+    struct peer_event e;
+    int i, k;
+
+    for (i = 0; i < n; i++, out += PEER_NEW) {
+        peer_read_event(d->bytes + PEER_OLD * i, PEER_OLD, &e);
+        switch (style) {
+        case 0: who[i] = same; break;
+        case 1: case 2: who[i] = (uint32_t)i + 1; break;
+        case 3: who[i] = between(h, 1, 3); break;
+        default: who[i] = participant(h); break;
+        }
+        k = sent_as(d, i, e.kind == PEER_AMEND ? e.field[0] : e.seq);
+        if (k >= 0 && style != 0) {
+            uint32_t differs = below(h, 100);
+
+            if (e.kind == PEER_AMEND && differs < 80 && who[i] == who[k])
+                who[i] = who[k] + (uint32_t)PICK(h, 1, -1, 1000);
+            else if (differs >= 90 || (e.kind != PEER_AMEND && differs < 30))
+                who[i] = who[k];
+        }
+        memcpy(out, d->bytes + PEER_OLD * i, PEER_OLD);
+        build_word(out + 32, who[i]);
+        build_word(out + 36, 0);
+    }
+}
+
+/* Puts something into the last word of some new records, or changes a byte of
+ * their last two. */
+static void spoil_words(struct rng *h, unsigned char *records, int n)
+{
+    uint32_t k, i, at;
+
+    for (k = between(h, 1, 3); k > 0; k--) {
+        i = below(h, (uint32_t)n);
+        if (chance(h, 70)) {
+            at = between(h, 36, 39);
+            records[PEER_NEW * i + at] = (unsigned char)PICK(h, 1, 1, 128, 255);
+        } else {
+            at = between(h, 32, 39);
+            records[PEER_NEW * i + at] ^= (unsigned char)(1u << below(h, 8));
+        }
+    }
+}
+
+/* The last two words of all new records as an aim has them. */
+static void aim_words(struct rng *h, int aim, unsigned char *records, int n)
+{
+    uint32_t last = (uint32_t)n - 1, i, at;
+
+    if (aim == MOVE_ALL || aim == MOVE_NEW_DAMAGED || n == 0)
+        return;
+    for (i = 0; i <= last; i++)
+        memset(records + PEER_NEW * i + 32, 0, 8);
+    switch (aim) {
+    case MOVE_FIRST:
+    case MOVE_LAST:
+        i = aim == MOVE_FIRST ? 0 : last;
+        build_word(records + PEER_NEW * i + 32, (uint32_t)PICK(h, 1, 77, 256, INT32_MIN, -1));
+        break;
+    case MOVE_FIRST_WORD:
+    case MOVE_LAST_WORD:
+        i = aim == MOVE_FIRST_WORD ? 0 : last;
+        build_word(records + PEER_NEW * i + 36, (uint32_t)PICK(h, 1, 77, 256, INT32_MIN, -1));
+        break;
+    case MOVE_ONE_BYTE:
+        i = below(h, (uint32_t)n);
+        at = between(h, 32, 39);
+        records[PEER_NEW * i + at] = (unsigned char)PICK(h, 1, 128, 255);
+        break;
+    }
+}
+
+/* Makes the drafted records what an aim needs: their count, and some out of form. */
+static void aim_events(struct rng *h, struct draft *d, int aim)
+{
+    uint32_t want = 0, k, i;
+
+    if (aim == MOVE_NEW_EMPTY || aim == MOVE_OLD_EMPTY)
+        d->n = 0;
+    else if (aim == MOVE_MANY)
+        want = (uint32_t)PICK(h, 1635, 1636, 1636, 1637, 1638, PEER_EVENTS_MAX);
+    else
+        want = 3;
+    while ((uint32_t)d->n < want) {
+        if (d->n < 3)
+            send_odd(d);
+        else
+            send_bytes(d, d->bytes + PEER_OLD * below(h, (uint32_t)d->n));
+    }
+    if (aim == MOVE_MANY)
+        d->n = (int)want;
+    if ((aim == MOVE_NEW_FITS || aim == MOVE_OLD_FITS) && d->n >= 20)
+        d->n -= d->n % 20;                  /* then whole records of the other length fit their bytes */
+    if (aim == MOVE_ZERO_ODD || aim == MOVE_ODD) {
+        for (k = between(h, 1, 3); k > 0; k--) {
+            i = below(h, (uint32_t)d->n);
+            damage_event(h, d->bytes + PEER_OLD * i);
+        }
+    }
+}
+
+/* The recorder's own bytes that an aim needs, if the tape is n bytes without them; or -1. */
+static int64_t aim_prefix(struct rng *h, int aim, int64_t n, int events)
+{
+    int64_t most = PEER_TAPE_MAX - (n + (PEER_NEW - PEER_OLD) * (int64_t)events);
+
+    switch (aim) {
+    case MOVE_NEW_FULL:
+    case MOVE_OLD_FULL: return PEER_TAPE_MAX - n;
+    case MOVE_OLD_EMPTY: return chance(h, 30) ? PEER_TAPE_MAX - n : -1;
+    case MOVE_TO_FULL: return most;
+    case MOVE_TO_UNDER: return most - PICK(h, 1, 1, 2, 4, 7, 8, 8);
+    case MOVE_TO_OVER: return most + PICK(h, 1, 1, 2, 4, 7, 8, 8);
+    case MOVE_MANY: return PICK(h, 0, 0, 15, 16, 16);
+    case MOVE_ZERO_ODD:
+    case MOVE_ODD: return between(h, 1, 100);
+    default: return -1;
+    }
+}
+
+/* What a count may be raised by without a change of the length sum in 32 bits. */
+static uint32_t count_that_wraps(struct rng *g, size_t form)
+{
+    return form == PEER_NEW ? (1u << 29) * between(g, 1, 7) : (1u << 27) * between(g, 1, 31);
+}
+
+/* The other form's word, and lengths that add up so: the order and the records,
+ * or the records alone, are read from the wrong bytes. */
+static void fit_other(unsigned char *p, size_t n, size_t form, uint32_t s)
+{
+    unsigned char *trailer = p + n - PEER_TRAILER_BYTES;
+    size_t other = PEER_OLD + PEER_NEW - form, bytes = n - s - PEER_ORDER_BYTES - PEER_TRAILER_BYTES;
+
+    build_trailer(trailer, other, s + (uint32_t)(bytes % other), (uint32_t)(bytes / other));
+}
+
+/* Damage that has to do with the form. */
+static size_t damage_form(struct rng *h, unsigned char *p, size_t n, size_t form, uint32_t s, uint32_t events)
+{
+    static const char word[][5] = {
+        "CUB1", "CUB3", "CUBU", "CUBt", "cub2", "2BUC", "CUB ", "CUB\262", "DUB2", "CVB2", "CUC2", "CUCT"
+    };
+    unsigned char *trailer = p + n - PEER_TRAILER_BYTES;
+    uint32_t k;
+
+    switch (below(h, 9)) {
+    case 0: case 1: case 2:                 /* the other form's word */
+        memcpy(trailer, form == PEER_NEW ? "CUBT" : "CUB2", 4);
+        return n;
+    case 3: case 4:
+        k = below(h, sizeof word / sizeof word[0]);
+        memcpy(trailer, word[k], 4);
+        return n;
+    case 5:
+        k = between(h, 12, 15);
+        trailer[k] = (unsigned char)PICK(h, 1, 128, 255);
+        return n;
+    case 6:
+        build_word(trailer + 8, events + count_that_wraps(h, form));
+        return n;
+    case 7:                                 /* one record of the other length */
+        memmove(form == PEER_NEW ? trailer - 8 : trailer + 8, trailer, PEER_TRAILER_BYTES);
+        if (form != PEER_NEW)
+            memset(trailer, 0, 8);
+        return form == PEER_NEW ? n - 8 : n + 8;
+    default:
+        fit_other(p, n, form, s);
+        return n;
+    }
+}
+
 /* Damage to the tape as a whole: the trailer, the lengths, the ends. */
-static size_t damage_tape(struct rng *g, unsigned char *p, size_t n, uint32_t s, uint32_t events)
+static size_t damage_tape(struct rng *g, unsigned char *p, size_t n, size_t form, uint32_t s, uint32_t events)
 {
     unsigned char *trailer = p + n - PEER_TRAILER_BYTES;
     uint32_t k;
@@ -2277,10 +2522,10 @@ static size_t damage_tape(struct rng *g, unsigned char *p, size_t n, uint32_t s,
         return n;
     case 9:                                 /* right only if the sum may wrap */
         if (chance(g, 50)) {
-            build_word(trailer + 8, events + (1u << 27) * between(g, 1, 31));
+            build_word(trailer + 8, events + count_that_wraps(g, form));
         } else {
-            k = s / 32 + between(g, 1, 5);
-            build_word(trailer + 4, s - 32 * k);
+            k = s / (uint32_t)form + between(g, 1, 5);
+            build_word(trailer + 4, s - (uint32_t)form * k);
             build_word(trailer + 8, events + k);
         }
         return n;
@@ -2298,7 +2543,7 @@ static size_t damage_tape(struct rng *g, unsigned char *p, size_t n, uint32_t s,
     case 12:                                /* a trailer alone, or less than an order before it */
         k = (uint32_t)PICK(g, 0, 0, 1, 63, 32);
         memset(p, 0, k);
-        build_trailer(p + k, 0, 0);
+        build_trailer(p + k, form, 0, 0);
         return k + PEER_TRAILER_BYTES;
     case 13:                                /* noise */
         k = between(g, 1, 400);
@@ -2306,7 +2551,7 @@ static size_t damage_tape(struct rng *g, unsigned char *p, size_t n, uint32_t s,
             p[i] = (unsigned char)below(g, 256);
         return k;
     case 14:                                /* lengths add up, but the order is read from the wrong bytes */
-        build_word(trailer + 4, s + 32);
+        build_word(trailer + 4, s + (uint32_t)form);
         build_word(trailer + 8, events - 1);
         return n;
     case 15:                                /* two words wrong */
@@ -2359,24 +2604,28 @@ size_t gen_tape(uint64_t seed, uint32_t index, unsigned char *out)
         { AIM_10, -1, -1 }, { AIM_UP, BODY_LEVELS, -1 }
     };
     struct draft d;
-    struct rng *g = &d.g;
+    struct rng *g = &d.g, forms, *h = &forms;
     unsigned char order_bytes[PEER_ORDER_BYTES];
     struct peer_order o, m;
     uint32_t kind = index % 12, turn = index / 12;
     uint32_t mode, s, i;
-    int number = 0, aim = -1, room, body, ending;
-    size_t n;
+    int number = 0, aim = -1, move = MOVE_NO_AIM, room, body, ending;
+    int64_t own;
+    size_t n, form;
 
     memset(&d, 0, sizeof d);
     g->state = seed * 0xD1342543DE82EF95u + index;
     next(g);
     g->state ^= next(g);
+    h->state = g->state ^ 0x5DEECE66D2B79F31u;     /* draws of its own for all that has to do with the form */
+    next(h);
 
     /* Every twelfth tape is refused for its order; numbers, sides and modes
      * take turns, so that each comes up. So do bodies, sides and modes of the
      * twelfth that is aimed at the leftovers of a share, and of the one aimed at
      * the contracts on offer, where endings take turns too; and sides, modes and
-     * aims of the one aimed at the collar. The rest are drawn. */
+     * aims of the one aimed at the collar; and the aims of the one aimed at the
+     * moves between the forms. The rest are drawn, and the form of all others. */
     d.sell = (int)below(g, 2);
     mode = between(g, 1, 3);
     if (kind == 5) {
@@ -2468,20 +2717,47 @@ size_t gen_tape(uint64_t seed, uint32_t index, unsigned char *out)
         d.last_seq = UINT32_MAX - below(g, 40);
     else if (chance(g, 5))
         d.last_seq = between(g, 1, 1000000);
+    form = chance(h, 34) ? PEER_NEW : PEER_OLD;
+    if (kind == 6) {
+        move = 1 + (int)(turn % (MOVE_AIMS - 1));
+        form = move <= MOVE_LAST_NEW ? PEER_NEW : PEER_OLD;
+    }
+    d.firms = form == PEER_NEW;
     if (chance(g, 90) || number == 0)
         draft_events(&d, body, ending, room == WIDE_ROOM);
 
-    n = PEER_ORDER_BYTES + (size_t)d.n * PEER_EVENT_BYTES + PEER_TRAILER_BYTES;
+    if (move != MOVE_NO_AIM)
+        aim_events(h, &d, move);
+    if (move == MOVE_ODD_ORDER)
+        damage_order(order_bytes, below(h, ORDER_EDGES + 1));
+    if ((form == PEER_NEW || (move >= MOVE_TO_FULL && move <= MOVE_TO_OVER)) && d.n > PEER_EVENTS_MAX_NEW)
+        d.n = PEER_EVENTS_MAX_NEW;
+    n = PEER_ORDER_BYTES + (size_t)d.n * form + PEER_TRAILER_BYTES;
     s = prefix_length(g, n);
+    own = aim_prefix(h, move, (int64_t)n, d.n);
+    if (own >= 0)
+        s = (uint32_t)own;
     for (i = 0; i < s; i++)
         out[i] = (unsigned char)below(g, 256);
     if (s >= 16 && chance(g, 30))
-        build_trailer(out, 0, 0);
+        build_trailer(out, chance(h, 50) ? PEER_NEW : PEER_OLD, 0, 0);
     memcpy(out + s, order_bytes, PEER_ORDER_BYTES);
-    memcpy(out + s + PEER_ORDER_BYTES, d.bytes, (size_t)d.n * PEER_EVENT_BYTES);
-    build_trailer(out + s + n - PEER_TRAILER_BYTES, s, (uint32_t)d.n);
+    if (form == PEER_NEW) {
+        put_participants(h, &d, d.n, out + s + PEER_ORDER_BYTES);
+        if (move != MOVE_NO_AIM)
+            aim_words(h, move, out + s + PEER_ORDER_BYTES, d.n);
+        else if (kind % 2 == 0 && d.n > 0 && chance(h, 30))
+            spoil_words(h, out + s + PEER_ORDER_BYTES, d.n);
+    } else {
+        memcpy(out + s + PEER_ORDER_BYTES, d.bytes, (size_t)d.n * PEER_OLD);
+    }
+    build_trailer(out + s + n - PEER_TRAILER_BYTES, form, s, (uint32_t)d.n);
     n += s;
     if (kind == 9 && chance(g, 60))
-        n = damage_tape(g, out, n, s, (uint32_t)d.n);
+        n = damage_tape(g, out, n, form, s, (uint32_t)d.n);
+    else if ((kind == 9 && chance(h, 60)) || move == MOVE_NEW_DAMAGED || move == MOVE_OLD_DAMAGED)
+        n = damage_form(h, out, n, form, s, (uint32_t)d.n);
+    else if (move == MOVE_NEW_FITS || move == MOVE_OLD_FITS)
+        fit_other(out, n, form, s);
     return n;
 }

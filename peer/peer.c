@@ -2,8 +2,9 @@
  *
  * The parts follow the headings of document 01; the amend is document 02's
  * W-201, the contracts on offer are its W-202, the leftovers of a pro rata its
- * W-203, the collar its W-205. All is worked as a buy; a sell is mirrored on
- * the way in and its fills are mirrored back. */
+ * W-203, the collar its W-205, the participants and the moves between the two
+ * forms of a tape its W-206. All is worked as a buy; a sell is mirrored on the
+ * way in and its fills are mirrored back. */
 #include "peer.h"
 
 #include <stdlib.h>
@@ -45,7 +46,7 @@ void peer_read_order(const unsigned char *p, struct peer_order *o)
         o->spare |= p[i];
 }
 
-void peer_read_event(const unsigned char *p, struct peer_event *e)
+void peer_read_event(const unsigned char *p, size_t form, struct peer_event *e)
 {
     int i;
 
@@ -56,26 +57,49 @@ void peer_read_event(const unsigned char *p, struct peer_event *e)
     e->side = p[10];
     for (i = 0; i < 4; i++)
         e->field[i] = word(p + 12 + 4 * i);
+    e->participant = 0;
     e->spare = p[11] | word(p + 28);
+    if (form == PEER_NEW) {
+        e->participant = word(p + 32);
+        e->spare |= word(p + 36);
+    }
 }
 
-int peer_read_tape(const unsigned char *tape, size_t n, size_t *at, size_t *events)
+/* Number 21 or 22, or 0 with the form set. */
+static int read_form(const unsigned char *tape, size_t n, size_t *form)
 {
     const unsigned char *trailer;
-    uint64_t s, count;
 
     if (n < PEER_TAPE_MIN || n > PEER_TAPE_MAX)
         return 21;
     trailer = tape + n - PEER_TRAILER_BYTES;
-    if (memcmp(trailer, "CUBT", 4) != 0 || word(trailer + 12) != 0)
+    if (memcmp(trailer, "CUBT", 4) == 0)
+        *form = PEER_OLD;
+    else if (memcmp(trailer, "CUB2", 4) == 0)
+        *form = PEER_NEW;
+    else
         return 22;
-    s = word(trailer + 4);
-    count = word(trailer + 8);
-    if (s + PEER_ORDER_BYTES + PEER_EVENT_BYTES * count + PEER_TRAILER_BYTES != n)
+    return word(trailer + 12) != 0 ? 22 : 0;
+}
+
+/* Number 23, or 0, of a tape whose form is set. */
+static int read_lengths(const unsigned char *tape, size_t n, struct peer_layout *l)
+{
+    const unsigned char *trailer = tape + n - PEER_TRAILER_BYTES;
+    uint64_t s = word(trailer + 4), count = word(trailer + 8);
+
+    if (s + PEER_ORDER_BYTES + l->form * count + PEER_TRAILER_BYTES != n)
         return 23;
-    *at = (size_t)s;
-    *events = (size_t)count;
+    l->at = (size_t)s;
+    l->events = (size_t)count;
     return 0;
+}
+
+int peer_read_tape(const unsigned char *tape, size_t n, struct peer_layout *l)
+{
+    int number = read_form(tape, n, &l->form);
+
+    return number ? number : read_lengths(tape, n, l);
 }
 
 static int is_price(uint32_t p) { return p >= 1 && p <= PEER_PRICE_MAX; }
@@ -362,6 +386,7 @@ static int place(struct peer_auction *a, const struct peer_event *e, uint32_t si
     r->price = e->field[1];
     r->customer = (e->marks & PEER_CUSTOMER) != 0;
     r->gtx = e->kind == PEER_GTX;
+    r->participant = e->participant;
     r->working = 0;
     return PEER_TAKEN;
 }
@@ -396,7 +421,8 @@ static int cancel_gtx(struct peer_auction *a, const struct peer_event *e)
     return PEER_TAKEN;
 }
 
-/* The new response stands where the old one stood, with its Customer mark. */
+/* The new response stands where the old one stood, with its Customer mark; the
+ * participant is the event's. */
 static int amend_gtx(struct peer_auction *a, const struct peer_event *e)
 {
     struct peer_response *r = live_gtx(a, e->field[0]);
@@ -408,6 +434,7 @@ static int amend_gtx(struct peer_auction *a, const struct peer_event *e)
     r->seq = e->seq;
     r->size = lower(e->field[1], a->order.size);
     r->price = e->field[2];
+    r->participant = e->participant;
     return PEER_TAKEN;
 }
 
@@ -751,28 +778,29 @@ void peer_run(const unsigned char *tape, size_t n, int watch, struct peer_run *r
 {
     struct peer_order o;
     struct peer_event e;
-    size_t at, events, i;
+    struct peer_layout l;
+    size_t i;
 
     r->watch = watch;
     r->n_events = 0;
     r->n_fills = 0;
-    r->refused = peer_read_tape(tape, n, &at, &events);
+    r->refused = peer_read_tape(tape, n, &l);
     if (r->refused)
         return;
-    peer_read_order(tape + at, &o);
+    peer_read_order(tape + l.at, &o);
     r->refused = peer_accept(&o, &r->start);
     if (r->refused)
         return;
 
     r->end = r->start;
-    for (i = 0; i < events; i++) {
-        peer_read_event(tape + at + PEER_ORDER_BYTES + PEER_EVENT_BYTES * i, &e);
+    for (i = 0; i < l.events; i++) {
+        peer_read_event(tape + l.at + PEER_ORDER_BYTES + l.form * i, l.form, &e);
         r->event[i].seq = e.seq;
         r->event[i].answer = peer_step(&r->end, &e);
         if (watch)
             r->event[i].on_offer = peer_on_offer(&r->end);
     }
-    r->n_events = (int)events;
+    r->n_events = (int)l.events;
     peer_close(&r->end);
     r->n_fills = peer_fills(&r->end, r->fill);
 }
@@ -830,7 +858,18 @@ static char *put_answer(char *p, int answer)
     }
 }
 
-size_t peer_print(const struct peer_run *r, char *out)
+/* The live response that a party is, or NULL for the Contra Order and a market order. */
+static const struct peer_response *response_of(const struct peer_auction *a, uint32_t party)
+{
+    int i;
+
+    for (i = 0; i < a->n_live; i++)
+        if (a->live[i].seq == party)
+            return &a->live[i];
+    return NULL;
+}
+
+static size_t print(const struct peer_run *r, int firms, char *out)
 {
     static const char *const ending[] = { "open", "time", "same", "opposite", "improve" };
     char *p = out;
@@ -870,6 +909,12 @@ size_t peer_print(const struct peer_run *r, char *out)
         p = put_number(p, f->price);
         p = put(p, " ");
         p = put_number(p, f->quantity);
+        if (firms) {
+            const struct peer_response *who = response_of(&r->end, f->party);
+
+            if (who != NULL)
+                p = put_number(put(p, " participant "), who->participant);
+        }
         p = put(p, "\n");
         total += f->quantity;
     }
@@ -879,14 +924,58 @@ size_t peer_print(const struct peer_run *r, char *out)
     return (size_t)(p - out);
 }
 
-static size_t run_and_print(const unsigned char *tape, size_t n, int watch, char *out)
+size_t peer_print(const struct peer_run *r, char *out) { return print(r, 0, out); }
+
+static size_t run_and_print(const unsigned char *tape, size_t n, int watch, int firms, char *out)
 {
     struct peer_run r;
 
     peer_run(tape, n, watch, &r);
-    return peer_print(&r, out);
+    return print(&r, firms, out);
 }
 
-size_t peer_listing(const unsigned char *tape, size_t n, char *out) { return run_and_print(tape, n, 0, out); }
+size_t peer_listing(const unsigned char *tape, size_t n, char *out) { return run_and_print(tape, n, 0, 0, out); }
 
-size_t peer_watch(const unsigned char *tape, size_t n, char *out) { return run_and_print(tape, n, 1, out); }
+size_t peer_watch(const unsigned char *tape, size_t n, char *out) { return run_and_print(tape, n, 1, 0, out); }
+
+size_t peer_firms(const unsigned char *tape, size_t n, char *out) { return run_and_print(tape, n, 0, 1, out); }
+
+/* ------------------------------------------------------------------ */
+/* Moving a tape between its forms                                    */
+
+int peer_move(const unsigned char *tape, size_t n, int to_new, unsigned char *out, size_t room, size_t *length)
+{
+    size_t to = to_new ? PEER_NEW : PEER_OLD, head, moved, i;
+    const unsigned char *from;
+    struct peer_layout l;
+    int number = read_form(tape, n, &l.form);
+
+    if (number)
+        return number;
+    if (l.form == to)
+        return 22;
+    if (read_lengths(tape, n, &l))
+        return 23;
+    head = l.at + PEER_ORDER_BYTES;         /* the prefix and the order record */
+    from = tape + head;
+    if (!to_new)
+        for (i = 0; i < l.events; i++)
+            if (word(from + PEER_NEW * i + 32) != 0 || word(from + PEER_NEW * i + 36) != 0)
+                return 25;
+    moved = head + to * l.events + PEER_TRAILER_BYTES;
+    if (moved > PEER_TAPE_MAX)
+        return 26;
+    if (moved > room)
+        return 24;
+
+    memcpy(out, tape, head);
+    out += head;
+    for (i = 0; i < l.events; i++, from += l.form, out += to) {
+        memcpy(out, from, PEER_OLD);
+        memset(out + PEER_OLD, 0, to - PEER_OLD);
+    }
+    memcpy(out, from, PEER_TRAILER_BYTES);  /* from has come to the trailer */
+    memcpy(out, to_new ? "CUB2" : "CUBT", 4);
+    *length = moved;
+    return 0;
+}

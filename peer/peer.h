@@ -1,4 +1,5 @@
-/* peer.h: the engine. From the bytes of a tape to the bytes of its listing. */
+/* peer.h: the engine. From the bytes of a tape to the bytes of its listing, or to
+ * those of the tape in its other form. */
 #ifndef PEER_H
 #define PEER_H
 
@@ -8,19 +9,22 @@
 #define PEER_TAPE_MIN     16
 #define PEER_TAPE_MAX     65536
 #define PEER_ORDER_BYTES  64
-#define PEER_EVENT_BYTES  32
 #define PEER_TRAILER_BYTES 16
-#define PEER_EVENTS_MAX   2045      /* what fits a tape of the greatest length */
+#define PEER_EVENTS_MAX   2045      /* what fits an old tape of the greatest length */
+#define PEER_EVENTS_MAX_NEW 1636    /* and a new one */
 #define PEER_PLACES       64
 #define PEER_FILLS_MAX    130
 
-/* No listing is longer: EVENT lines of at most 48 bytes, FILL lines of at most 30, and 97 for the other three. */
-#define PEER_LISTING_MAX  (PEER_EVENTS_MAX * 48 + PEER_FILLS_MAX * 30 + 97)
+/* No listing is longer: EVENT lines of at most 48 bytes, FILL lines of at most 53, and 97 for the other three. */
+#define PEER_LISTING_MAX  (PEER_EVENTS_MAX * 48 + PEER_FILLS_MAX * 53 + 97)
 
 #define PEER_MIRROR       1000000u  /* a sell's price p is worked as this less p */
 #define PEER_PRICE_MAX    999999u
 #define PEER_SIZE_MAX     100000u
 #define PEER_TIME_MAX     86400000u
+
+/* The forms of a tape, "CUBT" and "CUB2": each is the length of its event records. */
+enum peer_form { PEER_OLD = 32, PEER_NEW = 40 };
 
 enum peer_side { PEER_BUY = 1, PEER_SELL = 2 };
 
@@ -58,6 +62,7 @@ struct peer_order {
 struct peer_event {
     uint32_t seq, time, kind, marks, side;
     uint32_t field[4];
+    uint32_t participant;               /* 0 in an old record */
     uint32_t spare;                     /* all bytes that must be zero, or-ed */
 };
 
@@ -66,6 +71,7 @@ struct peer_response {
     uint32_t seq, size, price;
     int customer;
     int gtx;                            /* only a GTX can be cancelled or amended */
+    uint32_t participant;               /* that of the event which made it what it is */
     uint32_t working;                   /* set at the ending */
 };
 
@@ -103,12 +109,19 @@ struct peer_run {
     struct peer_fill fill[PEER_FILLS_MAX];
 };
 
+/* What a trailer tells of its tape. */
+struct peer_layout {
+    size_t form;                        /* enum peer_form */
+    size_t at;                          /* the order's place */
+    size_t events;                      /* their count */
+};
+
 /* Records from bytes. */
 void peer_read_order(const unsigned char *p, struct peer_order *o);
-void peer_read_event(const unsigned char *p, struct peer_event *e);
+void peer_read_event(const unsigned char *p, size_t form, struct peer_event *e);
 
-/* Number 21, 22 or 23, or 0 with the order's place and the event count set. */
-int peer_read_tape(const unsigned char *tape, size_t n, size_t *at, size_t *events);
+/* Number 21, 22 or 23, or 0 with the layout set. */
+int peer_read_tape(const unsigned char *tape, size_t n, struct peer_layout *l);
 
 /* Is the record in its stated form? */
 int peer_order_form(const struct peer_order *o);
@@ -147,5 +160,13 @@ size_t peer_listing(const unsigned char *tape, size_t n, char *out);
 
 /* The listing with the contracts on offer at the end of each EVENT line. */
 size_t peer_watch(const unsigned char *tape, size_t n, char *out);
+
+/* The listing with the participant at the end of each FILL line of a response. */
+size_t peer_firms(const unsigned char *tape, size_t n, char *out);
+
+/* Moves a tape to the new form, or back to the old one: 0 with the moved length
+ * set, or 21, 22, 23, 25, 26 or 24, tested in this order. Then no byte of out is
+ * changed, nor is length; and never a byte past the moved tape. */
+int peer_move(const unsigned char *tape, size_t n, int to_new, unsigned char *out, size_t room, size_t *length);
 
 #endif

@@ -1,5 +1,6 @@
 #!/usr/bin/env python3
-"""The cases of crates/tape_cases and what they must print, from document 01 and document 02's W-201 and W-205 alone (it knows nothing of the crates).
+"""The cases of crates/tape_cases and what they must print, from document 01 and document 02's W-201, W-205 and W-206 alone (it knows nothing of the
+crates).
 
     tests/tape_cases.py            writes crates/tape_cases/stdin and stdout
     tests/tape_cases.py --check    says whether the two files are what it would write; exit status 1 where they are not
@@ -9,17 +10,21 @@ import struct
 import sys
 
 ROOT = os.path.dirname(os.path.dirname(os.path.abspath(__file__)))
-WHAT = {"order": 1, "event": 2, "trailer": 3, "open": 4, "put order": 5, "put event": 6, "put trailer": 7}
+WHAT = {"order": 1, "event old": 2, "event new": 12, "trailer": 3, "open": 4, "put order": 5, "put event old": 6, "put event new": 16,
+        "put trailer old": 7, "put trailer new": 17, "move old": 8, "move new": 18}
 U32 = 2 ** 32 - 1
 DAY = 86400000
 
-# ---- document 01, "The tape", W-201 for kind 6 and W-205 for the order's fields 48 and 52
+# ---- document 01, "The tape", W-201 for kind 6, W-205 for the order's fields 48 and 52, W-206 for the new form
+
+# the two forms: the trailer's first word, and the length of an event record
+FORMS = {"old": (b"CUBT", 32), "new": (b"CUB2", 40)}
 
 ORDER = ["side", "mode", "marks", "size", "limit", "stop", "nbb", "nbo", "bb", "bo", "time", "open", "close", "L", "displayed", "collar"]
 ORDER_AT = {"side": 0, "mode": 1, "marks": 2, "size": 4, "limit": 8, "stop": 12, "nbb": 16, "nbo": 20, "bb": 24, "bo": 28,
             "time": 32, "open": 36, "close": 40, "L": 44, "displayed": 48, "collar": 52}
-EVENT = ["sequence", "time", "kind", "marks", "side", "f12", "f16", "f20", "f24"]
-EVENT_AT = {"sequence": 0, "time": 4, "kind": 8, "marks": 9, "side": 10, "f12": 12, "f16": 16, "f20": 20, "f24": 24}
+EVENT = ["sequence", "time", "kind", "marks", "side", "f12", "f16", "f20", "f24", "participant"]
+EVENT_AT = {"sequence": 0, "time": 4, "kind": 8, "marks": 9, "side": 10, "f12": 12, "f16": 16, "f20": 20, "f24": 24, "participant": 32}
 SMALL = {"side", "mode", "marks", "kind"}
 
 
@@ -79,18 +84,22 @@ def order_bytes(o):
     return record(64, ORDER_AT, o)
 
 
-def event_bytes(e):
-    return record(32, EVENT_AT, e)
+def event_bytes(e, form="old"):
+    return record(40, EVENT_AT, e)[:FORMS[form][1]]
 
 
 def trailer_bytes(s, n, name=b"CUBT", last=0):
     return name + struct.pack("<III", s, n, last)
 
 
+def event_spare(form):
+    return [i for i in [11] + list(range(28, 32)) + list(range(36, 40)) if i < FORMS[form][1]]
+
+
 def read(b, length, places, names, formed, spare, number, word):
     if len(b) < length:
         return "refused 24"
-    v = {n: (b[places[n]] if n in SMALL else int.from_bytes(b[places[n]:places[n] + 4], "little")) for n in names}
+    v = {n: (b[places[n]] if n in SMALL else int.from_bytes(b[:length][places[n]:places[n] + 4], "little")) for n in names}
     if any(b[i] for i in spare) or not formed(v):
         return "refused %d" % number
     return word + "".join(" %d" % v[n] for n in names) + " same"
@@ -100,20 +109,21 @@ def read_order(b):
     return read(b, 64, ORDER_AT, ORDER, order_formed, [3] + list(range(56, 64)), 1, "order")
 
 
-def read_event(b):
-    return read(b, 32, EVENT_AT, EVENT, event_formed, [11] + list(range(28, 32)), 32, "event")
+def read_event(b, form):
+    return read(b, FORMS[form][1], EVENT_AT, EVENT, event_formed, event_spare(form), 32, "event")
 
 
 def trailer_of(b):
     name, s, n, last = b[:4], *struct.unpack("<III", b[4:16])
-    return None if name != b"CUBT" or last != 0 else (s, n)
+    form = next((f for f, (word, _) in FORMS.items() if word == name), None)
+    return None if form is None or last != 0 else (form, s, n)
 
 
 def read_trailer(b):
     if len(b) < 16:
         return "refused 24"
     t = trailer_of(b)
-    return "refused 22" if t is None else "trailer %d %d same" % t
+    return "refused 22" if t is None else "trailer %s %d %d same" % t
 
 
 def open_tape(b):
@@ -122,7 +132,38 @@ def open_tape(b):
     t = trailer_of(b[-16:])
     if t is None:
         return "refused 22"
-    return "tape %d %d" % t if t[0] + 64 + 32 * t[1] + 16 == len(b) else "refused 23"
+    form, s, n = t
+    return "tape %s %d %d" % t if s + 64 + FORMS[form][1] * n + 16 == len(b) else "refused 23"
+
+
+def moved(b, to):
+    """The tape in the other form, or the number that refuses it, but for 24."""
+    if not 16 <= len(b) <= 65536:
+        return 21
+    t = trailer_of(b[-16:])
+    if t is None or t[0] == to:
+        return 22
+    form, s, n = t
+    long = FORMS[form][1]
+    if s + 64 + long * n + 16 != len(b):
+        return 23
+    records = [b[s + 64 + long * k:s + 64 + long * (k + 1)] for k in range(n)]
+    if to == "old" and any(any(r[32:]) for r in records):
+        return 25
+    whole = b[:s + 64] + b"".join(r[:32] + bytes(FORMS[to][1] - 32) for r in records) + trailer_bytes(s, n, FORMS[to][0])
+    return 26 if len(whole) > 65536 else whole
+
+
+def move_into(b, to, n):
+    """What is said of moving into a room of n sevens: the answer, and its bytes, of a long one those at its end."""
+    whole, room = moved(b, to), b"\7" * n
+    if isinstance(whole, int):
+        answer = "refused %d" % whole
+    elif n < len(whole):
+        answer = "refused 24"
+    else:
+        answer, room = "moved %d" % len(whole), whole + room[len(whole):]
+    return answer + "".join(" %d" % x for x in (room if n < 400 else room[n - 24:]))
 
 
 def put(ok, number, rec, lent):
@@ -150,8 +191,8 @@ def try_order(b):
     case("order", read_order(b), lent=b)
 
 
-def try_event(b):
-    case("event", read_event(b), lent=b)
+def try_event(b, form="old"):
+    case("event " + form, read_event(b, form), lent=b)
 
 
 def try_put_order(o, lent):
@@ -159,9 +200,15 @@ def try_put_order(o, lent):
     case("put order", put(order_formed(fits), 1, order_bytes(fits), lent), b"".join(struct.pack("<I", o[n]) for n in ORDER), lent)
 
 
-def try_put_event(e, lent):
+def try_put_event(e, lent, form="old"):
     fits = {n: (e[n] % 256 if n in SMALL else e[n]) for n in EVENT}
-    case("put event", put(event_formed(fits), 32, event_bytes(fits), lent), b"".join(struct.pack("<I", e[n]) for n in EVENT), lent)
+    held = event_formed(fits) and (form == "new" or fits["participant"] == 0)
+    case("put event " + form, put(held, 32, event_bytes(fits, form), lent), b"".join(struct.pack("<I", e[n]) for n in EVENT), lent)
+
+
+def try_move(b, to, room):
+    start, end = b[:-16].rstrip(b"\0"), b[-16:]
+    case("move " + to, move_into(b, to, room), struct.pack("<I", room), start, end, len(b))
 
 
 def filler(n):
@@ -184,15 +231,16 @@ COLLARS = [(0, 0), (0, 1), (1, 0), (1, 1), (2, 1), (1, 2), (999999, 1), (1, 9999
            (1, 999998), (500000, 499999), (500000, 500000), (1000000, 1), (1000001, 1), (1, 1000000), (U32, 1), (1, U32), (U32, U32), (U32, 2), (2, U32),
            (2 ** 31, 2 ** 31), (U32 - 999998, 999999), (999999, U32 - 999998)]
 
-GOOD_EVENTS = [dict(sequence=1, time=20, kind=1, marks=1, side=2, f12=3, f16=105, f20=0, f24=0),
-               dict(sequence=U32, time=0, kind=2, marks=0, side=0, f12=U32, f16=0, f20=0, f24=0),
-               dict(sequence=0, time=DAY, kind=3, marks=3, side=1, f12=100000, f16=999999, f20=0, f24=0),
-               dict(sequence=7, time=99, kind=4, marks=1, side=2, f12=1, f16=0, f20=0, f24=0),
-               dict(sequence=8, time=100, kind=5, marks=12, side=0, f12=999999, f16=1, f20=0, f24=1000000),
-               dict(sequence=9, time=101, kind=6, marks=0, side=0, f12=U32, f16=100000, f20=999999, f24=0)]
+GOOD_EVENTS = [dict(sequence=1, time=20, kind=1, marks=1, side=2, f12=3, f16=105, f20=0, f24=0, participant=0),
+               dict(sequence=U32, time=0, kind=2, marks=0, side=0, f12=U32, f16=0, f20=0, f24=0, participant=0),
+               dict(sequence=0, time=DAY, kind=3, marks=3, side=1, f12=100000, f16=999999, f20=0, f24=0, participant=0),
+               dict(sequence=7, time=99, kind=4, marks=1, side=2, f12=1, f16=0, f20=0, f24=0, participant=0),
+               dict(sequence=8, time=100, kind=5, marks=12, side=0, f12=999999, f16=1, f20=0, f24=1000000, participant=0),
+               dict(sequence=9, time=101, kind=6, marks=0, side=0, f12=U32, f16=100000, f20=999999, f24=0, participant=0)]
 EVENT_EDGES = {"sequence": [0, 1, U32], "time": [0, DAY, DAY + 1, U32], "kind": [0, 1, 2, 3, 4, 5, 6, 7, 255],
                "marks": list(range(17)) + [32, 64, 128, 255], "side": [0, 1, 2, 3, 255], "f12": [0, 1, 100000, 100001, 999999, 1000000, U32],
-               "f16": [0, 1, 100000, 100001, 999999, 1000000, U32], "f20": [0, 1, 999999, 1000000, U32], "f24": [0, 1, 1000000, 1000001, U32]}
+               "f16": [0, 1, 100000, 100001, 999999, 1000000, U32], "f20": [0, 1, 999999, 1000000, U32], "f24": [0, 1, 1000000, 1000001, U32],
+               "participant": [0, 1, 77, 2 ** 31, U32]}
 
 
 def make():
@@ -220,21 +268,27 @@ def make():
         try_put_order(GOOD, filler(n))
         try_put_order(dict(GOOD, L=1001), filler(n))
     for e in GOOD_EVENTS:
-        try_event(event_bytes(e))
-        try_event(event_bytes(e) + filler(9))
-        for n in (32, 33, 40):
-            try_put_event(e, filler(n))
-        for name in EVENT:
-            for v in EVENT_EDGES[name]:
-                try_event(event_bytes(dict(e, **{name: v})))
-                try_put_event(dict(e, **{name: v}), filler(34))
-        for i in [11] + list(range(28, 32)):
-            try_event(event_bytes(e)[:i] + b"\x01" + event_bytes(e)[i + 1:])
-    for n in range(33):
-        try_event(event_bytes(GOOD_EVENTS[0])[:n])
-        try_put_event(GOOD_EVENTS[0], filler(n))
-        try_put_event(dict(GOOD_EVENTS[0], f12=0), filler(n))
-    trailers = [trailer_bytes(0, 0), trailer_bytes(U32, U32), trailer_bytes(5, 6, b"CUB2"), trailer_bytes(5, 6, b"TBUC"),
+        for form, (_, long) in FORMS.items():
+            try_event(event_bytes(e, form), form)
+            try_event(event_bytes(e, form) + filler(9), form)
+            for n in (long, long + 1, long + 8):
+                try_put_event(e, filler(n), form)
+            for name in EVENT:
+                for v in EVENT_EDGES[name]:
+                    try_event(event_bytes(dict(e, **{name: v}), form), form)
+                    try_put_event(dict(e, **{name: v}), filler(long + 2), form)
+            for i in event_spare(form):
+                try_event(event_bytes(e, form)[:i] + b"\x01" + event_bytes(e, form)[i + 1:], form)
+        # an old record is not looked at past its 32 bytes, whatever stands there
+        try_event(event_bytes(dict(e, participant=77), "new"), "old")
+    for form in FORMS:
+        for n in range(41):
+            try_event(event_bytes(GOOD_EVENTS[0], form)[:n], form)
+            try_put_event(GOOD_EVENTS[0], filler(n), form)
+            try_put_event(dict(GOOD_EVENTS[0], f12=0), filler(n), form)
+            try_put_event(dict(GOOD_EVENTS[0], participant=77), filler(n), form)
+    trailers = [trailer_bytes(0, 0), trailer_bytes(U32, U32), trailer_bytes(5, 6, b"CUB2"), trailer_bytes(U32, U32, b"CUB2"), trailer_bytes(5, 6, b"CUB3"),
+                trailer_bytes(5, 6, b"CUB2", last=1), trailer_bytes(5, 6, b"TBUC"),
                 trailer_bytes(5, 6, b"\x00\x00\x00\x00"), trailer_bytes(5, 6, last=1), trailer_bytes(5, 6, last=1 << 31)]
     for t in trailers:
         case("trailer", read_trailer(t), lent=t)
@@ -242,22 +296,70 @@ def make():
     for n in range(17):
         case("trailer", read_trailer(trailers[1][:n]), lent=trailers[1][:n])
         for s, k in ((0, 0), (1000, 62), (U32, U32)):
-            case("put trailer", put(True, 0, trailer_bytes(s, k), filler(n)), struct.pack("<II", s, k), filler(n))
-    case("put trailer", put(True, 0, trailer_bytes(3, 4), filler(20)), struct.pack("<II", 3, 4), filler(20))
+            for form, (word, _) in FORMS.items():
+                case("put trailer " + form, put(True, 0, trailer_bytes(s, k, word), filler(n)), struct.pack("<II", s, k), filler(n))
+    for form, (word, _) in FORMS.items():
+        case("put trailer " + form, put(True, 0, trailer_bytes(3, 4, word), filler(20)), struct.pack("<II", 3, 4), filler(20))
 
     def tape(length, t):
         case("open", open_tape(bytes(max(0, length - len(t))) + t[max(0, len(t) - length):]), tail=t[max(0, len(t) - length):], length=length)
     for length in (0, 1, 15, 16, 79, 80, 81, 112, 113, 144, 65535, 65536, 65537):
-        for s, n in ((0, 0), (0, 1), (1, 0), (length - 80, 0), (length - 112, 1), (length - 80 - 32 * 2045, 2045), (length - 79, 0), (length - 81, 0), (U32, 0),
-                     (0, U32), (U32, U32), (2 ** 32 - 64 - 16 + length, 0), (length - 80, 2 ** 27), (U32 - 79 + length - 32, 1), (0, (length - 80) // 32)):
-            if 0 <= s <= U32 and 0 <= n <= U32:
-                tape(length, trailer_bytes(s, n))
+        for word, long in FORMS.values():
+            for s, n in ((0, 0), (0, 1), (1, 0), (length - 80, 0), (length - 80 - long, 1), (length - 80 - long * 1636, 1636), (length - 80 - long * 2045, 2045),
+                         (length - 79, 0), (length - 81, 0), (U32, 0), (0, U32), (U32, U32), (2 ** 32 - 64 - 16 + length, 0), (length - 80, 2 ** 27),
+                         (U32 - 79 + length - long, 1), (0, (length - 80) // long)):
+                if 0 <= s <= U32 and 0 <= n <= U32:
+                    tape(length, trailer_bytes(s, n, word))
         for t in trailers[2:]:
             tape(length, t)
-    # lengths that would add up with records of 24 or 40 bytes
+    # lengths that would add up with records of another length
     for n in (1, 2, 10):
-        tape(64 + 24 * n + 16, trailer_bytes(0, n))
-        tape(64 + 40 * n + 16, trailer_bytes(0, n))
+        for word, _ in FORMS.values():
+            for long in (24, 32, 40, 48):
+                tape(64 + long * n + 16, trailer_bytes(0, n, word))
+    moves()
+
+
+def moves():
+    """Tapes through both moves: any bytes as prefix, order and records, out of form or not, into rooms of all lengths near the moved one's."""
+    def whole(form, own, records, **how):
+        word, long = FORMS[form]
+        return own + filler(64) + b"".join(r + bytes(long - len(r)) for r in records) + trailer_bytes(len(own), len(records), how.get("word", word), how.get("last", 0))
+
+    bare = [filler(40)[k:k + 32] for k in (0, 3, 8)]
+    events = [event_bytes(e) for e in GOOD_EVENTS]
+    for form, to in (("old", "new"), ("new", "old")):
+        for own in (b"", b"\1", filler(77)):
+            for records in ([], bare[:1], bare, events):
+                tape = whole(form, own, records)
+                long = len(moved(tape, to))
+                for room in (0, 16, long - 1, long, long + 1, long + 24, 65540):
+                    try_move(tape, to, room)
+                # there already, and what is no tape
+                try_move(tape, form, 65540)
+                try_move(tape[:-1], to, 65540)
+                try_move(tape[:-1], form, 65540)
+                try_move(tape[1:], to, 65540)
+                try_move(tape[1:], form, 65540)
+                try_move(whole(form, own, records, last=1), to, 65540)
+                try_move(whole(form, own, records, word=b"CUB1"), to, 65540)
+    # moving back, each byte of the two words of the first event, of one in the midst and of the last
+    for k in (0, 2, 5):
+        for i in range(32, 40):
+            full = [e + bytes(8) for e in events]
+            full[k] = full[k][:i] + b"\1" + full[k][i + 1:]
+            try_move(whole("new", filler(5), full), "old", 65540)
+            try_move(whole("new", filler(5), full), "old", 0)
+    # the longest that move, and those that would be too long, also where the room is too short
+    for n, own in ((1636, 15), (1636, 16), (1636, 17), (1637, 0), (1637, 23), (2045, 0), (1, 65400), (1, 65416), (1, 65417), (0, 65456)):
+        tape = filler(min(own, 9)).ljust(own + 64 + 32 * n, b"\0") + trailer_bytes(own, n)
+        if len(tape) <= 65536:
+            for room in (0, len(tape), 65535, 65536, 65540):
+                try_move(tape, "new", room)
+    for length in (0, 1, 15, 16, 80, 65537, 65540):
+        for to in FORMS:
+            try_move(bytes(length), to, 65540)
+            try_move(bytes(length), to, 0)
 
 
 def main():

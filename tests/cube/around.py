@@ -64,7 +64,7 @@ class Around(Case):
         words = set(re.findall(r"[a-z-]+", block[:block.index("\n## ")]))
         for name, fields, _, marks in form.KINDS.values():
             self.assertLessEqual({name, *fields, *marks}, words)
-        self.assertLessEqual({*form.MODES, *form.SIDES, *form.ORDER_WORDS, *form.ORDER_MARKS, "own", "record"}, words)
+        self.assertLessEqual({*form.MODES, *form.SIDES, *form.ORDER_WORDS, *form.ORDER_MARKS, "own", "record", "tape", *form.FORMS, "participant"}, words)
 
     def test_the_readme_has_every_command_and_status(self):
         from cube import cli

@@ -94,7 +94,7 @@ class Formats(Case):
 
 class Why(Case):
     def test_every_number_of_document_01(self):
-        every = list(range(1, 14)) + list(range(21, 25)) + list(range(31, 41))
+        every = list(range(1, 14)) + list(range(21, 27)) + list(range(31, 41))
         text = cube("why").stdout.decode()
         self.assertEqual(sorted(int(n) for n in re.findall(r"^(\d+)  \(\w+\) .+\n    .+\.$", text, re.M)), every)
         from cube.reasons import REASONS, line

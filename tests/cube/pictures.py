@@ -3,7 +3,7 @@ import random
 import re
 import xml.etree.ElementTree as tree
 
-from support import TEXT, Case, cube, random_tapes, samples, tape_of
+from support import TEXT, Case, cube, new_text, random_tapes, samples, tape_of
 
 SVG = "{http://www.w3.org/2000/svg}"
 FULL = """\
@@ -134,6 +134,21 @@ class Pictures(Case):
             self.assertIn(words, drawn.texts)
         self.joined(drawn)
 
+    def test_firms(self):
+        """A response of a new tape names its participant, an amended one the amend's; nothing else in the picture differs. Where it has none, nothing is named."""
+        old, drawn = Drawn(self, tape_of(AMENDED)), Drawn(self, tape_of(new_text(AMENDED)))
+        self.assertEqual(drawn.data("response", "sequence", "firm"), [(s, str(70 + int(s))) for s, in old.data("response", "sequence")])
+        self.assertEqual(drawn.titles("response")[4], "response 5: 100 at 107, from 35 ms to 55 ms, firm 75, amends 3, amended by 8")
+        for words in ("1: 30, firm 71", "5: 100, firm 75", "a response that stands, as sequence: size, firm"):
+            self.assertIn(words, drawn.texts)
+        self.assertEqual([re.sub(r", firm \d+", "", t) for t in drawn.titles("response")], old.titles("response"))
+        self.assertEqual(drawn.customers(), old.customers())
+        for kind, keys in (("response", ("sequence", "size", "price", "begin", "end")), ("refusal", ("sequence", "number")), ("fill", ("party", "price", "quantity"))):
+            self.assertEqual(drawn.data(kind, *keys), old.data(kind, *keys))
+        for none in (old, Drawn(self, tape_of("tape new\n" + AMENDED))):
+            self.assertFalse([t for t in none.texts + none.titles("response") if "firm" in t])
+            self.assertEqual({f for f, in none.data("response", "firm")}, {None})
+
     def joined(self, drawn):
         """Each square stands where its response ends, and the line from it goes to where the next begins."""
         lines = {g.get("data-sequence"): g.find(SVG + "line") for g in drawn.groups("response")}
@@ -178,7 +193,7 @@ class Pictures(Case):
         self.assertGreater(links, 40)
 
     def test_no_labels_overlap(self):
-        for text in (FULL, TEXT, AMENDED):
+        for text in (FULL, TEXT, AMENDED, new_text(FULL), new_text(AMENDED)):
             boxes = list(Drawn(self, tape_of(text)).boxes())
             for i, (one, a) in enumerate(boxes):
                 for two, b in boxes[:i]:

@@ -1,5 +1,6 @@
 #!/usr/bin/env python3
-"""The tests of `cube`, over the programs that are built: statuses, full disks, names, builds, formats, watches, sweeps, texts, pictures, embedding.
+"""The tests of `cube`, over the programs that are built: statuses, full disks, names, builds, formats, watches, participants,
+moves, sweeps, texts, pictures, embedding.
 
     tests/cube/run.py [NAME..]      all of them, or those whose name has a NAME in it
 
@@ -10,7 +11,7 @@ import sys
 import unittest
 
 HERE = os.path.dirname(os.path.realpath(__file__))
-MODULES = ["statuses", "writing", "naming", "building", "formats", "watching", "texts", "sweeping", "pictures", "around"]
+MODULES = ["statuses", "writing", "naming", "building", "formats", "watching", "firms", "moving", "texts", "sweeping", "pictures", "around"]
 
 
 class Count(unittest.TextTestResult):

@@ -52,7 +52,9 @@ class Statuses(Case):
         fd = os.open(self.folder, os.O_RDONLY)
         try:
             self.ends(cube(stdin=fd), 1, "UNREADABLE -: Is a directory\n", "standard input: Is a directory")
-            for words in (["make"], ["show"], ["check"], ["draw"], ["watch"], ["watch", "--live"], ["sweep", "-", "--stop", "105"], ["list", "--names", "-"]):
+            self.ends(cube("list", "--firms", stdin=fd), 1, "UNREADABLE -: Is a directory\n", "standard input: Is a directory")
+            for words in (["make"], ["show"], ["check"], ["draw"], ["watch"], ["watch", "--live"], ["watch", "--live", "--new"], ["sweep", "-", "--stop", "105"], ["list", "--names", "-"],
+                          ["move", "--to", "new"]):
                 self.ends(cube(*words, stdin=fd), 1, b"", "standard input: Is a directory")
         finally:
             os.close(fd)
@@ -62,13 +64,14 @@ class Statuses(Case):
                       ["why", "x"], ["sweep", self.tape], ["sweep", "--stop", "1"], ["sweep", self.tape, "--stop", "9..1"], ["sweep", self.tape, "--stop", "1.."],
                       ["sweep", self.tape, "--stop", "1..2", "--size", "1..2"], ["sweep", self.tape, "--mode", "other"], ["make", "a", "b"], ["show", "--why"],
                       ["draw", "--wrong"], ["watch", "a", "b"], ["watch", "--format", "csv"], ["check", "-x"], ["list", "-0", "a"], ["list", "--why", "--format", "csv", "a"], ["list", "--names", "-", "-"],
-                      ["list", "--form", "csv", "a"], ["sweep", self.tape, "--stop", "1..1000000000"], ["list", "--names"]):
+                      ["list", "--form", "csv", "a"], ["sweep", self.tape, "--stop", "1..1000000000"], ["list", "--names"],
+                      ["move", self.tape], ["move", "--to"], ["move", "--to", "other", self.tape], ["move", "--to", "new", "a", "b"], ["watch", "--new", self.tape], ["list", "--new", "a"]):
             with self.subTest(words):
                 made = cube(*words)
                 self.ends(made, 2, b"", "usage: cube ")
 
     def test_help(self):
-        for words in (["--help"], ["-h"], ["help"], *[[c, "--help"] for c in ("list", "watch", "why", "sweep", "draw", "make", "show", "check")]):
+        for words in (["--help"], ["-h"], ["help"], *[[c, "--help"] for c in ("list", "watch", "why", "sweep", "draw", "make", "show", "check", "move")]):
             with self.subTest(words):
                 made = cube(*words)
                 self.ends(made, 0)
@@ -88,7 +91,7 @@ class Statuses(Case):
             os.close(theirs)
 
     def test_names_that_are_commands(self):
-        for name in ("make", "show", "list", "watch", "why"):
+        for name in ("make", "show", "list", "watch", "why", "move"):
             self.write(name, tape_of(TEXT))
             self.ends(cube("list", name, cwd=self.folder), 0, LISTING)
             self.ends(cube("--", name, cwd=self.folder), 0, LISTING)
@@ -102,7 +105,7 @@ class Statuses(Case):
         self.ends(cube("show", "--", "-H", cwd=self.folder), 0, TEXT)
 
     def test_interrupted(self):
-        for words in (["make"], ["show"], ["watch"], ["list", "--names", "-"], []):
+        for words in (["make"], ["show"], ["watch"], ["list", "--names", "-"], [], ["list", "--firms"], ["move", "--to", "new"]):
             # a run in the background ignores interrupts, and so would what it starts
             process = subprocess.Popen([CUBE] + words, stdin=subprocess.PIPE, stdout=subprocess.PIPE, stderr=subprocess.PIPE, preexec_fn=lambda: signal.signal(signal.SIGINT, signal.SIG_DFL))
             time.sleep(1)
@@ -118,4 +121,6 @@ class Statuses(Case):
             self.ends(cube("make", stdin=zero), 1, b"", "more than 16777216 bytes")
             self.ends(cube("draw", stdin=zero), 0)
             self.ends(cube("watch", stdin=zero), 0, "REFUSED 21\n")
+            self.ends(cube("list", "--firms", stdin=zero), 0, "REFUSED 21\n")
+            self.ends(cube("move", "--to", "new", stdin=zero), 1, b"", "REFUSED 21\n")
         self.ends(cube("list", "/dev/zero"), 0, "REFUSED 21\n")

@@ -1,7 +1,9 @@
 """What the tests of `cube` share: running it, sample tapes, random tapes."""
+import functools
 import glob
 import os
 import random
+import re
 import shutil
 import struct
 import subprocess
@@ -83,6 +85,35 @@ def tape_of(text):
     return form.make(text)
 
 
+def new_text(text):
+    """The text as that of a new tape: each event's participant is 70 more than its sequence."""
+    return "tape new\n" + re.sub(r"(?m)^\w+ sequence=(\d+) .*$", lambda m: "%s participant=%d" % (m[0], 70 + int(m[1])), text)
+
+
+def records_of(tape):
+    """The event records of a tape that opens, of either form."""
+    length, (at, n) = 40 if tape[-16:-12] == b"CUB2" else 32, struct.unpack("<II", tape[-12:-4])
+    return [tape[at + 64 + length * k:][:length] for k in range(n)]
+
+
+@functools.lru_cache(maxsize=None)
+def native():
+    """The programs as cube starts them."""
+    from cube import engine
+    return engine.Engine()
+
+
+class StandIn:
+    """An engine whose programs are a line of shell, in which $0 is the program's name."""
+
+    def __init__(self, script):
+        self.script = script
+
+    def start(self, program, words=(), **how):
+        how = dict({"stdin": subprocess.PIPE, "stdout": subprocess.PIPE, "stderr": subprocess.PIPE}, **how)
+        return subprocess.Popen(["sh", "-c", self.script, program, *words], **how)
+
+
 def random_event(r, k):
     kind = r.choice([1, 1, 1, 2, 3, 3, 4, 5, 6, 6, 7])
     sided, marks = kind in (1, 3, 4), {1: 1, 3: 3, 4: 1, 5: 12}.get(kind, 0) & r.randrange(16)
@@ -98,7 +129,7 @@ def random_event(r, k):
 
 
 def random_tape(r):
-    """A tape of any kind, most of them auctions."""
+    """A tape of any kind and of either form, most of them auctions."""
     mode = r.choice([1, 2, 3])
     order = bytes([r.choice([1, 2]), mode, r.choice([0] * 9 + [1, 2, 4, 8, 12]), 0]) + struct.pack(
         "<11I", r.randint(1, 200), r.randint(99, 112), 0 if mode == 2 else r.randint(99, 112), 100, 110, 100, 110, 34200000, 34200000, 57600000, r.choice([100, 300, 1000]))
@@ -107,8 +138,10 @@ def random_tape(r):
         at = r.randrange(64)
         order = order[:at] + bytes([r.randrange(256)]) + order[at + 1:]
     own = bytes(r.randrange(256) for _ in range(r.choice([0, 0, 0, 5, 31])))
-    events = [random_event(r, k) for k in range(r.randrange(14))]
-    tape = own + order + b"".join(events) + b"CUBT" + struct.pack("<III", len(own), len(events), 0)
+    events, word = [random_event(r, k) for k in range(r.randrange(14))], r.choice([b"CUBT", b"CUB2"])
+    if word == b"CUB2":
+        events = [e + struct.pack("<II", r.choice([0, r.randint(1, 99), r.randrange(1 << 32)]), r.choice([0] * 19 + [1 << 24])) for e in events]
+    tape = own + order + b"".join(events) + word + struct.pack("<III", len(own), len(events), 0)
     return tape if r.randrange(20) else tape[:-r.randint(1, 20)]
 
 

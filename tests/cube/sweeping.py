@@ -7,7 +7,7 @@ import re
 
 from decimal import Decimal
 
-from support import TEXT, Case, cube, tape_of
+from support import TEXT, Case, cube, new_text, tape_of
 
 KEYS = "value,refused,ending,low,high,contra,others,average,improvement,total".split(",")
 ORDERS = [
@@ -60,7 +60,7 @@ class Sweeping(Case):
                 self.assertEqual(row[field], one[field], row)
             if one["average"]:
                 average = Decimal(one["average"])
-                self.assertEqual(Decimal(row["improvement"]), nbo - average if text.startswith("order side=buy") else average - nbb)
+                self.assertEqual(Decimal(row["improvement"]), nbo - average if "order side=buy" in text else average - nbb)
             else:
                 self.assertEqual(row["improvement"], "")
 
@@ -71,6 +71,13 @@ class Sweeping(Case):
                 rows = self.rows(text, "--" + key, values)
                 self.assertEqual(len(rows), count)
                 self.compare(text, rows, key)
+
+    def test_new_tapes(self):
+        """Participants change no row."""
+        for order in ORDERS:
+            for words in (["--stop", "95..115"], ["--mode", "stop,auto-match,auto-match-limit"]):
+                self.assertEqual(self.rows(new_text(text_of(order)), *words), self.rows(text_of(order), *words))
+        self.compare(new_text(text_of(ORDERS[0])), self.rows(new_text(text_of(ORDERS[0])), "--size", "50..60"), "size")
 
     def test_collared_orders(self):
         for order in COLLARED:

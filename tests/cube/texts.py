@@ -3,7 +3,7 @@ import os
 import re
 import struct
 
-from support import LISTING, TEXT, Case, cube, random_tapes, tape_of
+from support import LISTING, TEXT, Case, cube, new_text, random_tapes, tape_of
 
 ALL = """\
 # every kind and mark
@@ -19,6 +19,20 @@ quotes sequence=5 time=60 nbb=100 nbo=110 bb=100 bo=110 customer-at-bb=yes custo
 amend sequence=6 time=70 of=1 size=2 price=104
 record hex=0700000032000000090000000000000000000000000000000000000000000000
 """
+NEW = """\
+tape new
+own bytes=00ff
+order side=buy mode=auto-match size=10 limit=110 nbb=100 nbo=110 bb=100 bo=110 time=34200000 open=34200000 close=57600000 interval=100
+gtx sequence=1 time=20 side=sell size=3 price=105 participant=77 customer=yes
+cancel sequence=2 time=30 of=1 participant=1
+limit sequence=3 time=40 side=buy size=5 price=103 participant=4294967295 customer=yes nonroutable=yes
+market sequence=4 time=50 side=sell size=4 participant=5
+quotes sequence=5 time=60 nbb=100 nbo=110 bb=100 bo=110 participant=6 customer-at-bb=yes
+amend sequence=6 time=70 of=1 size=2 price=104 participant=7
+amend sequence=7 time=70 of=1 size=2 price=104
+record hex=07000000320000000900000000000000000000000000000000000000000000004d00000000000000
+"""
+NO_PARTICIPANT = "participant belongs to a tape of the new form: a line `tape new` at the start"
 ORDER, GTX = TEXT.splitlines()[:2]
 AMEND = "amend sequence=2 time=30 of=1 size=4 price=104"
 AMENDED = """\
@@ -95,7 +109,7 @@ class Texts(Case):
         self.wrong(order + "\n" + gtx + " price=1 colour=red fish", "line 2: price stands twice", "line 2: 'fish' is not key=value", "line 2: colour does not belong here")
         self.wrong(order + "\ngtx\noops a=1\nrecord hex=00\nown bytes=00", "line 2: sequence is missing", "line 2: time is missing", "line 2: side is missing", "line 2: size is missing",
                    "line 2: price is missing", "line 3: 'oops' is none of gtx, cancel, limit, market, quotes, amend, record", "line 4: a record here has 32 bytes, and this has 1",
-                   "line 5: the recorder's own bytes stand first, and once")
+                   "line 5: the recorder's own bytes stand before the order, and once")
         self.wrong(order + " halted=no", "line 1: halted=no: a mark is yes or left out")
         self.wrong(order.replace("auto-match", "stop"), "line 1: stop is missing")
         self.wrong("own bytes=xx\n" + order, "line 1: bytes=xx is not hex")
@@ -111,6 +125,62 @@ class Texts(Case):
         self.write("c.txt", TEXT.splitlines()[0].encode())
         self.ends(cube("check", "c.txt", cwd=self.folder), 0, "a tape of 80 bytes can be made: an order and 0 events\n")
         self.assertEqual(sorted(os.listdir(self.folder)), ["c.tape", "c.txt"])
+
+    def test_new_tapes(self):
+        """Every kind may have a participant; the records and the trailer are document 02's."""
+        made = cube("make", given=NEW.encode())
+        self.ends(made, 0)
+        self.ends(cube("show", given=made.stdout), 0, NEW)
+        tape = made.stdout
+        self.assertEqual((len(tape), tape[-16:]), (2 + 64 + 8 * 40 + 16, b"CUB2" + struct.pack("<III", 2, 8, 0)))
+        self.assertEqual(tape[66:106], struct.pack("<II4B5I", 1, 20, 1, 1, 2, 0, 3, 105, 0, 0, 0) + struct.pack("<II", 77, 0))
+        self.assertEqual([struct.unpack("<II", tape[66 + 40 * k + 32:][:8]) for k in range(8)], [(n, 0) for n in (77, 1, 4294967295, 5, 6, 7, 0, 77)])
+        self.ends(cube("check", given=new_text(TEXT).encode()), 0, "line 4: the engine refuses event 1 by 33: sequence not above the highest taken (0 before any)\n"
+                                                                   "a tape of 160 bytes can be made: an order and 2 events\n")
+        self.ends(cube(given=tape_of(new_text(TEXT))), 0, LISTING)
+        for text in ("tape new\n" + TEXT, "tape new\n" + lines_of(ORDER), "# first\n\n tape  new \n" + TEXT):
+            self.ends(cube("show", given=tape_of(text)), 0, text[text.index("tape"):].replace("tape  new ", "tape new"))
+        self.assertEqual(tape_of("tape new\n" + TEXT), tape_of(new_text(TEXT.replace("sequence=1", "sequence=1 participant=0")).replace(" participant=71", "")))
+
+    def test_old_tapes_by_name(self):
+        """`tape old` says what is the case without it, and is left out of what show prints."""
+        self.assertEqual(tape_of("tape old\n" + ALL), tape_of(ALL))
+        self.ends(cube("make", given=("tape old\n" + TEXT).encode()), 0, tape_of(TEXT))
+        self.ends(cube("show", given=tape_of("tape old\n" + TEXT)), 0, TEXT)
+        self.wrong("tape old\n" + new_text(TEXT)[9:], "line 3: " + NO_PARTICIPANT, "line 4: " + NO_PARTICIPANT)
+
+    def test_wrong_participants_and_forms(self):
+        self.wrong(lines_of(ORDER, GTX + " participant=7"), "line 2: " + NO_PARTICIPANT)
+        self.wrong(lines_of(ORDER, GTX + " participant=0"), "line 2: " + NO_PARTICIPANT)
+        self.wrong(lines_of(ORDER, GTX + " participant=x"), "line 2: " + NO_PARTICIPANT)
+        self.wrong(lines_of("tape new", ORDER + " participant=7"), "line 2: participant does not belong here")
+        for value in ("4294967296", "-1", "x", ""):
+            self.wrong(lines_of("tape new", ORDER, GTX + " participant=" + value), "line 3: participant=%s is not a number from 0 to 4294967295" % value)
+        self.wrong(lines_of("tape new", ORDER, GTX + " participant=1 participant=1"), "line 3: participant stands twice")
+        first = "the tape's form stands first, and once"
+        self.wrong(lines_of("tape new", "tape new", ORDER), "line 2: " + first)
+        self.wrong(lines_of("own bytes=00", "tape new", ORDER), "line 2: " + first)
+        self.wrong(lines_of(ORDER, "tape new", GTX), "line 2: " + first)
+        self.wrong(lines_of(ORDER, GTX, "tape old"), "line 3: " + first)
+        self.wrong(lines_of("tape new", "own bytes=00", "own bytes=00", ORDER), "line 3: the recorder's own bytes stand before the order, and once")
+        for words in ("tape", "tape newer", "tape new old", "tape form=new"):
+            self.wrong(lines_of(words, ORDER), "line 1: '%s' is none of tape old, tape new" % words)
+        self.wrong("tape new\n", "there is no order: a line that begins with order")
+        self.wrong(lines_of("tape new", ORDER, "record hex=" + "00" * 32), "line 3: a record here has 40 bytes, and this has 32")
+        self.wrong(lines_of(ORDER, "record hex=" + "00" * 40), "line 2: a record here has 32 bytes, and this has 40")
+        self.wrong(lines_of("tape new", ORDER, *[GTX] * 1637), "the tape would have 65560 bytes, and may have 65,536")
+        self.assertEqual(len(tape_of(lines_of("tape new", ORDER, *[GTX] * 1636))), 65520)
+
+    def test_new_records_out_of_form(self):
+        """A record whose word 28 or last word is not zero is shown in hex, and the engine refuses it."""
+        tape = tape_of(lines_of("tape new", ORDER, GTX))
+        for at in (*range(28, 32), *range(36, 40)):
+            place = len(tape) - 56 + at
+            odd = tape[:place] + b"\x01" + tape[place + 1:]
+            shown = cube("show", given=odd)
+            self.ends(shown, 0, lines_of("tape new", ORDER, "record hex=" + odd[-56:-16].hex()))
+            self.ends(cube("make", given=shown.stdout), 0, odd)
+            self.assertIn(b"EVENT 1 refused 32\n", cube(given=odd).stdout)
 
     def test_collared_order(self):
         """The record of document 02, W-205: the displayed price at 48, the collar at 52; each is left out of the text where it is 0. The range and the numbers are the document's."""
@@ -198,6 +268,12 @@ class Texts(Case):
         self.ends(cube("show", given=b""), 1, b"", "cube: 21: a tape has 16 to 65,536 bytes, and this has 0")
         self.ends(cube("show", given=tape[:-1] + b"x"), 1, b"", "cube: 22: ")
         self.ends(cube("show", given=b"x" + tape), 1, b"", "cube: 23: ")
+        self.ends(cube("show", given=tape[:-16] + b"CUB3" + tape[-12:]), 1, b"", "cube: 22: ")
+        self.ends(cube("show", given=tape[:-16] + b"CUB2" + tape[-12:]), 1, b"", "cube: 23: ")
+        new = tape_of(new_text(TEXT))
+        self.ends(cube("show", given=new[:-1] + b"x"), 1, b"", "cube: 22: ")
+        self.ends(cube("show", given=b"x" + new), 1, b"", "cube: 23: ")
+        self.ends(cube("show", given=new[:-16] + b"CUBT" + new[-12:]), 1, b"", "cube: 23: ")
         self.ends(cube("show", "nowhere", cwd=self.folder), 1, b"", "cube: nowhere: No such file or directory")
         self.ends(cube("make", "nowhere", cwd=self.folder), 1, b"", "cube: nowhere: No such file or directory")
 

@@ -1,5 +1,4 @@
 """watch: the listing, with the contracts on offer against a sum that is kept here; live: each line before the next record is sent."""
-import functools
 import os
 import re
 import select
@@ -7,7 +6,7 @@ import signal
 import subprocess
 import time
 
-from support import CUBE, LISTING, TEXT, Case, cube, random_tapes, samples, tape_of
+from support import CUBE, LISTING, TEXT, Case, StandIn, cube, native, new_text, random_tapes, samples, tape_of
 
 ORDER = "order side=buy mode=stop size=100 limit=110 stop=108 nbb=100 nbo=110 bb=100 bo=110 time=34200000 open=34200000 close=57600000 interval=100\n"
 # an event, and what is on offer after it
@@ -75,12 +74,6 @@ def is_last(event):
 
 def offers(lines):
     return [int(line.split(" on offer ")[1]) for line in events(lines)]
-
-
-@functools.lru_cache(maxsize=None)
-def native():
-    from cube import engine
-    return engine.Engine()
 
 
 def listed(tape):
@@ -157,6 +150,7 @@ class Watching(Case):
             made = cube("watch", given=tape_of(text))
             self.ends(made, 0)
             self.agrees(tape_of(text), made.stdout.decode().splitlines())
+            self.assertEqual(watched(tape_of(new_text(text))), made.stdout.decode().splitlines())
 
     def test_other_tapes_against_the_listing_and_a_sum(self):
         for tape in random_tapes(100, 31) + [open(s, "rb").read() for s in samples()]:
@@ -197,22 +191,11 @@ class Watching(Case):
                 self.assertEqual(list(lines), ["AUCTION"])
 
 
-class StandIn:
-    """An engine whose programs are a line of shell."""
-
-    def __init__(self, script):
-        self.script = script
-
-    def start(self, program, words, **how):
-        how = dict({"stdin": subprocess.PIPE, "stdout": subprocess.PIPE, "stderr": subprocess.PIPE}, **how)
-        return subprocess.Popen(["sh", "-c", self.script], **how)
-
-
 class Screen:
     """cube watch --live, and the other ends of its pipes. It is the first of its own group of processes."""
 
-    def __init__(self, case):
-        self.process = subprocess.Popen([CUBE, "watch", "--live"], stdin=subprocess.PIPE, stdout=subprocess.PIPE, stderr=subprocess.PIPE, bufsize=0, start_new_session=True,
+    def __init__(self, case, *words):
+        self.process = subprocess.Popen([CUBE, "watch", "--live", *words], stdin=subprocess.PIPE, stdout=subprocess.PIPE, stderr=subprocess.PIPE, bufsize=0, start_new_session=True,
                                         preexec_fn=lambda: signal.signal(signal.SIGINT, signal.SIG_DFL))
         case.addCleanup(self.stop)
 
@@ -250,20 +233,24 @@ class Live(Case):
     def test_each_line_before_the_next_record(self):
         """Each record is sent in two halves: after the first nothing is shown, after the second its line; where it ends the auction, those of the end, too."""
         for last, _, _ in (ENDINGS[0], ENDINGS[1], ENDINGS[-1]):
-            tape = tape_of(ORDER + joined(line for line, _ in STEPS[:4]) + last + "\n" + AFTER)
-            want, screen = watched(tape), Screen(self)
-            answers, ends = events(want), [line for line in want[1:] if line not in events(want)]
-            for record, line in zip(records(tape), want[:1] + answers):
-                half = len(record) // 2
-                screen.send(record[:half])
-                self.assertFalse(screen.has_more(0.1))
-                screen.send(record[half:])
-                self.assertEqual(screen.line(), line)
-                if line in answers and is_last(line):
-                    self.assertEqual([screen.line() for _ in ends], ends)
-                    ends = []
+            text = ORDER + joined(line for line, _ in STEPS[:4]) + last + "\n" + AFTER
+            self.follows(tape_of(text))
+            self.follows(tape_of(new_text(text)), "--new")
+
+    def follows(self, tape, *words):
+        want, screen = watched(tape), Screen(self, *words)
+        answers, ends = events(want), [line for line in want[1:] if line not in events(want)]
+        for record, line in zip(records(tape), want[:1] + answers):
+            half = len(record) // 2
+            screen.send(record[:half])
             self.assertFalse(screen.has_more(0.1))
-            self.assertEqual(screen.end(), (joined(ends), "", 0))
+            screen.send(record[half:])
+            self.assertEqual(screen.line(), line)
+            if line in answers and is_last(line):
+                self.assertEqual([screen.line() for _ in ends], ends)
+                ends = []
+        self.assertFalse(screen.has_more(0.1))
+        self.assertEqual(screen.end(), (joined(ends), "", 0))
 
     def test_against_the_watch(self):
         """The same lines; those of records after the ending come after TOTAL."""
@@ -271,20 +258,32 @@ class Live(Case):
             lines = watched(tape_of(text))
             self.assertEqual(in_live_order(lines) == lines, " refused 31 " not in joined(lines))
             self.ends(cube("watch", "--live", given=b"".join(records(tape_of(text)))), 0, joined(in_live_order(lines)))
+            self.ends(cube("watch", "--live", "--new", given=b"".join(records(tape_of(new_text(text))))), 0, joined(in_live_order(lines)))
 
     def test_cut_records(self):
         """Inside the order record it is REFUSED 24. Inside an event record the auction is not closed. Either is said."""
-        sent = b"".join(records(tape_of(TEXT)))
         want = watched(tape_of(TEXT))
-        for n in (0, 1, 63):
-            self.ends(cube("watch", "--live", given=sent[:n]), 1, "REFUSED 24\n", "cube: standard input ended inside the order record\n")
-        for n in (65, 95, 97, 127):
-            made = cube("watch", "--live", given=sent[:n])
-            self.ends(made, 1, joined(want[:1 + (n - 64) // 32]))
-            self.assertEqual(made.stderr, b"cube: standard input ended inside an event record; the auction was not closed\n")
-        ended = b"".join(records(tape_of(TEXT + "market sequence=2 time=30 side=buy size=1\n")))
-        self.ends(cube("watch", "--live", given=ended + b"x"), 1, stderr="cube: standard input ended inside an event record\n")
-        self.ends(cube("watch", "--live", given=sent[:64]), 0, joined(want[:1]) + "END time range 101 to 109\nFILL contra 109 10\nTOTAL 10\n")
+        for words, form, length in (([], str, 32), (["--new"], new_text, 40)):
+            live = lambda given: cube("watch", "--live", *words, given=given)
+            sent = b"".join(records(tape_of(form(TEXT))))
+            for n in (0, 1, 63):
+                self.ends(live(sent[:n]), 1, "REFUSED 24\n", "cube: standard input ended inside the order record\n")
+            for n in (65, 63 + length, 65 + length, 63 + 2 * length):
+                made = live(sent[:n])
+                self.ends(made, 1, joined(want[:1 + (n - 64) // length]))
+                self.assertEqual(made.stderr, b"cube: standard input ended inside an event record; the auction was not closed\n")
+            ended = b"".join(records(tape_of(form(TEXT + "market sequence=2 time=30 side=buy size=1\n"))))
+            self.ends(live(ended + b"x"), 1, stderr="cube: standard input ended inside an event record\n")
+            self.ends(live(sent[:64]), 0, joined(want[:1]) + "END time range 101 to 109\nFILL contra 109 10\nTOTAL 10\n")
+
+    def test_new_records_out_of_form(self):
+        """Any participant is taken; a last word that is not zero is not."""
+        order, event, _ = records(tape_of(new_text(TEXT)))
+        head = "AUCTION buy size 10 range 101 to 109\n"
+        for participant, last, answer in ((b"\xff" * 4, bytes(4), "taken on offer 3"), (bytes(4), b"\1\0\0\0", "refused 32 on offer 0"), (bytes(4), b"\0\0\0\1", "refused 32 on offer 0")):
+            made = cube("watch", "--live", "--new", given=order + event[:32] + participant + last)
+            self.ends(made, 0)
+            self.assertEqual(made.stdout.decode()[:len(head) + 8 + len(answer)], head + "EVENT 1 " + answer)
 
     def test_a_refused_order(self):
         self.ends(cube("watch", "--live", given=records(tape_of(REFUSED))[0]), 0, "REFUSED 6\n")
@@ -294,6 +293,8 @@ class Live(Case):
         self.ends(cube("watch", "--live", "c.tape", cwd=self.folder), 2, b"", "usage: cube watch")
         self.ends(cube("watch", "c.tape", "--live", cwd=self.folder), 2, b"", "--live follows standard input, and takes no tape")
         self.ends(cube("watch", "--live", "-", given=b""), 1, "REFUSED 24\n")
+        self.ends(cube("watch", "--new", "c.tape", cwd=self.folder), 2, b"", "--new goes with --live")
+        self.ends(cube("watch", "--new", given=tape_of(new_text(TEXT))), 2, b"", "usage: cube watch")
 
     def test_standard_output_that_can_not_be_written(self):
         sent = b"".join(records(tape_of(TEXT)))

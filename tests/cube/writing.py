@@ -3,18 +3,12 @@ import os
 import subprocess
 import unittest
 
-from support import CUBE, LISTING, TEXT, Case, cube, samples
+from support import CUBE, LISTING, TEXT, Case, cube, native, samples
 
 FULL = "No space left on device"
 COMMANDS = (["c.tape"], ["c.tape", "c.tape"], ["list", "--format", "csv", "c.tape"], ["list", "--format", "json", "c.tape", "c.tape"], ["why"], ["--help"], ["list", "--help"],
             ["show", "c.tape"], ["make", "c.txt"], ["make", "c.txt", "-o", "/dev/full"], ["check", "c.txt"], ["draw", "c.tape"], ["watch", "c.tape"], ["sweep", "c.tape", "--size", "8..12"],
-            ["sweep", "c.tape", "--size", "8..12", "--format", "csv"], ["list", "--jobs", "2", "c.tape", "c.tape"])
-
-
-def native():
-    """The programs as they are started here."""
-    from cube import engine
-    return engine.Engine()
+            ["sweep", "c.tape", "--size", "8..12", "--format", "csv"], ["list", "--jobs", "2", "c.tape", "c.tape"], ["list", "--firms", "c.tape"], ["move", "--to", "new", "c.tape"], ["move", "--to", "new", "c.tape", "-o", "/dev/full"])
 
 
 class Writing(Case):
@@ -35,7 +29,8 @@ class Writing(Case):
         names = "".join(s + "\n" for s in samples() * 20).encode()
         with open(self.tape, "rb") as tape:
             given = tape.read()
-        for program, words, data in (("evening", [], names), ("runner", [], given), ("desk", ["trace"], given), ("desk", ["watch"], given), ("desk", ["live"], given)):
+        for program, words, data in (("evening", [], names), ("runner", [], given), ("desk", ["trace"], given), ("desk", ["watch"], given), ("desk", ["live"], given),
+                                     ("desk", ["firms"], given), ("desk", ["move", "new"], given), ("desk", ["live", "new"], given)):
             with open("/dev/full", "wb") as full:
                 process = engine.start(program, words, stdout=full)
                 _, said = process.communicate(data)
@@ -43,7 +38,8 @@ class Writing(Case):
 
     def test_programs_say_a_failed_read(self):
         engine, folder = native(), os.open(self.folder, os.O_RDONLY)
-        for program, words in (("evening", []), ("runner", []), ("desk", ["trace"]), ("desk", ["watch"]), ("desk", ["live"])):
+        for program, words in (("evening", []), ("runner", []), ("desk", ["trace"]), ("desk", ["watch"]), ("desk", ["live"]), ("desk", ["firms"]), ("desk", ["move", "new"]),
+                               ("desk", ["move", "old"]), ("desk", ["live", "new"])):
             text, said = engine.start(program, words, stdin=folder).communicate()
             self.assertEqual((text, said.decode()), (b"", "%s: standard input: Is a directory\n" % program))
         os.close(folder)
@@ -60,6 +56,7 @@ class Writing(Case):
             with open(os.path.join(disk, "out"), "rb") as out:
                 self.assertTrue(0 < len(out.read()) <= 65536)
             self.ends(cube("make", "c.txt", "-o", "disk/c.tape", cwd=self.folder), 1, b"", "disk/c.tape: " + FULL)
+            self.ends(cube("move", "--to", "new", "c.tape", "-o", "disk/c.tape", cwd=self.folder), 1, b"", "disk/c.tape: " + FULL)
             self.assertEqual(os.listdir(disk), ["out"])
             os.unlink(os.path.join(disk, "out"))
             env = dict(os.environ, TMPDIR=disk)
@@ -68,7 +65,7 @@ class Writing(Case):
             subprocess.run(["umount", disk], check=True)
 
     def test_closed_pipe(self):
-        for more in ([], ["--jobs", "2"], ["--format", "json"]):
+        for more in ([], ["--jobs", "2"], ["--format", "json"], ["--firms"]):
             process = subprocess.Popen([CUBE, "list"] + more + samples() * 30, stdout=subprocess.PIPE, stderr=subprocess.PIPE)
             process.stdout.readline()
             process.stdout.close()
@@ -77,7 +74,7 @@ class Writing(Case):
             process.stderr.close()
 
     def test_closed_pipe_for_texts(self):
-        for words in (["show", self.tape], ["draw", self.tape], ["watch", self.tape], ["why"]):
+        for words in (["show", self.tape], ["draw", self.tape], ["watch", self.tape], ["why"], ["move", "--to", "new", self.tape]):
             ours, theirs = os.pipe()
             os.close(ours)
             self.ends(cube(*words, stdout=theirs), 1, stderr="standard output: Broken pipe")

@@ -5,10 +5,10 @@ import signal
 import sys
 import textwrap
 
-from . import cmd_draw, cmd_list, cmd_sweep, cmd_text, cmd_watch, cmd_why, files
+from . import cmd_draw, cmd_list, cmd_move, cmd_sweep, cmd_text, cmd_watch, cmd_why, files
 from .trouble import FINE, INTERRUPTED, TERMINATED, TROUBLE, USAGE, Trouble, put_error, say
 
-COMMANDS = [cmd_list, cmd_watch, cmd_why, cmd_sweep, cmd_draw, cmd_text.Make, cmd_text.Show, cmd_text.Check]
+COMMANDS = [cmd_list, cmd_watch, cmd_why, cmd_sweep, cmd_draw, cmd_text.Make, cmd_text.Show, cmd_text.Check, cmd_move]
 USAGE_LINES = ["cube [list] [OPTIONS] TAPE..", "cube < TAPE", "cube COMMAND [OPTIONS] ..", "cube COMMAND --help"]
 ABOUT = """Listings of CUBE auction tapes by a proved engine, and what a desk asks about them. The engine is built from the sources on first use and whenever
 they have changed, which takes some minutes and needs the Rattle kit's command rt; while it is current, rt is not needed. What is listed comes

@@ -6,9 +6,9 @@ from .trouble import FINE
 NAME = "draw"
 SUMMARY = "a picture of an auction, as SVG"
 DESCRIPTION = """\
-A picture of one auction: time across, price up; the range as it moved, the responses with their sizes, amends, cancels and refusals, the ending,
-and the fills at their prices. The range and what stands after each event come from the proved program desk, the answers and fills from the tape's
-listing."""
+A picture of one auction: time across, price up; the range as it moved, the responses with their sizes and firms (the participants of a new tape),
+amends, cancels and refusals, the ending, and the fills at their prices. The range and what stands after each event come from the proved program
+desk, the answers and fills from the tape's listing."""
 EXAMPLES = [("cube draw c.tape > c.svg", "a picture for a report")]
 
 

@@ -17,7 +17,10 @@ read from standard input. A file that can't be read is listed as `UNREADABLE nam
 EXAMPLES = [
     ("cube list monday/*.tape > monday.txt", "every listing of a folder"),
     ("find tapes -name '*.tape' -print0 | cube list --names - -0 --jobs 8 --format csv > tapes.csv", "a row for each tape, on eight cores"),
+    ("cube list --firms c.tape", "which firm stood behind each response that traded"),
 ]
+# with --firms each tape is a run by itself: smaller blocks, so that all jobs have work
+FIRMS_BLOCK = 32
 
 
 def add(parser):
@@ -28,6 +31,8 @@ def add(parser):
     parser.add_argument("--format", choices=["text", "csv", "json"], default="text",
                         help="text (the listing), csv (one row for each tape, under a header) or json (one object to a line, with the lines too)")
     parser.add_argument("--why", action="store_true", help="put beside each refusal what its number says (text only)")
+    parser.add_argument("--firms", action="store_true",
+                        help="put beside each fill of a response the participant behind it, 0 on a tape of the old form; csv and json have them as firms, too")
     parser.add_argument("--summary", metavar="FILE", help="write the summary to FILE, not to standard error; - is standard output")
     parser.add_argument("--jobs", metavar="N", type=jobs_of, default=1,
                         help="run N processes at a time (0: one for each core); the output is the same, in the same order")
@@ -58,36 +63,39 @@ def given(args, parser):
     blocks = names.from_words(args.tapes)
     if args.names is not None:
         blocks = itertools.chain(blocks, names.from_file(args.names, b"\0" if args.null else b"\n"))
+    if args.firms:
+        blocks = itertools.chain.from_iterable(names.blocks_of(block, FIRMS_BLOCK) for block in blocks)
     return blocks, args.header or args.names is not None or len(args.tapes) > 1
 
 
 def text_of(listed, headed, why):
     """What is printed of one tape."""
-    head = ["TAPE " + listed.name] if headed else []
-    if isinstance(listed, listing.Listing) and not why:
-        return "".join(h + "\n" for h in head).encode("utf-8", "surrogateescape") + listed.text
+    head = listing.encoded(["TAPE " + listed.name]) if headed else b""
+    if not why:
+        return head + listed.printed()
     lines = listed.lines()
-    if why:
-        lines = listing.with_reasons(lines, min(max(map(len, lines)), 40))
-    lines = head + list(lines)
-    return ("\n".join(lines) + "\n").encode("utf-8", "surrogateescape")
+    return head + listing.encoded(listing.with_reasons(lines, min(max(map(len, lines)), 40)))
 
 
-def row_of(listed, form):
+def keys_of(args):
+    return listing.KEYS + ["firms"] * args.firms
+
+
+def row_of(listed, args):
     found = listing.row(listed)
-    line = listing.csv_row(found, listing.KEYS) if form == "csv" else listing.json_row(found, listing.KEYS, lines=listed.lines())
+    line = listing.csv_row(found, keys_of(args)) if args.format == "csv" else listing.json_row(found, keys_of(args), lines=listed.lines())
     return line.encode("utf-8", "surrogateescape")
 
 
 def present(engine, block, headed, args):
     """One block: what is printed of it, its counts, and a word on what can't be read where no summary says it."""
-    run = runs.run_block(engine, block)
+    run = runs.run_block(engine, block, args.firms)
     missing = []
     if args.format == "text" and headed and not args.why and run.is_plain():
         return run.text, run.counts, missing
     parts = []
     for listed in run:
-        parts.append(text_of(listed, headed, args.why) if args.format == "text" else row_of(listed, args.format))
+        parts.append(text_of(listed, headed, args.why) if args.format == "text" else row_of(listed, args))
         if isinstance(listed, listing.Unreadable) and not headed:
             missing.append("%s: %s" % (files.shown(listed.name), listed.why))
     return b"".join(parts), run.counts, missing
@@ -117,7 +125,7 @@ def list_all(blocks, headed, args):
     engine, progress = Engine(), Progress()
     counts = [0] * len(runs.COUNTS)
     if args.format == "csv":
-        files.put_text(listing.csv_line(listing.KEYS))
+        files.put_text(listing.csv_line(keys_of(args)))
     try:
         for text, part, missing in pool.in_order((functools.partial(present, engine, b, headed, args) for b in blocks), args.jobs):
             files.put(text)

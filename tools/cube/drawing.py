@@ -106,9 +106,15 @@ def around(x, y):
 ROOM = (LEFT + 1, TOP + 1, RIGHT - 1, BOTTOM - 1)
 
 
+def firm_of(span):
+    """The participant behind a response, where it has one."""
+    return ", firm %d" % span.firm if span.firm else ""
+
+
 def told(span):
     """A response in words, as it stood and as it went."""
     words = "response %d: %d at %d, from %d ms to %d ms" % (span.sequence, span.size, span.price, span.begin, span.end)
+    words += firm_of(span)
     words += ", amends %d" % span.amends.sequence if span.amends else ""
     words += ", amended by %d" % span.amended.sequence if span.amended else ""
     return words + (", cancelled" if span.cancelled else "")
@@ -123,7 +129,7 @@ def responses(canvas, picture, scales):
     for span in picture.spans:
         x, y, end = scales.x(span.begin), scales.y(span.price), scales.x(span.end)
         canvas.open("response customer" if span.customer else "response", told(span),
-                    data_sequence=span.sequence, data_size=span.size, data_price=span.price, data_begin=span.begin, data_end=span.end)
+                    data_sequence=span.sequence, data_size=span.size, data_price=span.price, data_begin=span.begin, data_end=span.end, data_firm=span.firm or None)
         canvas.line(x, y, end, y, "line")
         canvas.crossed(x, y, end, y)
         if span.amends:
@@ -142,7 +148,8 @@ def responses(canvas, picture, scales):
     for span in picture.spans:
         x, y = scales.x(span.begin), scales.y(span.price)
         far = scales.off(span.price)
-        canvas.label(around(x, y), "%d: %d%s" % (span.sequence, span.size, " at %d%s" % (span.price, far) if far else ""), limits=ROOM)
+        short = "%d: %d%s" % (span.sequence, span.size, " at %d%s" % (span.price, far) if far else "")
+        canvas.label(around(x, y), short + firm_of(span), limits=ROOM) or canvas.label(around(x, y), short, limits=ROOM)
 
 
 def marks(canvas, picture, scales):
@@ -239,7 +246,7 @@ def fill_labels(canvas, levels, ends, scales):
         canvas.text(LABELS + 48, y + 4, words)
 
 
-def legend(canvas):
+def legend(canvas, picture):
     """What each shape means, in three columns."""
     one, two, three, y = LEFT, LEFT + 270, LEFT + 610, HEIGHT - 92
     canvas.add("rect", x=one, y=y - 9, width=16, height=10, class_="band")
@@ -248,7 +255,7 @@ def legend(canvas):
     canvas.line(two - 6, y - 4, two + 16, y - 4, "line")
     canvas.add("circle", cx=two - 6, cy=y - 4, r=3.2)
     canvas.close()
-    canvas.text(two + 24, y, "a response that stands, as sequence: size")
+    canvas.text(two + 24, y, "a response that stands, as sequence: size" + (", firm" if any(s.firm for s in picture.spans) else ""))
     canvas.add("rect", x=three, y=y - 9, width=16, height=10, class_="contra")
     canvas.text(three + 24, y, "filled: the Contra Order")
     y += 20
@@ -294,7 +301,7 @@ def auction(picture):
     marks(canvas, picture, scales)
     stop(canvas, picture, scales)
     fills(canvas, picture, scales)
-    legend(canvas)
+    legend(canvas, picture)
     return canvas.whole(STYLE)
 
 

@@ -56,22 +56,27 @@ def in_memory(data=b""):
     return file
 
 
-def read(name, most):
+def bytes_of(name, most):
     """The bytes of a file, `-` being standard input: at most one more than `most`, so that a longer one shows."""
+    fd = 0 if name == "-" else os.open(name, os.O_RDONLY)
     try:
-        fd = 0 if name == "-" else os.open(name, os.O_RDONLY)
-        try:
-            parts, left = [], most + 1
-            while left > 0:
-                part = os.read(fd, min(left, 1 << 20))
-                if not part:
-                    break
-                parts.append(part)
-                left -= len(part)
-            return b"".join(parts)
-        finally:
-            if fd:
-                os.close(fd)
+        parts, left = [], most + 1
+        while left > 0:
+            part = os.read(fd, min(left, 1 << 20))
+            if not part:
+                break
+            parts.append(part)
+            left -= len(part)
+        return b"".join(parts)
+    finally:
+        if fd:
+            os.close(fd)
+
+
+def read(name, most):
+    """Those bytes, or a Trouble that names the file."""
+    try:
+        return bytes_of(name, most)
     except OSError as e:
         raise Trouble("%s: %s" % (shown(name), reason(e)))
     except ValueError:

@@ -1,5 +1,6 @@
 """A tape as text, and back. One line for the order, one for each event, `key=value` after the first word:
 
+    tape new                                the tape's form, new or old (the first line; left out where it is old)
     own bytes=..                            the recorder's own bytes before the order, in hex (may be left out)
     order side=buy mode=auto-match size=10 limit=110 nbb=100 nbo=110 bb=100 bo=110 time=1000 open=0 close=86400000 interval=100
     gtx sequence=1 time=20 side=sell size=3 price=105
@@ -13,6 +14,7 @@
 An order's mode is stop, auto-match or auto-match-limit, the first and the last with stop=PRICE. A collared order on the other side is
 displayed=PRICE collar=CENTS, each left out where it is 0. Marks are `key=yes`: halted, another,
 customer-at-bb, customer-at-bo (order); customer (gtx, limit, market); nonroutable (limit); customer-at-bb, customer-at-bo (quotes).
+In a tape of the new form every event may have participant=N, left out where it is 0; its record has 40 bytes, and 32 in the old form.
 A number only has to fit its field: what is out of form is the engine's to refuse. Lines that are empty or begin with # are passed over.
 """
 import struct
@@ -30,6 +32,8 @@ KINDS = {1: ("gtx", ["size", "price"], True, {"customer": 0}),
          4: ("market", ["size"], True, {"customer": 0}),
          5: ("quotes", ["nbb", "nbo", "bb", "bo"], False, {"customer-at-bb": 2, "customer-at-bo": 3}),
          6: ("amend", ["of", "size", "price"], False, {})}
+# a form of tapes: the trailer's first word, and the length of an event record
+FORMS = {"old": (b"CUBT", 32), "new": (b"CUB2", 40)}
 LONGEST = 65536
 
 
@@ -102,6 +106,11 @@ class Line:
             self.wrong.append("%s does not belong here" % ", ".join(sorted(self.found)))
 
 
+def form_of(tape):
+    """The name of a tape's form, by its trailer's first word; None where it is neither."""
+    return next((name for name, (word, _) in FORMS.items() if tape[-16:-12] == word), None)
+
+
 def order_record(line):
     side, mode = line.choice("side", SIDES), line.choice("mode", MODES)
     for word in ORDER_OPTIONS + (["stop"] if mode == 2 else []):
@@ -110,34 +119,56 @@ def order_record(line):
     return bytes([side, mode, bits, 0]) + struct.pack("<13I", *[line.number(w) for w in ORDER_WORDS]) + bytes(8)
 
 
-def event_record(kind, line):
+def participant_words(line, form):
+    """The words of an event record after those that both forms have."""
+    if form == "new":
+        line.found.setdefault("participant", "0")
+        return struct.pack("<II", line.number("participant"), 0)
+    if line.found.pop("participant", None) is not None:
+        line.wrong.append("participant belongs to a tape of the new form: a line `tape new` at the start")
+    return b""
+
+
+def event_record(kind, line, form):
     name, fields, sided, table = KINDS[kind]
     sequence, time = line.number("sequence"), line.number("time")
     side = line.choice("side", SIDES) if sided else 0
     bits = line.marks(table)
     values = [line.number(w) for w in fields] + [0] * (4 - len(fields))
-    return struct.pack("<II", sequence, time) + bytes([kind, bits, side, 0]) + struct.pack("<5I", *values, 0)
+    return struct.pack("<II", sequence, time) + bytes([kind, bits, side, 0]) + struct.pack("<5I", *values, 0) + participant_words(line, form)
 
 
 class Text:
-    """What a text says: `own`, `order`, `events` as bytes, each event's line, and all that is wrong, as (line's number, why)."""
+    """What a text says: the tape's `form`, `own`, `order`, `events` as bytes, each event's line, and all that is wrong, as (line's number, why)."""
 
     def __init__(self, text):
-        self.own, self.order, self.events, self.order_line, self.event_lines, self.wrong = b"", None, [], 0, [], []
-        self.begun = self.ordered = False
+        self.form, self.own, self.order, self.events, self.order_line, self.event_lines, self.wrong = "old", b"", None, [], 0, [], []
+        self.formed = self.begun = self.ordered = False
         for i, line in enumerate(text.split("\n"), 1):
             words = line.split()
             if words and not words[0].startswith("#"):
-                self.read(i, words[0], Line(words[1:]))
+                if words[0] == "tape":
+                    self.read_form(i, words[1:])
+                else:
+                    self.read(i, words[0], Line(words[1:]))
         if not self.ordered:
             self.wrong.append((0, "there is no order: a line that begins with order"))
         elif not self.wrong and len(self.tape()) > LONGEST:
             self.wrong.append((0, "the tape would have %d bytes, and may have 65,536" % len(self.tape())))
 
+    def read_form(self, i, words):
+        if self.formed or self.begun:
+            self.wrong.append((i, "the tape's form stands first, and once"))
+        self.formed = True
+        if len(words) == 1 and words[0] in FORMS:
+            self.form = words[0]
+        else:
+            self.wrong.append((i, "'%s' is none of %s" % (" ".join(["tape"] + words), ", ".join("tape " + name for name in FORMS))))
+
     def read(self, i, word, line):
         if word == "own":
             if self.begun:
-                line.wrong.append("the recorder's own bytes stand first, and once")
+                line.wrong.append("the recorder's own bytes stand before the order, and once")
             self.own = line.bytes("bytes")
         elif not self.ordered:
             if word not in ("order", "record"):
@@ -147,13 +178,13 @@ class Text:
         elif word == "order":
             line.wrong, line.found = ["there is one order, and it stands before the events"], {}
         elif word == "record":
-            self.event(i, line.bytes("hex", 32))
+            self.event(i, line.bytes("hex", FORMS[self.form][1]))
         else:
             kind = next((k for k, v in KINDS.items() if v[0] == word), None)
             if kind is None:
                 line.wrong, line.found = ["'%s' is none of %s, record" % (word, ", ".join(v[0] for v in KINDS.values()))], {}
             else:
-                self.event(i, event_record(kind, line))
+                self.event(i, event_record(kind, line, self.form))
         line.done()
         self.begun = True
         self.wrong += [(i, w) for w in line.wrong]
@@ -163,7 +194,7 @@ class Text:
         self.event_lines.append(i)
 
     def tape(self):
-        return self.own + self.order + b"".join(self.events) + b"CUBT" + struct.pack("<III", len(self.own), len(self.events), 0)
+        return self.own + self.order + b"".join(self.events) + FORMS[self.form][0] + struct.pack("<III", len(self.own), len(self.events), 0)
 
 
 def at_line(i, why):
@@ -188,6 +219,11 @@ def order_line(b):
     return " ".join(["order"] + words + [m + "=yes" for m, bit in ORDER_MARKS.items() if bits >> bit & 1])
 
 
+def participant(b):
+    """The participant of an event record; one of the old form has 0."""
+    return int.from_bytes(b[32:36], "little")
+
+
 def event_line(b):
     sequence, time = struct.unpack("<II", b[:8])
     kind, bits, side = b[8], b[9], b[10]
@@ -195,10 +231,10 @@ def event_line(b):
     if kind in KINDS:
         name, fields, sided, table = KINDS[kind]
         allowed = sum(1 << bit for bit in table.values())
-        plain = not b[11] and not any(b[28:]) and not bits & ~allowed and not any(values[len(fields):])
+        plain = not b[11] and not any(b[28:32] + b[36:]) and not bits & ~allowed and not any(values[len(fields):])
         if plain and (name_of(SIDES, side) is not None if sided else side == 0):
             words = ["sequence=%d" % sequence, "time=%d" % time] + (["side=" + name_of(SIDES, side)] if sided else [])
-            words += ["%s=%d" % v for v in zip(fields, values)]
+            words += ["%s=%d" % v for v in zip(fields, values)] + ["participant=%d" % n for n in [participant(b)] if n]
             return " ".join([name] + words + [m + "=yes" for m, bit in table.items() if bits >> bit & 1])
     return "record hex=" + b.hex()
 
@@ -207,18 +243,19 @@ def parts(tape):
     """The own bytes, the order record and the event records of a tape, or Wrong with the number that refuses it."""
     if not 16 <= len(tape) <= LONGEST:
         raise Wrong("21: a tape has 16 to 65,536 bytes, and this has %s" % (len(tape) if len(tape) <= LONGEST else "more"))
-    name, at, n, last = tape[-16:-12], *struct.unpack("<III", tape[-12:])
-    if name != b"CUBT" or last:
+    form, (at, n, last) = form_of(tape), struct.unpack("<III", tape[-12:])
+    if form is None or last:
         raise Wrong("22: the trailer's first or last word is wrong")
-    if at + 64 + 32 * n + 16 != len(tape):
+    length, first = FORMS[form][1], at + 64
+    if first + length * n + 16 != len(tape):
         raise Wrong("23: the lengths don't add up")
-    return tape[:at], tape[at:at + 64], [tape[at + 64 + 32 * k:at + 96 + 32 * k] for k in range(n)]
+    return tape[:at], tape[at:first], [tape[k:k + length] for k in range(first, len(tape) - 16, length)]
 
 
 def show(tape):
     """The text of a tape, or Wrong with the number that refuses it."""
     own, order, events = parts(tape)
-    lines = (["own bytes=" + own.hex()] if own else []) + [order_line(order)] + [event_line(e) for e in events]
+    lines = ["tape new"] * (form_of(tape) == "new") + ["own bytes=" + own.hex()] * bool(own) + [order_line(order)] + [event_line(e) for e in events]
     return "\n".join(lines) + "\n"
 
 
@@ -231,7 +268,7 @@ def event_fields(b):
     """The fields of an event record by their names; what its kind does not have is not there."""
     sequence, time = struct.unpack("<II", b[:8])
     name, fields, sided, table = KINDS.get(b[8], ("record", [], False, {}))
-    found = dict(zip(fields, struct.unpack("<4I", b[12:28])), sequence=sequence, time=time, kind=name)
+    found = dict(zip(fields, struct.unpack("<4I", b[12:28])), sequence=sequence, time=time, kind=name, participant=participant(b))
     if sided:
         found["side"] = name_of(SIDES, b[10])
     found.update((mark, bool(b[9] >> bit & 1)) for mark, bit in table.items())

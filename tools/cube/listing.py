@@ -3,12 +3,19 @@ import json
 import os
 
 from . import reasons
+from .files import shown
+from .trouble import Trouble
 
 KEYS = ["name", "refused", "ending", "low", "high", "events_taken", "events_refused", "contra", "others", "average", "total"]
 
 
+def encoded(lines):
+    return ("\n".join(lines) + "\n").encode("utf-8", "surrogateescape")
+
+
 class Unreadable:
     """What is listed of a file that can't be read, and why."""
+    firms = None
 
     def __init__(self, name, why):
         self.name, self.why = name, why
@@ -20,15 +27,45 @@ class Unreadable:
     def lines(self):
         return ["UNREADABLE %s: %s" % (self.name, self.why)]
 
+    def printed(self):
+        return encoded(self.lines())
+
 
 class Listing:
     """What the engine said of a tape."""
+    firms = None
 
     def __init__(self, name, text):
         self.name, self.text = name, text
 
     def lines(self):
         return self.text.decode("ascii").splitlines()
+
+    def printed(self):
+        return self.text
+
+
+def party(line):
+    """The party that a FILL line or a line of `desk firms` names, or None."""
+    words = line.split(" ")
+    return words[1] if words[0] in ("FILL", "FIRM") else None
+
+
+class WithFirms(Listing):
+    """What the engine said of a tape, with the participant beside each fill of a response; `firms` has them by their parties. `said` has the lines of
+    `desk firms`, one for each fill."""
+
+    def __init__(self, listed, said):
+        super().__init__(listed.name, listed.text)
+        if [party(line) for line in said] != [party(line) for line in super().lines() if party(line)]:
+            raise Trouble("%s: the parties of desk firms are not those of the listing's fills" % shown(listed.name))
+        self.firms = {words[1]: int(words[2]) for words in (line.split(" ") for line in said) if len(words) == 3}
+
+    def lines(self):
+        return [line + " participant %d" % self.firms[party(line)] if party(line) in self.firms else line for line in super().lines()]
+
+    def printed(self):
+        return encoded(self.lines())
 
 
 def scaled(price_times_quantity, quantity):
@@ -42,9 +79,9 @@ def decimals(n):
 
 
 def row(listed):
-    """The fields of a listing; None where one does not apply. The average is in ten thousandths of a cent."""
+    """The fields of a listing; None where one does not apply. The average is in ten thousandths of a cent. `firms` is beside KEYS, for who asks for it."""
     found = dict.fromkeys(KEYS)
-    found["name"] = listed.name
+    found.update(name=listed.name, firms=listed.firms)
     if isinstance(listed, Unreadable):
         found["refused"] = "unreadable"
         return found
@@ -87,6 +124,8 @@ def csv_line(values):
 def cell(found, key):
     """A field as it is printed: nothing where it does not apply."""
     value = found[key]
+    if isinstance(value, dict):
+        return " ".join("%s:%d" % item for item in value.items())
     return "" if value is None else decimals(value) if key in FRACTIONS else str(value)
 
 

@@ -7,9 +7,10 @@ from .trouble import Trouble, reason
 BLOCK = 1024
 
 
-def blocks_of(names):
-    for i in range(0, len(names), BLOCK):
-        yield names[i:i + BLOCK]
+def blocks_of(names, size=BLOCK):
+    """Names in blocks of some size; standard input's block, `-`, stays one."""
+    for i in range(0, len(names), size):
+        yield names[i:i + size]
 
 
 def from_words(words):

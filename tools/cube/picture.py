@@ -4,11 +4,12 @@ from . import form, listing
 
 
 class Span:
-    """A response as it stood: from when to when, at what price, with what size. Where it went before the end it was `cancelled`, or `amended` is the
-    one that came in its place; `amends` is the one in whose place it came."""
+    """A response as it stood: from when to when, at what price, with what size; `firm` is the participant of its record. Where it went before the end it
+    was `cancelled`, or `amended` is the one that came in its place; `amends` is the one in whose place it came."""
 
     def __init__(self, sequence, size, customer, record):
         self.sequence, self.size, self.customer, self.price, self.begin = sequence, size, customer, record.get("price"), record["time"]
+        self.firm = record["participant"]
         self.end, self.cancelled, self.amended, self.amends = None, False, None, None
 
     def goes(self, time, instead):

@@ -4,8 +4,12 @@ One row for each number, in document 01's order of tests; a new number is a new 
 """
 REASONS = {
     21: ("tape", "tape under 16 or over 65,536 bytes", "The file is no tape: it is too short or too long to be one."),
-    22: ("tape", "trailer's first word or last word wrong", "The last 16 bytes are not a trailer: it does not begin with CUBT, or does not end with zero."),
-    23: ("tape", "lengths don't add up", "The trailer's offset and event count do not give the tape's length: bytes are missing, or there are too many."),
+    22: ("tape", "trailer's first word or last word wrong; moving, also a tape already in the wanted form",
+         "The last 16 bytes are not a trailer: it begins with neither CUBT nor CUB2, or does not end with zero. Or the tape that `cube move` was given has the wanted form already."),
+    23: ("tape", "lengths don't add up",
+         "The trailer's offset and event count do not give the tape's length, with 32 bytes for an event in the old form and 40 in the new: bytes are missing, or there are too many."),
+    25: ("tape", "moving back, an event's last two words aren't both 0", "The old form has no room for a participant, and moving the tape to it would lose one, or what else stands there."),
+    26: ("tape", "the moved tape would have more than 65,536 bytes", "In the new form each event has 8 bytes more, and with them the tape would be too long to be one."),
     1: ("order", "an order field outside its stated form (size 0 is 3); of a collared order only one field set, or either or the result not a price",
         "Some field of the order has a value that no order may have: a side, a mode, a mark, a price, a size or a time; or a collared order's displayed price and collar "
         "do not stand together, or do not give a price."),
@@ -30,7 +34,8 @@ REASONS = {
     36: ("event", "GTX or amend above the initiating price", "The response's price, or the price that it is amended to, is worse than the price at which the auction began."),
     37: ("event", "cancel or amend names no live GTX", "No such response stands: it never came, was cancelled, was amended (and has the amend's sequence since), or is a limit order."),
     38: ("event", "a response has to be placed and all 64 places are live", "Sixty-four responses stand already."),
-    24: ("record", "lent bytes too short for the record (writers: after 1 or 32; readers: first)", "A program lent too few bytes for a record or a listing, or what `cube watch --live` reads ended inside the order record. No listing of a tape shows this."),
+    24: ("record", "lent bytes too short for the record or the moved tape (writers: after 1 or 32; moving: last; readers: first)",
+         "A program lent too few bytes for a record, a moved tape or a listing, or what `cube watch --live` reads ended inside the order record. No listing of a tape shows this."),
     39: ("fills", "fewer than 390 words from the start place, or a start past the end", "A program lent too few words for the fills. No listing of a tape shows this."),
     40: ("fills", "fills asked for before the ending (before 39)", "A program asked for the fills of an auction that is still open. No listing of a tape shows this."),
 }

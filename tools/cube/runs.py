@@ -1,4 +1,4 @@
-"""Runs of the proved programs: one tape through `runner`, many through `evening`, a trace or a watch through `desk`."""
+"""Runs of the proved programs: one tape through `runner`, many through `evening`, a trace, a watch, a move or the participants through `desk`."""
 import contextlib
 import errno
 import itertools
@@ -6,13 +6,14 @@ import os
 import re
 import subprocess
 
-from .files import in_memory
-from .listing import Listing, Unreadable
-from .trouble import Trouble
+from .files import LONGEST_TAPE, bytes_of, in_memory
+from .listing import Listing, Unreadable, WithFirms, refusal
+from .trouble import Trouble, reason
 
 COUNTS = ["tapes", "refused", "time", "same", "opposite", "improve", "unreadable"]
 SUMMARY = "tapes %d, refused %d, ended by time %d, by same %d, by opposite %d, by improve %d, unreadable %d"
 SUMMARY_LINE = re.compile(SUMMARY.replace("%d", r"(\d+)").encode() + rb"\n\Z")
+REFUSED_LINE = re.compile(rb"REFUSED \d+\n")
 PATH_MAX = 4096
 
 
@@ -55,7 +56,7 @@ def one(engine, name, stdin=subprocess.PIPE, tape=None):
 
 
 def desk(engine, word, tape):
-    """The lines of `desk trace` or `desk watch`."""
+    """The lines of `desk trace`, `desk watch` or `desk firms`."""
     process = engine.start("desk", [word])
     text, said = finish(process, tape)
     if said or process.returncode != 0 or not text:
@@ -63,10 +64,21 @@ def desk(engine, word, tape):
     return text.decode("ascii").splitlines()
 
 
+def moved(engine, form, tape):
+    """The tape that `desk move` makes, and None; or None, and the line that refuses it."""
+    process = engine.start("desk", ["move", form])
+    made, said = finish(process, tape)
+    if process.returncode == 0 and not made and REFUSED_LINE.fullmatch(said):
+        return None, said.decode("ascii")
+    if said or process.returncode != 0 or not made:
+        raise Trouble(ended("desk", process, said))
+    return made, None
+
+
 @contextlib.contextmanager
-def live(engine):
-    """The lines of `desk live`, each as soon as it is written. Its standard input is that of cube."""
-    process, shown = engine.start("desk", ["live"], stdin=0), itertools.count()
+def live(engine, *words):
+    """The lines of `desk live`, each as soon as it is written; the word `new` is for records of the new form. Its standard input is that of cube."""
+    process, shown = engine.start("desk", ["live", *words], stdin=0), itertools.count()
     with ours(process):
         yield (line.decode("ascii").rstrip("\n") for line, _ in zip(process.stdout, shown))
         _, said = process.communicate()
@@ -121,21 +133,42 @@ class Evening:
             at = end
 
 
-class One:
-    """A block of one tape, that on standard input."""
+def counts_of(listed):
+    """The counts of one tape."""
+    words = [] if isinstance(listed, Unreadable) else listed.lines()
+    end = next((w.split()[1] for w in words if w.startswith("END ")), "refused" if words else "unreadable")
+    return [1] + [int(key == end) for key in COUNTS[1:]]
 
-    def __init__(self, engine):
-        self.listed = one(engine, "-", stdin=0)
-        words = [] if isinstance(self.listed, Unreadable) else self.listed.lines()
-        end = next((w.split()[1] for w in words if w.startswith("END ")), "refused" if words else "unreadable")
-        self.counts = [1] + [int(key == end) for key in COUNTS[1:]]
+
+class Singly:
+    """A block whose tapes were listed one by one."""
+
+    def __init__(self, listed):
+        self.listed = listed
+        self.counts = [sum(n) for n in zip(*map(counts_of, listed))]
 
     def is_plain(self):
         return False
 
     def __iter__(self):
-        yield self.listed
+        return iter(self.listed)
 
 
-def run_block(engine, block):
-    return One(engine) if block == "-" else Evening(engine, block)
+def one_with_firms(engine, name):
+    """The listing of one tape with its participants. The tape is read once, so that `runner` and `desk` have the same bytes; a pipe's, too."""
+    printed = os.fsdecode(name)
+    try:
+        tape = bytes_of(name, LONGEST_TAPE)
+    except OSError as e:
+        return Unreadable(printed, reason(e))
+    except ValueError:
+        return Unreadable.by_number(printed, errno.EINVAL)
+    listed = one(engine, printed, tape=tape)
+    return listed if refusal(listed.lines()[0]) is not None else WithFirms(listed, desk(engine, "firms", tape))
+
+
+def run_block(engine, block, firms=False):
+    """What is listed of a block: that of standard input, `-`, or of names; with the participants, where they are asked for."""
+    if firms:
+        return Singly([one_with_firms(engine, name) for name in ([block] if block == "-" else block)])
+    return Singly([one(engine, "-", stdin=0)]) if block == "-" else Evening(engine, block)

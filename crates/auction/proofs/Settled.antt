@@ -15,6 +15,9 @@ bound-now κs a = (tt, λ y z v w p q. (p ∙ sym q, refl))
 pub price-range : Settled contracts.bounds.price_range.ended contracts.bounds.price_range.Reads.Asked contracts.bounds.price_range.Reads.Learnt
 price-range κs a = (tt, λ y z v w p q. (p ∙ sym q, refl))
 
+pub participant-of : Settled contracts.firm.participant_of.ended contracts.firm.participant_of.Reads.Asked contracts.firm.participant_of.Reads.Learnt
+participant-of κs a = (tt, λ y z v w p q. (p ∙ sym q, refl))
+
 pub on-offer : Settled contracts.offer.on_offer.ended contracts.offer.on_offer.Reads.Asked contracts.offer.on_offer.Reads.Learnt
 on-offer κs a = (tt, λ y z v w p q. (p ∙ sym q, refl))
 

@@ -1,7 +1,8 @@
-// A CUBE auction: what it holds, which orders are accepted, the range that holds, and the contracts on offer. The engine knows only buys: a sell is its mirror.
+// A CUBE auction: what it holds, which orders are accepted, the range that holds, the contracts on offer, and the firm behind a response. The engine knows only buys: a sell is its mirror.
 use board::Board;
 
 mod bounds;
+mod firm;
 mod offer;
 mod orders;
 
@@ -9,6 +10,8 @@ pub use bounds::bound_by;
 pub use bounds::bound_now;
 pub use bounds::is_open;
 pub use bounds::price_range;
+pub use firm::Firm;
+pub use firm::participant_of;
 pub use offer::moved_offer;
 pub use offer::on_offer;
 pub use orders::accept;

@@ -1,11 +1,12 @@
 -- Laws of stores in a row, and of a part of a list from a place on. Assumes nothing.
 use mathlib.Core.Path.{_≡_, refl, sym, ap, _∙_}
-use mathlib.Core.List.{List, [], _∷_, _++_}
+use mathlib.Core.List.{List, [], _∷_, _++_, append-nil}
 use Prim.Native.Nat.{ℕ, suc, _+_, _-_, _≤_, _<_}
-use native.Mathlib.Nat.{add-zero, add-suc, suc-add}
+use native.Mathlib.Nat.{le-of-eq, add-zero, add-suc, suc-add}
+use borrow.Rule.Slice.PartMut.{putMid}
 use native.Mathlib.Numerals.{add-one}
 use native.Mathlib.Omega.{arith}
-use lib.ListN.{length, set, getD, take, drop, length-drop}
+use lib.ListN.{length, set, getD, take, drop, length-drop, drop-of-length-le}
 use lib.Seq.{sets, sets-eq, set-comm, take-all, take-suc, length-take-le}
 
 module _ {A : Type 0} where
@@ -34,6 +35,10 @@ module _ {A : Type 0} where
   sets-front vs l n e h =
       let z : 0 + length vs ≡ n = omega arith in
       sets-eq vs l 0 (omega arith) ∙ ap (λ (k : ℕ). vs ++ drop k l) z
+
+  -- a part that was lent from a place on, once it is back
+  pub part-back : (a : ℕ) (xs ys : List A) → putMid a (length xs - a) xs ys ≡ take a xs ++ ys
+  part-back a xs ys = ap {B = List A} (λ r. take a xs ++ r) (ap {B = List A} (λ r. ys ++ r) (drop-of-length-le (drop a xs) (le-of-eq (length-drop a xs))) ∙ append-nil ys)
 
   -- what a callee that is lent `&s[at..]` sees
   pub rest-is : (s : List A) (at : ℕ) → take (length s - at) (drop at s) ≡ drop at s

@@ -1,6 +1,6 @@
 -- Laws of seating, clearing and finding on a board. Assumes nothing.
 use mathlib.Core.Path.{_≡_, refl, sym, ap, _∙_}
-use mathlib.Core.Bool.{true, false, true≢false}
+use mathlib.Core.Bool.{Bool, true, false, _||_, true≢false}
 use mathlib.Core.List.{[]}
 use mathlib.Core.Logic.{⊎-elim}
 use Prim.Native.Nat.{ℕ, _≤_, _<_}
@@ -13,8 +13,8 @@ use Rattle.words.specs.rules.Bits.{bitAt, withBit, withoutBit, onesIn}
 use Rattle.base.proofs.Numbers.{le-or-lt}
 use Rattle.words.proofs.BitLaws.{past-bit, with-same, with-other, with-ones, with-fits, with-clear, with-set, without-same, without-ones, without-le, without-clear, without-not, clear-is, clear-least}
 use Rattle.base.specs.Lists.{Inserts}
-use Rattle.board.specs.rules.Board.{noResponse, responseAt, emptyBoard, isLive, liveCount, firstFree, liveIn, liveOf, seatedAt, cleared, isGtx, findGtx}
-use Rattle.board.specs.promises.Board.{Good, Seating, Amending, LowestFree, Clearing, GtxAt}
+use Rattle.board.specs.rules.Board.{noResponse, responseAt, emptyBoard, isLive, liveCount, firstFree, liveIn, liveOf, seatedAt, cleared, isNamed, findNamed}
+use Rattle.board.specs.promises.Board.{Good, Seating, Amending, LowestFree, Clearing, NamedAt}
 use Rattle.board.specs.declared.Response.{Response}
 use Rattle.board.specs.declared.Board.{Board}
 use Rattle.base.proofs.ListLaws.{inserts-sum}
@@ -153,37 +153,37 @@ module _ (b c : Board) (g : Good b) (k : Good c) (e : b .live ≡ c .live) (same
   pub unseen-live : liveOf b ≡ liveOf c
   unseen-live = live-same (b .live) (b .places) (c .places) noResponse both same ∙ ap (λ (w : ℕ). liveIn w (c .places)) e
 
-  pub unseen-find : (s : ℕ) → findGtx b s ≡ findGtx c s
-  unseen-find s =
-      find-unseen (isGtx s) (b .live) (b .places) (c .places) noResponse both same
-      ∙ ap (λ (w : ℕ). findGtx (record { places = c .places; live = w }) s) e
+  pub unseen-find : (any : Bool) (s : ℕ) → findNamed any b s ≡ findNamed any c s
+  unseen-find any s =
+      find-unseen (isNamed any s) (b .live) (b .places) (c .places) noResponse both same
+      ∙ ap (λ (w : ℕ). findNamed any (record { places = c .places; live = w }) s) e
 
 -- ---- finding
-module _ (b : Board) (s : ℕ) (g : Good b) where
-  pub find-gtx : findGtx b s < 64 → GtxAt b s (findGtx b s)
-  find-gtx h =
-      let i = findGtx b s in
+module _ (any : Bool) (b : Board) (s : ℕ) (g : Good b) where
+  pub find-named : findNamed any b s < 64 → NamedAt any b s (findNamed any b s)
+  find-named h =
+      let i = findNamed any b s in
       let r = responseAt (b .places) i in
-      let hits = find-is (isGtx s) (b .live) (b .places) noResponse (omega (arith, g .places-are)) in
-      let right = and-right (isLive b i) (isGtx s r) hits in
+      let hits = find-is (isNamed any s) (b .live) (b .places) noResponse (omega (arith, g .places-are)) in
+      let right = and-right (isLive b i) (isNamed any s r) hits in
       record {
-        live = and-left (isLive b i) (isGtx s r) hits;
-        gtx = and-left (r .gtx) _ right;
-        sequence = eqb-true (r .sequence) s (and-right (r .gtx) _ right);
+        live = and-left (isLive b i) (isNamed any s r) hits;
+        gtx = and-left (any || r .gtx) _ right;
+        sequence = eqb-true (r .sequence) s (and-right (any || r .gtx) _ right);
       }
 
-  pub gtx-found : (i : ℕ) → GtxAt b s i → findGtx b s ≤ i
-  gtx-found i a =
+  pub named-found : (i : ℕ) → NamedAt any b s i → findNamed any b s ≤ i
+  named-found i a =
       ⊎-elim
       (λ le. le)
       (λ lt.
       let hits = and-both (a .live) (and-both (a .gtx) (eq-eqb (responseAt (b .places) i .sequence) s (a .sequence))) in
-      absurd (true≢false (sym hits ∙ find-first (isGtx s) (b .live) (b .places) noResponse i lt)))
-      (le-or-lt (findGtx b s) i)
+      absurd (true≢false (sym hits ∙ find-first (isNamed any s) (b .live) (b .places) noResponse i lt)))
+      (le-or-lt (findNamed any b s) i)
 
-  pub no-gtx : ((i : ℕ) → GtxAt b s i → ⊥) → findGtx b s ≡ 64
-  no-gtx none =
+  pub no-named : ((i : ℕ) → NamedAt any b s i → ⊥) → findNamed any b s ≡ 64
+  no-named none =
       ⊎-elim
-      (λ le. omega (arith, g .places-are, find-le (isGtx s) (b .live) (b .places)))
-      (λ lt. absurd (none (findGtx b s) (find-gtx lt)))
-      (le-or-lt 64 (findGtx b s))
+      (λ le. omega (arith, g .places-are, find-le (isNamed any s) (b .live) (b .places)))
+      (λ lt. absurd (none (findNamed any b s) (find-named lt)))
+      (le-or-lt 64 (findNamed any b s))

@@ -13,10 +13,10 @@ use Rattle.board.specs.declared.Board.{Board}
 
 -- a sell of n at 100: a GTX response, or a limit order
 abbrev gtx : ℕ → ℕ → Response
-gtx s n = record { sequence = s; size = n; price = 100; customer = false; gtx = true }
+gtx s n = record { sequence = s; size = n; price = 100; participant = 0; customer = false; gtx = true }
 
 abbrev limit : ℕ → ℕ → Response
-limit s n = record { sequence = s; size = n; price = 100; customer = false; gtx = false }
+limit s n = record { sequence = s; size = n; price = 100; participant = 0; customer = false; gtx = false }
 
 -- live at places 0, 2, 3 and 63; what stands at place 1 is dead
 abbrev some : Board

@@ -21,11 +21,11 @@ seated κs a = (tt, λ y z v w p q. (p ∙ sym q, refl))
 pub clear : Settled contracts.clear.ended contracts.clear.Reads.Asked contracts.clear.Reads.Learnt
 clear κs a = (tt, λ y z v w p q. (p ∙ sym q, refl))
 
-pub is-gtx : Settled contracts.is_gtx.ended contracts.is_gtx.Reads.Asked contracts.is_gtx.Reads.Learnt
-is-gtx κs a = (tt, λ y z v w p q. (p ∙ sym q, refl))
+pub is-named : Settled contracts.is_named.ended contracts.is_named.Reads.Asked contracts.is_named.Reads.Learnt
+is-named κs a = (tt, λ y z v w p q. (p ∙ sym q, refl))
 
-pub find-gtx : Settled contracts.find_gtx.ended contracts.find_gtx.Reads.Asked contracts.find_gtx.Reads.Learnt
-find-gtx κs a = (tt, λ y z v w p q. (p ∙ sym q, refl))
+pub find : Settled contracts.find.ended contracts.find.Reads.Asked contracts.find.Reads.Learnt
+find κs a = (tt, λ y z v w p q. (p ∙ sym q, refl))
 
 pub response-at : Settled contracts.response_at.ended contracts.response_at.Reads.Asked contracts.response_at.Reads.Learnt
 response-at κs a = (tt, λ y z v w p q. (p ∙ sym q, refl))

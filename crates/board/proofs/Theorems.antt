@@ -2,7 +2,7 @@
 use Rattle.words.proofs.BitLaws.{without-other, ones-clear, clear-ones}
 use Rattle.board.specs.promises.Board.{Changes, Seen, Finding, Ordering}
 use Rattle.board.specs.inside.Places.{Walking}
-use Rattle.board.proofs.BoardLaws.{seating, amending, seated-past, seated-good, lowest-free, clearing, cleared-dead, cleared-good, empty-good, empty-live, live-count, unseen-live, unseen-find, find-gtx, gtx-found, no-gtx}
+use Rattle.board.proofs.BoardLaws.{seating, amending, seated-past, seated-good, lowest-free, clearing, cleared-dead, cleared-good, empty-good, empty-live, live-count, unseen-live, unseen-find, find-named, named-found, no-named}
 use Rattle.base.proofs.ListLaws.{shuffles-length, shuffles-sum}
 use Rattle.board.proofs.LiveLaws.{word-filters}
 use Rattle.board.proofs.SequenceLaws.{sequence-shuffles, sequence-rises, sequence-stable, sequence-last, sequence-filter}
@@ -29,11 +29,11 @@ seen = record {
   room = λ b h. ones-clear 64 (b .live) h;
   no-room = λ b h. clear-ones 64 (b .live) h;
   live = unseen-live;
-  find = λ b c s g k e same. unseen-find b c g k e same s;
+  find = λ any b c s g k e same. unseen-find b c g k e same any s;
 }
 
 pub finding : Finding
-finding = record { found = find-gtx; some = λ b s i g a. gtx-found b s g i a; none = no-gtx }
+finding = record { found = find-named; some = λ any b s i g a. named-found any b s g i a; none = no-named }
 
 pub ordering : Ordering
 ordering = record {

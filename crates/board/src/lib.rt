@@ -1,13 +1,14 @@
 // The board: 64 places for responses, and the word that tells which of them are live.
 ghost use mathlib.Core.Path.{_≡_};
-ghost use Rattle.board.specs.rules.Board.{noResponse, responseAt, emptyBoard, isLive, liveCount, firstFree, seatedAt, cleared, isGtx, foundGtx};
+ghost use Rattle.board.specs.rules.Board.{noResponse, responseAt, emptyBoard, isLive, liveCount, firstFree, seatedAt, cleared, isNamed, found};
 use words::bits;
 
-// A response that stands on the board: a GTX response, or a limit order.
+// A response that stands on the board: a GTX response, or a limit order. The participant is the firm behind it.
 pub struct Response {
     pub sequence: u32,
     pub size: u32,
     pub price: u32,
+    pub participant: u32,
     pub customer: bool,
     pub gtx: bool,
 }
@@ -18,7 +19,7 @@ pub struct Board {
     pub live: u64,
 }
 
-// A GTX response that was looked for: its place, and 64 where there is none; what stands there.
+// A response that was looked for: its place, and 64 where there is none; what stands there.
 pub struct Found {
     pub place: usize,
     pub response: Response,
@@ -32,6 +33,7 @@ fn no_response() -> Response
         sequence: 0,
         size: 0,
         price: 0,
+        participant: 0,
         customer: false,
         gtx: false,
     }
@@ -88,22 +90,22 @@ pub fn clear(b: Board, i: usize) -> Board
     n
 }
 
-// Whether a response is a GTX response with this sequence.
-pub fn is_gtx(r: Response, sequence: u32) -> bool
-    ensures { λ t. ⌜ t ≡ isGtx sequence r ⌝ }
+// Whether a response has this sequence: any, or a GTX response alone.
+pub fn is_named(r: Response, sequence: u32, any: bool) -> bool
+    ensures { λ t. ⌜ t ≡ isNamed any sequence r ⌝ }
 {
-    r.gtx & (r.sequence == sequence)
+    (any | r.gtx) & (r.sequence == sequence)
 }
 
-// The live GTX response with this sequence.
-pub fn find_gtx(b: Board, sequence: u32) -> Found
-    ensures { λ r. ⌜ r ≡ foundGtx b sequence ⌝ }
+// The live response with this sequence: any, or a GTX response alone.
+pub fn find(b: Board, sequence: u32, any: bool) -> Found
+    ensures { λ r. ⌜ r ≡ found any b sequence ⌝ }
 {
     let mut rest = b.live;
     while rest != 0 {
         let i = bits::first_set(rest) as usize;
         let r = b.places[i];
-        if is_gtx(r, sequence) {
+        if is_named(r, sequence, any) {
             return Found {
                 place: i,
                 response: r,

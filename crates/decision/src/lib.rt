@@ -46,6 +46,7 @@ fn response(gtx: bool, size: u32, e: Event) -> Response
         sequence: e.sequence,
         size,
         price: e.f16,
+        participant: e.participant,
         customer: mark(e.marks, 0),
         gtx,
     }
@@ -98,6 +99,7 @@ fn amended(t: Terms, old: Response, e: Event) -> Response
         sequence: e.sequence,
         size: lower(e.f16, t.size),
         price: e.f20,
+        participant: e.participant,
         customer: old.customer,
         gtx: true,
     }

@@ -18,7 +18,7 @@ use Rattle.trade.specs.rules.Write.{fillsOf}
 
 -- sequence, size, price; no Customer's
 abbrev pub gtx : ℕ → ℕ → ℕ → Response
-gtx k s p = record { sequence = k; size = s; price = p; customer = false; gtx = true }
+gtx k s p = record { sequence = k; size = s; price = p; participant = 0; customer = false; gtx = true }
 
 -- these responses at the lowest places
 abbrev pub board : List Response → Board

@@ -81,7 +81,7 @@ not-at-another h = omega (arith, ap (soldAt 105) (h .market-trades))
 -- ---- Customers
 
 abbrev customer : ℕ → ℕ → ℕ → Response
-customer k s p = record { sequence = k; size = s; price = p; customer = true; gtx = true }
+customer k s p = record { sequence = k; size = s; price = p; participant = 0; customer = true; gtx = true }
 
 -- they come before the Contra Order
 pub not-before-customer : Demand3 terms (board (customer 1 80 108 ∷ [])) (fill 0 108 50 ∷ fill 1 108 50 ∷ []) → ⊥

@@ -1,13 +1,18 @@
-// What a desk looks at beside the listing: a subcommand by its first argument, plain lines on standard output. A refused tape or order is its number. A
-// read or a write that fails is said on standard error, and ends it.
+// What a desk looks at beside the listing, and moving a tape: a subcommand by its arguments, plain lines on standard output. A refused tape or order is
+// its number. A read or a write that fails is said on standard error, and ends it.
 //
 //   desk trace < TAPE    a line for the order, one for each event record and one for closing by hand: the range then, and the responses that stand,
 //                        each by its sequence and size, as 5:30, and a Customer's as 5:30:customer
 //   desk watch < TAPE    the listing, with the contracts on offer after each event at the end of its line
-//   desk live            the same of an order record and event records, as they come on standard input: each line is written as soon as it is known, those
-//                        of the end where an event ends the auction, else at the input's end
+//   desk firms < TAPE    a line for each FILL line of the listing: who traded, by its sequence or `contra`, and the participant of a response, as FIRM 5 77
+//   desk live            the watch of an order record and event records, as they come on standard input: each line is written as soon as it is known,
+//                        those of the end where an event ends the auction, else at the input's end
+//   desk live new        the same of event records of the new form, 40 bytes each
+//   desk move new < TAPE the tape in the new form; a refusal is its number on standard error, with nothing on standard output
+//   desk move old < TAPE the tape in the old form
 use auction::Auction;
 use auction::Entry;
+use auction::Firm;
 use board::Board;
 use board::Response;
 use input::Contents;
@@ -17,13 +22,15 @@ use libc::STDIN_FILENO;
 use libc::STDOUT_FILENO;
 use listing::watch;
 use listing::watch::LINES;
-use tape::EVENT_BYTES;
+use moving::Moved;
 use tape::Event;
 use tape::ORDER_BYTES;
 use tape::Opened;
 use tape::Order;
 use tape::ReadOrder;
 use tape::Trailer;
+use tape::event_bytes;
+use trade::Filled;
 ghost use mathlib.Core.Path.{_≡_};
 ghost use Prim.Native.Nat.{_≤_};
 ghost use lib.ListN.{length};
@@ -47,10 +54,17 @@ fn order_buffer() -> [u8; ORDER_BYTES]
     [0; ORDER_BYTES]
 }
 
-fn event_buffer() -> [u8; EVENT_BYTES]
-    ensures { λ r. ⌜ 32 ≡ length r ⌝ }
+// The longer of the two event records.
+fn event_buffer() -> [u8; 40]
+    ensures { λ r. ⌜ 40 ≡ length r ⌝ }
 {
-    [0; EVENT_BYTES]
+    [0; 40]
+}
+
+fn fills_buffer() -> [u32; 390]
+    ensures { λ r. ⌜ 390 ≡ length r ⌝ }
+{
+    [0; 390]
 }
 
 // ---- reading
@@ -79,6 +93,13 @@ fn print(s: &[u8]) -> bool {
 // On standard error.
 fn say(s: &[u8]) {
     io::write_all(STDERR_FILENO, s);
+}
+
+// A refusal, on standard error.
+fn say_refused(number: u32) {
+    say(b"REFUSED ");
+    io::print_decimal(STDERR_FILENO, base::wide(number));
+    say(b"\n");
 }
 
 fn print_number(n: u32) -> bool {
@@ -236,45 +257,147 @@ fn watch_auction(tape: &[u8], t: Trailer, a: Auction, out: &mut [u8]) -> bool {
     watch_events(tape, t, a, out)
 }
 
-// The tape's order, and its records traced or watched.
-fn serve_order(watches: bool, tape: &[u8], t: Trailer, o: Order, out: &mut [u8]) -> bool {
+// ---- who traded
+
+// The participant of a response; nothing of a market order, which is none.
+fn print_participant(a: Auction, party: u32) -> bool {
+    match auction::participant_of(a, party) {
+        Firm::Participant(n) => print_field(b" ", n),
+        Firm::Nobody => true,
+    }
+}
+
+fn print_firm(a: Auction, party: u32) -> bool {
+    if party == 0 {
+        return print(b"FIRM contra\n");
+    }
+    if !print_field(b"FIRM ", party) {
+        return false;
+    }
+    if !print_participant(a, party) {
+        return false;
+    }
+    print(b"\n")
+}
+
+// A line for each of n fills, three words each.
+fn print_firms(a: Auction, words: &[u32], n: u32) -> bool
+    requires { ⌜ 390 ≤ length (now words) ⌝ }
+{
+    let mut i: u32 = 0;
+    while i < 130 {
+        if n <= i {
+            return true;
+        }
+        if !print_firm(a, words[3 * (i as usize)]) {
+            return false;
+        }
+        i += 1;
+    }
+    true
+}
+
+fn print_filled(a: Auction, words: &[u32], f: Filled) -> bool
+    requires { ⌜ 390 ≤ length (now words) ⌝ }
+{
+    match f {
+        Filled::Count(n) => print_firms(a, words, n),
+        Filled::Refused(_) => true,
+    }
+}
+
+// The auction after its events, closed by hand where it is open still.
+fn closed(tape: &[u8], t: Trailer, opened: Auction) -> Auction {
+    let mut a = opened;
+    let mut k = 0;
+    while k < t.events {
+        a = after(a, tape, t, k);
+        k += 1;
+    }
+    let c = steps::close(a);
+    c.auction
+}
+
+fn firms_auction(tape: &[u8], t: Trailer, opened: Auction) -> bool {
+    let a = closed(tape, t, opened);
+    let mut words = fills_buffer();
+    let f = fills::write_fills(a, &mut words, 0);
+    print_filled(a, &words, f)
+}
+
+// ---- what is looked at
+
+enum Look {
+    Trace,
+    Watch,
+    Firms,
+}
+
+// An auction that was opened, with the tape's records.
+fn serve_auction(look: Look, tape: &[u8], t: Trailer, a: Auction, out: &mut [u8]) -> bool {
+    match look {
+        Look::Trace => trace_auction(tape, t, a),
+        Look::Watch => watch_auction(tape, t, a, out),
+        Look::Firms => firms_auction(tape, t, a),
+    }
+}
+
+fn serve_order(look: Look, tape: &[u8], t: Trailer, o: Order, out: &mut [u8]) -> bool {
     let opening = auction::accept(o);
     let answer = opening.answer;
     let a = opening.auction;
     match answer {
-        Entry::Accepted => {
-            if watches {
-                return watch_auction(tape, t, a, out);
-            }
-            trace_auction(tape, t, a)
-        }
+        Entry::Accepted => serve_auction(look, tape, t, a, out),
         Entry::Refused(number) => show_refused(number, out),
     }
 }
 
-fn serve_opened(watches: bool, tape: &[u8], t: Trailer, out: &mut [u8]) -> bool {
+fn serve_opened(look: Look, tape: &[u8], t: Trailer, out: &mut [u8]) -> bool {
     match tape::order_in(tape, t) {
-        ReadOrder::Order(o) => serve_order(watches, tape, t, o, out),
+        ReadOrder::Order(o) => serve_order(look, tape, t, o, out),
         ReadOrder::Refused(number) => show_refused(number, out),
     }
 }
 
-fn serve_bytes(watches: bool, tape: &[u8], out: &mut [u8]) -> bool {
+fn serve_bytes(look: Look, tape: &[u8], out: &mut [u8]) -> bool {
     match tape::open_tape(tape) {
-        Opened::Tape(t) => serve_opened(watches, tape, t, out),
+        Opened::Tape(t) => serve_opened(look, tape, t, out),
         Opened::Refused(number) => show_refused(number, out),
     }
 }
 
 // The tape on standard input.
-fn serve_tape(watches: bool, out: &mut [u8]) {
+fn serve_tape(look: Look, out: &mut [u8]) {
     let mut tape = tape_buffer();
     let c = read_input(&mut tape);
     if !c.whole {
         return;
     }
     let n = c.length;
-    serve_bytes(watches, &tape[..n], out);
+    serve_bytes(look, &tape[..n], out);
+}
+
+// ---- moving
+
+fn move_bytes(wide: bool, tape: &[u8], out: &mut [u8]) {
+    match moving::move_tape(wide, tape, out) {
+        Moved::Length(n) => {
+            print_start(out, n as usize);
+        }
+        Moved::Refused(number) => say_refused(number),
+    }
+}
+
+// The tape on standard input in the other form, onto standard output.
+fn move_input(wide: bool) {
+    let mut tape = tape_buffer();
+    let c = read_input(&mut tape);
+    if !c.whole {
+        return;
+    }
+    let n = c.length;
+    let mut out = tape_buffer();
+    move_bytes(wide, &tape[..n], &mut out);
 }
 
 // ---- records as they come
@@ -324,7 +447,7 @@ fn stopped(a: Auction) -> Shown {
 }
 
 // The next event record: the auction after it, and whether one may follow.
-fn live_turn(a: Auction, bytes: &mut [u8], out: &mut [u8]) -> Shown {
+fn live_turn(wide: bool, a: Auction, bytes: &mut [u8], out: &mut [u8]) -> Shown {
     let c = read_input(bytes);
     if !c.whole {
         return stopped(a);
@@ -333,18 +456,18 @@ fn live_turn(a: Auction, bytes: &mut [u8], out: &mut [u8]) -> Shown {
         live_end(a, out);
         return stopped(a);
     }
-    if c.length < EVENT_BYTES {
+    if c.length < event_bytes(wide) {
         live_cut(a);
         return stopped(a);
     }
-    live_event(a, tape::record_at(bytes), out)
+    live_event(a, tape::record_at(wide, bytes), out)
 }
 
-fn live_events(opened: Auction, bytes: &mut [u8], out: &mut [u8]) {
+fn live_events(wide: bool, opened: Auction, bytes: &mut [u8], out: &mut [u8]) {
     let mut a = opened;
     let mut turns = u64::MAX;
     while turns > 0 {
-        let s = live_turn(a, bytes, out);
+        let s = live_turn(wide, a, bytes, out);
         if !s.well {
             return;
         }
@@ -353,26 +476,29 @@ fn live_events(opened: Auction, bytes: &mut [u8], out: &mut [u8]) {
     }
 }
 
-fn live_auction(a: Auction, out: &mut [u8]) {
+fn live_auction(wide: bool, a: Auction, out: &mut [u8]) {
     let mut bytes = event_buffer();
+    let start = 0;
+    let n = event_bytes(wide);
     if show_opened(a, out) {
-        live_events(a, &mut bytes, out);
+        live_events(wide, a, &mut bytes[start..n], out);
     }
 }
 
-fn live_order(o: Order, out: &mut [u8]) {
+fn live_order(wide: bool, o: Order, out: &mut [u8]) {
     let opening = auction::accept(o);
     let answer = opening.answer;
     let a = opening.auction;
     match answer {
-        Entry::Accepted => live_auction(a, out),
+        Entry::Accepted => live_auction(wide, a, out),
         Entry::Refused(number) => {
             show_refused(number, out);
         }
     }
 }
 
-fn live(out: &mut [u8]) {
+// `wide` says that the event records are of the new form.
+fn live(wide: bool, out: &mut [u8]) {
     let mut order = order_buffer();
     let c = read_input(&mut order);
     if !c.whole {
@@ -383,7 +509,7 @@ fn live(out: &mut [u8]) {
         say(b"desk: standard input ended inside the order record\n");
     }
     match tape::read_order(&order[..n]) {
-        ReadOrder::Order(o) => live_order(o, out),
+        ReadOrder::Order(o) => live_order(wide, o, out),
         ReadOrder::Refused(number) => {
             show_refused(number, out);
         }
@@ -409,25 +535,66 @@ fn is_word(text: &[u8], word: &[u8]) -> bool {
     true
 }
 
-fn serve(word: &[u8]) {
+fn unknown() {
+    say(
+        b"desk: no such subcommand; there are: desk trace < TAPE, desk watch < TAPE, desk firms < TAPE, desk live [new], desk move new|old < TAPE\n",
+    );
+}
+
+// The form that a word names: the old one where it names none.
+fn serve_live(form: &[u8]) {
     let mut out = lines_buffer();
-    if is_word(word, b"trace") {
-        serve_tape(false, &mut out);
+    if is_word(form, b"new") {
+        live(true, &mut out);
         return;
+    }
+    if is_word(form, b"") {
+        live(false, &mut out);
+        return;
+    }
+    unknown();
+}
+
+fn serve_move(form: &[u8]) {
+    if is_word(form, b"new") {
+        move_input(true);
+        return;
+    }
+    if is_word(form, b"old") {
+        move_input(false);
+        return;
+    }
+    unknown();
+}
+
+fn serve_look(look: Look) {
+    let mut out = lines_buffer();
+    serve_tape(look, &mut out);
+}
+
+fn serve(word: &[u8], form: &[u8]) {
+    if is_word(word, b"trace") {
+        return serve_look(Look::Trace);
     }
     if is_word(word, b"watch") {
-        serve_tape(true, &mut out);
-        return;
+        return serve_look(Look::Watch);
+    }
+    if is_word(word, b"firms") {
+        return serve_look(Look::Firms);
     }
     if is_word(word, b"live") {
-        live(&mut out);
-        return;
+        return serve_live(form);
     }
-    say(b"desk: no such subcommand; there are: desk trace < TAPE, desk watch < TAPE, desk live\n");
+    if is_word(word, b"move") {
+        return serve_move(form);
+    }
+    unknown();
 }
 
 fn main() {
     let mut word = io::buffer();
+    let mut form = io::buffer();
     let k = os::arg(1, &mut word);
-    serve(&word[..k]);
+    let n = os::arg(2, &mut form);
+    serve(&word[..k], &form[..n]);
 }

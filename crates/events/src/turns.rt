@@ -44,7 +44,7 @@ pub fn sight(b: Board, e: Event) -> Sight
     ensures { λ r. ⌜ r ≡ sightOf b e ⌝ }
 {
     if names(e) {
-        return sight_of(b.live, board::find_gtx(b, e.f12));
+        return sight_of(b.live, board::find(b, e.f12, false));
     }
     let response = board::response_at(b, 64);
     sight_of(

@@ -28,7 +28,13 @@ use tape::Trailer;
 fn is_cancel(e: Event) -> bool
     ensures { λ r. ⌜ (r ≡ true → e ≡ cancelEvent (e .sequence) (e .time) (e .f12)) ⌝ }
 {
-    (e.kind == 2) & (e.marks == 0) & (e.side == 0) & (e.f16 == 0) & (e.f20 == 0) & (e.f24 == 0)
+    (e.kind == 2)
+        & (e.marks == 0)
+        & (e.side == 0)
+        & (e.f16 == 0)
+        & (e.f20 == 0)
+        & (e.f24 == 0)
+        & (e.participant == 0)
 }
 
 // One event by the form that is its turn.

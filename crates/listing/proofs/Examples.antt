@@ -3,8 +3,8 @@ use mathlib.Core.Path.{_≡_, refl}
 use mathlib.Core.List.{List, [], _∷_}
 use Prim.Native.Nat.{ℕ}
 use Rattle.words.specs.rules.Bytes.{wordAt}
-use Rattle.tape.specs.rules.Records.{orderWords, orderOf, orderSpare, readOrder, eventWords, eventOf, eventSpare, recordAt, trailerWords, trailerOf, readTrailer}
-use Rattle.tape.specs.rules.Tape.{openTape, orderIn, recordIn, recordsFrom, recordsOf, tapeOf}
+use Rattle.tape.specs.rules.Records.{orderWords, orderOf, orderSpare, readOrder, widthOf, eventWords, eventOf, eventSpare, recordAt, trailerWords, trailerOf, readTrailer}
+use Rattle.tape.specs.rules.Tape.{lastTrailer, openTape, orderIn, recordIn, recordsFrom, recordsOf, tapeOf}
 use Rattle.auction.specs.rules.Accept.{acceptOf}
 use Rattle.run.specs.rules.Run.{runOf}
 use Rattle.run.proofs.Figures.{Computed}
@@ -16,7 +16,7 @@ use Rattle.listing.specs.promises.Watching.{watchC, moved, watchMoved, w
 
 -- a tape and its listing
 abbrev Lists : List ℕ → List ℕ → Type 0
-unfolding Computed wordAt orderWords orderOf orderSpare readOrder eventWords eventOf eventSpare recordAt trailerWords trailerOf readTrailer openTape orderIn recordIn recordsFrom recordsOf tapeOf runOf digits decimal refusedLine rangeText auctionLine answerText eventText eventLine eventLineWith endText endLine partyText fillLine totalLine endLines listingOf
+unfolding Computed wordAt orderWords orderOf orderSpare readOrder widthOf eventWords eventOf eventSpare recordAt trailerWords trailerOf readTrailer lastTrailer openTape orderIn recordIn recordsFrom recordsOf tapeOf runOf digits decimal refusedLine rangeText auctionLine answerText eventText eventLine eventLineWith endText endLine partyText fillLine totalLine endLines listingOf
 Lists tape t = listingOf tape ≡ t
 
 pub case-c : listingOf exampleTape ≡ exampleListing

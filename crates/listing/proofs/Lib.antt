@@ -1,5 +1,4 @@
 -- Laws and theorems of `listing`.
-pub mod WroteLaws
 pub mod DecimalLaws
 pub mod FillLaws
 pub mod LookLaws

@@ -12,9 +12,10 @@ use Rattle.listing.specs.declared.Listed.{Listed}
 use Rattle.listing.specs.declared.Listed.the-variants.{Refused as NoAuction, Ended as Auctioned}
 use Rattle.run.specs.rules.Run.{Said, Run, ended, runOf}
 use Rattle.listing.specs.rules.Listing.{auctionLine, eventLines, endLines, linesOf, listingOf, roomOf, answerOf, listedOf, bytesOf}
-use Rattle.listing.proofs.WroteLaws.{wrote-append}
+use Rattle.words.proofs.WroteLaws.{wrote-append}
 use Rattle.listing.proofs.LengthLaws.{listing-fits}
-use Rattle.listing.specs.inside.Code.{Lists, WroteBytes}
+use Rattle.listing.specs.inside.Code.{Lists}
+use Rattle.words.specs.inside.Writing.{WroteBytes}
 
 pub wrote-lists : {xs ys : List ℕ} {n : ℕ} (run : Run) → WroteBytes xs 0 (linesOf run) n ys → Lists run xs (answerOf n run) ys
 wrote-lists {xs} {ys} {n} run a =

@@ -17,8 +17,8 @@ use Rattle.tape.specs.declared.event.Event.{Event}
 use Rattle.tape.specs.declared.trailer.Trailer.{Trailer}
 use Rattle.tape.specs.declared.trailer.Opened.the-variants.{Tape}
 use Rattle.tape.specs.rules.Tape.{openTape, recordIn, recordsFrom, recordsOf}
-use Rattle.tape.specs.promises.Holds.{Holds}
-use Rattle.tape.proofs.HoldsLaws.{holds, records-none, records-more}
+use Rattle.tape.proofs.HoldsLaws.{tape-took, records-none, records-more}
+use Rattle.tape.proofs.RecordLaws.{at-least}
 use Rattle.auction.specs.declared.Auction.{Auction}
 use Rattle.auction.specs.declared.Head.{Head}
 use Rattle.events.specs.declared.Stepped.{Stepped}
@@ -35,14 +35,7 @@ use Rattle.listing.specs.rules.Listing.{eventLine, eventLines}
 
 -- a tape that opens has no more events than its listing has room for
 pub tape-fits : (s : List ℕ) (t : Trailer) → openTape s ≡ Tape t → t .events ≤ 2045
-tape-fits s t e = go (t .events) refl
-  where
-    h : Holds s t
-    h = holds s t e
-
-    go : (n : ℕ) → t .events ≡ n → t .events ≤ 2045
-    go zero z = omega arith
-    go (suc n) z = omega (arith, h .event n (omega arith), h .short)
+tape-fits s t e = let k = tape-took s t e in omega (arith, k .0, k .1, at-least (t .wide) (t .events))
 
 -- an auction that was closed by hand has ended
 pub closed-ended : (a : Auction) → hasEnded (closed a .head) ≡ true

@@ -26,7 +26,7 @@ use Rattle.listing.specs.rules.Watch.{linesRoom, shownLength, shownBytes
 use Rattle.listing.specs.promises.Watching.{Shows, none, more, Watching}
 use Rattle.listing.proofs.LengthLaws.{refused-short, auction-short, watched-short, end-lines-short}
 use Rattle.listing.proofs.Examples.{watch-c, watch-moved, watch-e}
-use Rattle.listing.specs.inside.Code.{WroteBytes}
+use Rattle.words.specs.inside.Writing.{WroteBytes}
 
 module _ (line xs : List ℕ) where
   pub unshown : length xs < linesRoom → (0 ≡ shownLength line xs) × ((xs ≡ shownBytes line xs) × (0 ≤ length xs))

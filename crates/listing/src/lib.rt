@@ -7,7 +7,8 @@ ghost use Rattle.board.specs.rules.Board.{emptyBoard};
 ghost use Rattle.tape.specs.rules.Tape.{orderIn, recordsOf};
 ghost use Rattle.run.specs.rules.Run.{run, heard, closed, refused, runEntry, runOrder};
 ghost use Rattle.listing.specs.rules.Listing.{eventLines, roomOf, lengthIn, listedOf, bytesOf};
-ghost use Rattle.listing.specs.inside.Code.{Lists, WroteBytes};
+ghost use Rattle.listing.specs.inside.Code.{Lists};
+ghost use Rattle.words.specs.inside.Writing.{WroteBytes};
 use auction::Auction;
 use auction::Ending;
 use auction::Entry;
@@ -92,7 +93,7 @@ fn put_events(tape: &[u8], t: Trailer, a: Auction, out: &mut [u8], start: usize)
         while rest != 0 {
             let i = bits::first_set(rest) as usize;
             let r = b.places[i];
-            if board::is_gtx(r, e.f12) {
+            if board::is_named(r, e.f12, false) {
                 named = Found {
                     place: i,
                     response: r,

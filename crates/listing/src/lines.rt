@@ -5,7 +5,7 @@ ghost use Rattle.auction.specs.rules.Range.{rangeOf};
 ghost use Rattle.run.specs.rules.Run.{said};
 ghost use Rattle.listing.specs.rules.Listing.{refusedLine, rangeText, sideText, auctionLine, answerText, eventText, eventLine, eventLineWith, endText, endLine, partyText, fillLine, totalLine};
 ghost use Rattle.share.specs.rules.Fills.{fill};
-ghost use Rattle.listing.specs.inside.Code.{WroteBytes};
+ghost use Rattle.words.specs.inside.Writing.{WroteBytes};
 use crate::text::put_field;
 use crate::text::put_text;
 use crate::text::put_word;

@@ -4,7 +4,7 @@ ghost use mathlib.Core.List.{_++_};
 ghost use Prim.Native.Nat.{_+_, _≤_, _<_};
 ghost use lib.ListN.{length};
 ghost use Rattle.listing.specs.rules.Text.{digit, decimal};
-ghost use Rattle.listing.specs.inside.Code.{WroteBytes};
+ghost use Rattle.words.specs.inside.Writing.{WroteBytes};
 
 pub(crate) fn put_text(out: &mut [u8], at: usize, s: &[u8]) -> usize
     requires { ⌜ at + length (now s) ≤ length (now out) ⌝ }

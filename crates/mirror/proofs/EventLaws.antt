@@ -40,6 +40,13 @@ module _ (e : Event) where
   unfolding mirroredPriced mirroredMarket mirroredQuotes mirroredAmend
   mirror-kind = mirror-keeps (λ x. x .kind) e refl refl refl refl
 
+  pub mirror-participant : mirroredEvent e .participant ≡ e .participant
+  unfolding mirroredPriced mirroredMarket mirroredQuotes mirroredAmend
+  mirror-participant = mirror-keeps (λ x. x .participant) e refl refl refl refl
+
+  pub buy-participant : (s : Bool) → buyEvent s e .participant ≡ e .participant
+  buy-participant s = buy-keeps (λ x. x .participant) s e mirror-participant
+
   pub buy-sequence : (s : Bool) → buyEvent s e .sequence ≡ e .sequence
   buy-sequence s = buy-keeps (λ x. x .sequence) s e mirror-sequence
 

@@ -25,8 +25,9 @@ use Rattle.tape.specs.declared.trailer.ReadTrailer.the-variants.{Trailer as Got
 use Rattle.tape.specs.declared.trailer.Opened.{Opened}
 use Rattle.tape.specs.declared.trailer.Opened.the-variants.{Tape, Refused as NotOpened}
 use Rattle.tape.specs.rules.Form.{orderFormed, eventFormed}
-use Rattle.tape.specs.rules.Records.{cubt, orderWords, orderOf, orderSpare, readOrder, orderAnswer, eventWords, eventOf, eventSpare, readEvent, eventAnswer, trailerWords, trailerOf, readTrailer, trailerAnswer}
-use Rattle.tape.specs.rules.Tape.{lengthOf, openedWith, openTape, orderIn, recordsOf}
+use Rattle.tape.specs.rules.Records.{cubt, cub2, orderWords, orderOf, orderSpare, readOrder, orderAnswer, widthOf, eventOf, eventSpare, readEvent, eventHeld, eventAnswer, trailerWords, trailerOf, readTrailer, trailerAnswer}
+use Rattle.tape.proofs.RecordLaws.{words-long}
+use Rattle.tape.specs.rules.Tape.{lengthOf, openedWith, lastTrailer, openTape, orderIn, recordsOf}
 use Rattle.tape.proofs.HoldsLaws.{holds}
 use Rattle.mirror.specs.rules.Mirror.{buyOrder}
 use Rattle.trade.specs.rules.Trade.{offers, fills}
@@ -72,13 +73,13 @@ numbers-in n low (suc k) h l = ⊎-elim (λ e. inl e) (λ d. inr (numbers-in n (
 -- the trailer of a tape of 16 bytes or more is read, or 22
 trailer-number : (s : List ℕ) (n : ℕ) → 16 ≤ length s → readTrailer s ≡ NoTrailer n → n ≡ 22
 unfolding readTrailer
-trailer-number s n h = rw (le-ltb (length s) 16 h) (by (λ (r : ReadTrailer). r ≡ NoTrailer n → n ≡ 22) (eqb (wordAt s 0) cubt && eqb (wordAt s 12) 0) (GotTrailer (trailerOf s)) (NoTrailer 22) (λ _ z. cc) (λ _ z. cc))
+trailer-number s n h = rw (le-ltb (length s) 16 h) (by (λ (r : ReadTrailer). r ≡ NoTrailer n → n ≡ 22) ((eqb (wordAt s 0) cubt || eqb (wordAt s 0) cub2) && eqb (wordAt s 12) 0) (GotTrailer (trailerOf s)) (NoTrailer 22) (λ _ z. cc) (λ _ z. cc))
 
 -- 21, 22 or 23
 tape-number : (s : List ℕ) (n : ℕ) → openTape s ≡ NotOpened n → In n (21 ∷ 22 ∷ 23 ∷ [])
-unfolding openTape
+unfolding openTape lastTrailer
 tape-number s n =
-    by (λ (p : Opened). p ≡ NotOpened n → In n (21 ∷ 22 ∷ 23 ∷ [])) (ltb (length s) 16 || ltb 65536 (length s)) (NotOpened 21) (openedWith (length s) (readTrailer (drop (length s - 16) s)))
+    by (λ (r : ReadTrailer). openedWith (length s) r ≡ NotOpened n → In n (21 ∷ 22 ∷ 23 ∷ [])) (ltb (length s) 16 || ltb 65536 (length s)) (NoTrailer 21) (readTrailer (drop (length s - 16) s))
     (λ _ z. let q : n ≡ 21 = cc in inl q)
     (λ h. go (readTrailer (drop (length s - 16) s)) refl (ltb-false (length s) 16 (or-left (ltb (length s) 16) (ltb 65536 (length s)) h)))
   where
@@ -211,14 +212,14 @@ filling a xs start =
 -- ---- the numbers of readers and writers, and the words of the lines
 
 pub numbered : Numbered
-unfolding readOrder readEvent readTrailer orderAnswer eventAnswer trailerAnswer orderWords eventWords trailerWords answerText endText
+unfolding readOrder readEvent readTrailer orderAnswer eventHeld eventAnswer trailerAnswer orderWords trailerWords answerText endText
 numbered =
     record {
       reads-order = λ s. order-by (ltb (length s) 64) (orderSpare s && orderFormed (orderOf s)) (orderOf s);
-      reads-event = λ s. event-by (ltb (length s) 32) (eventSpare s && eventFormed (eventOf s)) (eventOf s);
-      reads-trailer = λ s. trailer-by (ltb (length s) 16) (eqb (wordAt s 0) cubt && eqb (wordAt s 12) 0) (trailerOf s);
+      reads-event = λ wide s. event-by (ltb (length s) (widthOf wide)) (eventSpare wide s && eventFormed (eventOf wide s)) (eventOf wide s);
+      reads-trailer = λ s. trailer-by (ltb (length s) 16) ((eqb (wordAt s 0) cubt || eqb (wordAt s 0) cub2) && eqb (wordAt s 12) 0) (trailerOf s);
       writes-order = λ o out. written-by (orderFormed o) (ltb (length out) 64) 1;
-      writes-event = λ e out. written-by (eventFormed e) (ltb (length out) 32) 32;
+      writes-event = λ wide e out. rw (words-long wide e) (written-by (eventHeld wide e) (ltb (length out) (widthOf wide)) 32);
       writes-trailer = λ t out. written-by true (ltb (length out) 16) 24;
       event-words = said-by;
       event-number = number-by;

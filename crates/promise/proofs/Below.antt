@@ -2,6 +2,7 @@
 use Rattle.words.proofs.BitTheorems.{bits-mean}
 use Rattle.reader.proofs.ReaderLaws.{reading}
 use Rattle.roundtrip.proofs.TapeBack.{demands as round-trips}
+use Rattle.moving.proofs.Theorems.{all-moves}
 use Rattle.mirror.proofs.MirrorForm.{records-mirror}
 use Rattle.auction.proofs.CollaredLaws.{collared}
 use Rattle.board.proofs.Theorems.{changes, seen, finding, ordering}
@@ -26,6 +27,7 @@ below =
       bits = bits-mean;
       reading = λ bytes t. reading bytes t;
       round-trips = round-trips;
+      moves = all-moves;
       records-mirror = records-mirror;
       collared = collared;
       changes = changes;

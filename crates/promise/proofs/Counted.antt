@@ -10,7 +10,7 @@ use Rattle.base.proofs.Bools.{no, by}
 use Rattle.base.proofs.ListLaws.{every-inserts, inserts-every, every-in, every-with, every-map}
 use Rattle.board.specs.declared.Response.{Response}
 use Rattle.board.specs.rules.Board.{liveOf, cleared, findGtx, responseAt, isLive}
-use Rattle.board.proofs.BoardLaws.{clearing, find-gtx, amending, no-gtx}
+use Rattle.board.proofs.BoardLaws.{clearing, find-named, amending, no-named}
 use Rattle.tape.specs.declared.order.Order.{Order}
 use Rattle.tape.specs.declared.event.Event.{Event}
 use Rattle.tape.specs.rules.Form.{eventFormed}
@@ -106,7 +106,7 @@ taken-away a e s names =
     named : v .found < 64 → responseAt (a .board .places) (v .found) .sequence ≡ nameOf e
     named f =
         let i : v .found ≡ findGtx (a .board) (nameOf e) = found-is (a .board) e names in
-        ap (λ (j : ℕ). responseAt (a .board .places) j .sequence) i ∙ find-gtx (a .board) (nameOf e) (s .board) (omega (arith, f, i)) .sequence
+        ap (λ (j : ℕ). responseAt (a .board .places) j .sequence) i ∙ find-named false (a .board) (nameOf e) (s .board) (omega (arith, f, i)) .sequence
 
     takes : (f : v .found < 64) → Inserts (responseAt (a .board .places) (v .found)) (liveOf (cleared (a .board) (v .found))) (liveOf (a .board))
     takes f = clearing (a .board) (v .found) (s .board) (live f) .takes
@@ -161,7 +161,7 @@ all-gone (e ∷ es) a s = go (isTaken (stepOf a e .answer)) refl (all-gone es b 
 
 -- a name that no live response bears is not found
 not-found : (a : Auction) (k : ℕ) → Sound a → Absent k (liveOf (a .board)) → findGtx (a .board) k ≡ 64
-not-found a k s g = no-gtx (a .board) k (s .board) (λ i at. live-at (λ r. r .sequence ≢ k) (a .board) i (s .board) (at .live) g (at .sequence))
+not-found a k s g = no-named false (a .board) k (s .board) (λ i at. live-at (λ r. r .sequence ≢ k) (a .board) i (s .board) (at .live) g (at .sequence))
 
 -- so what names it is not taken
 not-taken : (a : Auction) (e : Event) → Sound a → Names e → Absent (nameOf e) (liveOf (a .board)) → isTaken (stepOf a e .answer) ≡ true → ⊥

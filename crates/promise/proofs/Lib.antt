@@ -14,6 +14,8 @@ pub mod SharedFigures
 pub mod Standing
 pub mod Counted
 pub mod Offered
+pub mod Firms
+pub mod Moved
 pub mod MarketTrades
 pub mod InRealPrices
 pub mod Mirrored

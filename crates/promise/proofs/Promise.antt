@@ -11,6 +11,8 @@ use Rattle.promise.proofs.Carried.{accepted, not-accepted}
 use Rattle.promise.proofs.Opening.{opens, some-range, no-range, only-13}
 use Rattle.promise.proofs.InRealPrices.{trades}
 use Rattle.promise.proofs.Mirrored.{mirrors}
+use Rattle.promise.proofs.Firms.{firms}
+use Rattle.promise.proofs.Moved.{moved}
 use Rattle.promise.proofs.Below.{below}
 
 pub promise : Promise
@@ -38,5 +40,7 @@ promise =
       can-mirror = can-mirror;
       mirrors = mirrors;
       mirrors-watch = λ o es h. mirrors-watch o es (accepted o h);
+      firms = firms;
+      moved = moved;
       below = below;
     }

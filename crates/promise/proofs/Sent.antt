@@ -15,7 +15,7 @@ use Rattle.tape.specs.declared.event.Event.{Event}
 use Rattle.tape.specs.rules.Form.{eventFormed}
 use Rattle.tape.specs.rules.Fields.{sizeOf, priceOf, newSizeOf, newPriceOf}
 use Rattle.mirror.specs.rules.Mirror.{mirroredSide, mirroredOrder, mirroredPriced, mirroredMarket, mirroredEvent, buyOrder, buyEvent, mirroredAmend}
-use Rattle.mirror.proofs.EventLaws.{buy-sequence, mirror-one, mirror-three, mirror-four, mirror-six, amend-size}
+use Rattle.mirror.proofs.EventLaws.{buy-sequence, buy-participant, mirror-one, mirror-three, mirror-four, mirror-six, amend-size}
 use Rattle.mirror.proofs.MirrorForm.{side-twice, event-bounds}
 use Rattle.trade.specs.rules.Write.{reportedPrice}
 use Rattle.auction.specs.declared.Auction.{Auction}
@@ -87,13 +87,8 @@ new-price true e k f = ap (λ (x : Event). mirrored (newPriceOf x)) (mirror-six 
 new-price false e k f = refl
 
 -- a response is what its fields are
-response-is : (r x : Response) → r .sequence ≡ x .sequence → r .size ≡ x .size → r .price ≡ x .price → r .customer ≡ x .customer → r .gtx ≡ x .gtx → r ≡ x
-response-is r x p q s t u =
-    ap (λ (n : ℕ). of n (r .size) (r .price) (r .customer) (r .gtx)) p ∙ ap (λ (n : ℕ). of (x .sequence) n (r .price) (r .customer) (r .gtx)) q
-    ∙ ap (λ (n : ℕ). of (x .sequence) (x .size) n (r .customer) (r .gtx)) s ∙ ap (λ (b : Bool). of (x .sequence) (x .size) (x .price) b (r .gtx)) t ∙ ap (of (x .sequence) (x .size) (x .price) (x .customer)) u
-  where
-    of : ℕ → ℕ → ℕ → Bool → Bool → Response
-    of sequence size price customer gtx = record { sequence = sequence; size = size; price = price; customer = customer; gtx = gtx }
+response-is : (r x : Response) → r .sequence ≡ x .sequence → r .size ≡ x .size → r .price ≡ x .price → r .participant ≡ x .participant → r .customer ≡ x .customer → r .gtx ≡ x .gtx → r ≡ x
+response-is r x p q s f t u = λ i. record { sequence = p i; size = q i; price = s i; participant = f i; customer = t i; gtx = u i }
 
 -- a GTX response or a limit order, for an auction with the order's side and size, is as the record sent it
 module _ (o : Order) (t : Terms) (e : Event) (sell : t .sell ≡ isSell o) (size : t .size ≡ o .size) (f : eventFormed e ≡ true) where
@@ -108,14 +103,14 @@ module _ (o : Order) (t : Terms) (e : Event) (sell : t .sell ≡ isSell o) (size
   sent-gtx k =
       response-is (sent (isSell o) (responseOf true (min (sizeOf m) (t .size)) m)) (sentBy o e) (buy-sequence e (t .sell))
       (ap (λ (n : ℕ). min n (t .size)) (sent-size (t .sell) e (inl k)) ∙ ap (min (sizeOf e)) size ∙ sym (ap (λ (b : Bool). cond b (min (sizeOf e) (o .size)) (sizeOf e)) (eq-eqb (e .kind) 1 k)))
-      (price-back (inl k)) (sent-customer (t .sell) e (inl k)) (sym (eq-eqb (e .kind) 1 k))
+      (price-back (inl k)) (buy-participant e (t .sell)) (sent-customer (t .sell) e (inl k)) (sym (eq-eqb (e .kind) 1 k))
 
   pub sent-limit : e .kind ≡ 3 → sent (isSell o) (responseOf false (sizeOf m) m) ≡ sentBy o e
   sent-limit k =
       let n : eqb (e .kind) 1 ≡ false = ne-eqb (e .kind) 1 (λ z. omega arith) in
       response-is (sent (isSell o) (responseOf false (sizeOf m) m)) (sentBy o e) (buy-sequence e (t .sell))
       (sent-size (t .sell) e (inr k) ∙ sym (ap (λ (b : Bool). cond b (min (sizeOf e) (o .size)) (sizeOf e)) n))
-      (price-back (inr k)) (sent-customer (t .sell) e (inr k)) (sym n)
+      (price-back (inr k)) (buy-participant e (t .sell)) (sent-customer (t .sell) e (inr k)) (sym n)
 
   -- an amend's response is as the record sent it instead of the old one
   pub sent-amend : (old : Response) → e .kind ≡ 6 → sent (isSell o) (amendedBy t old m) ≡ sentInstead o e (sent (isSell o) old)
@@ -123,7 +118,7 @@ module _ (o : Order) (t : Terms) (e : Event) (sell : t .sell ≡ isSell o) (size
       response-is (sent (isSell o) (amendedBy t old m)) (sentInstead o e (sent (isSell o) old)) (buy-sequence e (t .sell))
       (ap (λ (n : ℕ). min n (t .size)) (amend-size e (t .sell) k) ∙ ap (min (newSizeOf e)) size)
       (ap (λ (s : Bool). reportedPrice (isSell o) (newPriceOf (buyEvent s e))) sell ∙ new-price (isSell o) e k f)
-      refl refl
+      (buy-participant e (t .sell)) refl refl
 
 -- what holds of each as it was sent
 pub every-sent : (P : Response → Type 0) (sell : Bool) (rs : List Response) → Every (λ r. P (sent sell r)) rs → Every P (map (sent sell) rs)

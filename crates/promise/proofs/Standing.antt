@@ -16,7 +16,7 @@ use Rattle.board.specs.declared.Board.{Board}
 use Rattle.board.specs.declared.Response.{Response}
 use Rattle.board.specs.rules.Board.{noResponse, responseAt, isLive, liveOf, seatedAt, cleared, findGtx, isGtx, inserted, inSequence}
 use Rattle.board.specs.promises.Board.{Good, GtxAt, Amending}
-use Rattle.board.proofs.BoardLaws.{seating, amending, clearing, find-gtx, gtx-found, empty-live}
+use Rattle.board.proofs.BoardLaws.{seating, amending, clearing, find-named, named-found, empty-live}
 use Rattle.board.proofs.LiveLaws.{live-every}
 use Rattle.board.proofs.SequenceLaws.{sequence-shuffles, sequence-filter, sequence-last}
 use Rattle.tape.specs.declared.order.Order.{Order}
@@ -139,7 +139,7 @@ module _ (sell : Bool) (b : Board) (k : ℕ) (g : Good b) (d : Distinct (liveOf 
   old = sent sell (responseAt (b .places) i)
 
   at : GtxAt b k i
-  at = find-gtx b k g l
+  at = find-named false b k g l
 
   takes : Inserts old (onBoard sell (cleared b i)) (onBoard sell b)
   takes = inserts-map (sent sell) (clearing b i g (at .live) .takes)
@@ -177,7 +177,7 @@ named-is sell b k g d = go (ltb (findGtx b k) 64) refl
         not-gtx j l live true q =
             let r : Response = responseAt (b .places) j in
             let at : GtxAt b k j = record { live = live; gtx = and-left (r .gtx) _ q; sequence = eqb-true _ _ (and-right (r .gtx) _ q) } in
-            absurd (omega (arith, ltb-false (findGtx b k) 64 z, gtx-found b k g j at, l, g .places-are))
+            absurd (omega (arith, ltb-false (findGtx b k) 64 z, named-found false b k g j at, l, g .places-are))
         not-gtx j l live false q = refl
 
 -- ---- a step
@@ -245,7 +245,7 @@ module _ (o : Order) (a : Auction) (e : Event) (s : Sound a) (w : Ours o (a .hea
       let was : Response = responseAt (a .board .places) place in
       let r : Response = amendedBy terms was m in
       let x : Response = sentInstead o e (sent (isSell o) was) in
-      let got : GtxAt (a .board) (nameOf e) place = find-gtx (a .board) (nameOf e) (s .board) l in
+      let got : GtxAt (a .board) (nameOf e) place = find-named false (a .board) (nameOf e) (s .board) l in
       let made : Amending (a .board) place r = amending (a .board) place r (s .board) (got .live) in
       let left : List Response = onBoard (isSell o) (cleared (a .board) place) in
       let adds : Inserts x left (onBoard (isSell o) (seatedAt (a .board) place r)) =
@@ -338,7 +338,7 @@ stand o es h = ap inSequence (there-is o es h ∙ ap (onBoard (isSell o)) (board
 sent-twice : (sell : Bool) (rs : List Response) → Every (λ r. r .price ≤ 1000000) rs → map (sent sell) (map (sent sell) rs) ≡ rs
 sent-twice sell [] h = refl
 sent-twice sell (r ∷ rs) h =
-    ap (λ (p : ℕ). record { sequence = r .sequence; size = r .size; price = p; customer = r .customer; gtx = r .gtx } ∷ map (sent sell) (map (sent sell) rs)) (shown-twice sell (r .price) (h .0))
+    ap (λ (p : ℕ). record { sequence = r .sequence; size = r .size; price = p; participant = r .participant; customer = r .customer; gtx = r .gtx } ∷ map (sent sell) (map (sent sell) rs)) (shown-twice sell (r .price) (h .0))
     ∙ ap (λ (xs : List Response). r ∷ xs) (sent-twice sell rs (h .1))
 
 pub by-fold : (o : Order) (es : List Event) → acceptOf o .answer ≡ Accepted → writtenFills o es ≡ reported (isSell o) (fills (dealOf (atEnd o es .head)) (map (sent (isSell o)) (standingOf o (takenRecords o es))))

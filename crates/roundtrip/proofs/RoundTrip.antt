@@ -1,8 +1,8 @@
 -- Reading what was written gives the value back; writing what was read gives the bytes back. The substance is that of a row of words, of any length. Assumes nothing.
 use mathlib.Core.Path.{_≡_, refl, ap, sym, _∙_}
-use mathlib.Core.Bool.{Bool, true, false, cond, _&&_}
+use mathlib.Core.Bool.{Bool, true, false, cond, _&&_, _||_, or-false}
 use mathlib.Core.List.{List, [], _∷_, _++_}
-use Prim.Native.Nat.{ℕ, zero, suc, _+_, _*_, _≤_, _<_}
+use Prim.Native.Nat.{ℕ, zero, suc, _+_, _*_, _-_, _≤_, _<_}
 use native.Mathlib.Omega.{arith}
 use lib.ListN.{length, getD, take, drop, length-append, length-drop}
 use lib.Seq.{take-at, drop-at, drop-drop, getD-drop}
@@ -19,11 +19,12 @@ use Rattle.tape.specs.declared.event.ReadEvent.the-variants.{Event as GotEvent}
 use Rattle.tape.specs.declared.trailer.ReadTrailer.the-variants.{Trailer as GotTrailer, Refused as NoTrailer}
 use Rattle.tape.specs.declared.Written.the-variants.{Done, Refused}
 use Rattle.tape.specs.rules.Form.{orderFormed, shapeOf, shapeTests, eventFormed}
-use Rattle.tape.specs.rules.Records.{withRecord, wroteBytes, orderWords, orderOf, orderSpare, readOrder, orderAnswer, orderWrote, eventWords, eventOf, eventSpare, readEvent, eventAnswer, eventWrote, cubt, trailerWords, trailerOf, readTrailer, trailerAnswer, trailerWrote}
+use Rattle.tape.specs.rules.Records.{withRecord, wroteBytes, orderWords, orderOf, orderSpare, readOrder, orderAnswer, orderWrote, widthOf, newWord, eventWords, eventOf, eventSpare, readEvent, eventHeld, eventAnswer, eventWrote, cubt, cub2, nameOf, trailerWords, trailerOf, readTrailer, trailerAnswer, trailerWrote}
 use Rattle.roundtrip.specs.promises.Demands.{Word, ValuesBack, BytesBack, RefusalsKeep}
 use Rattle.base.proofs.Bools.{and-left, and-right}
 use Rattle.tape.proofs.FormLaws.{each, within-le, OrderBounds, order-bounds, row-bounds}
-use Rattle.tape.proofs.HoldsLaws.{event-took, event-formed}
+use Rattle.tape.proofs.RecordLaws.{width-ge, words-long}
+use Rattle.tape.proofs.HoldsLaws.{event-took, held-formed, event-held}
 
 -- ---- the words of what is in form fit 32 bits
 
@@ -36,9 +37,9 @@ order-fit o b =
     (four-fit (o .side) (o .mode) (o .marks) (omega arith) (omega arith) (omega arith), (omega arith, (omega arith, (omega arith, (omega arith, (omega arith, (omega arith, (omega arith, (omega arith, (omega arith, (omega arith, (omega arith, (omega arith, (omega arith, (omega arith, (omega arith, tt))))))))))))))))
 
 -- an event's, but for its sequence
-event-fit : (e : Event) → eventFormed e ≡ true → Fit (drop 1 (eventWords e)) × (e .kind < 256) × (e .marks < 256) × (e .side < 256)
+event-fit : (wide : Bool) (e : Event) → Word (e .participant) → eventFormed e ≡ true → Fit (drop 1 (eventWords wide e)) × (e .kind < 256) × (e .marks < 256) × (e .side < 256)
 unfolding eventFormed shapeTests eventWords
-event-fit e h =
+event-fit wide e p h =
     let s = shapeOf (e .kind) in
     let b = row-bounds (e .kind) in
     let t : (i : ℕ) → getD (shapeTests s e) i true ≡ true = each (shapeTests s e) true h in
@@ -50,8 +51,12 @@ event-fit e h =
     let f16 : e .f16 ≤ s .f16 .high = within-le (e .f16) (s .f16 .low) (s .f16 .high) (t 5) in
     let f20 : e .f20 ≤ s .f20 .high = within-le (e .f20) (s .f20 .low) (s .f20 .high) (t 6) in
     let f24 : e .f24 ≤ s .f24 .high = within-le (e .f24) (s .f24 .low) (s .f24 .high) (t 7) in
-    let words : Fit (drop 1 (eventWords e)) = (omega arith, (four-fit (e .kind) (e .marks) (e .side) (omega arith) (omega arith) (omega arith), (omega arith, (omega arith, (omega arith, (omega arith, (omega arith, tt))))))) in
+    let words : Fit (drop 1 (eventWords wide e)) = (omega arith, (four-fit (e .kind) (e .marks) (e .side) (omega arith) (omega arith) (omega arith), (omega arith, (omega arith, (omega arith, (omega arith, (omega arith, last wide))))))) in
     (words, omega arith, omega arith, omega arith)
+  where
+    last : (wide : Bool) → Fit (cond wide (e .participant ∷ 0 ∷ []) [])
+    last true = (p, (omega arith, tt))
+    last false = tt
 
 -- ---- any record: a row of words `ws`
 
@@ -86,7 +91,7 @@ unfolding orderAnswer orderWrote eventAnswer eventWrote trailerAnswer trailerWro
 refusals-keep =
     record {
       order = λ o out n h. refused-keeps (orderFormed o) (ltb (length out) (length (orderWords o) * 4)) 1 n out (withRecord (orderWords o) out) h;
-      event = λ e out n h. refused-keeps (eventFormed e) (ltb (length out) (length (eventWords e) * 4)) 32 n out (withRecord (eventWords e) out) h;
+      event = λ wide e out n h. refused-keeps (eventHeld wide e) (ltb (length out) (length (eventWords wide e) * 4)) 32 n out (withRecord (eventWords wide e) out) h;
       trailer = λ t out n h. refused-keeps true (ltb (length out) (length (trailerWords t) * 4)) 24 n out (withRecord (trailerWords t) out) h;
     }
 
@@ -166,66 +171,100 @@ order-read s o b h =
     let n : 64 ≤ length s = ltb-false (length s) 64 (t .0) in
     ap (λ (x : Order). wordBytes (orderWords x)) (sym (t .2)) ∙ ap wordBytes (order-words s n (and-left (orderSpare s) (orderFormed (orderOf s)) (t .1))) ∙ record-back s 16 b n
 
--- ---- the event
+-- ---- the event, of either form
 
-pub event-length : (e : Event) → length (eventWords e) ≡ 8
+-- how many words its record has
+abbrev wordsIn : Bool → ℕ
+wordsIn wide = cond wide 10 8
+
+event-length : (wide : Bool) (e : Event) → length (eventWords wide e) ≡ wordsIn wide
 unfolding eventWords
-event-length e = refl
+event-length true e = refl
+event-length false e = refl
 
-event-from : (s : List ℕ) (e : Event) → getD s 8 0 ≡ e .kind → getD s 9 0 ≡ e .marks → getD s 10 0 ≡ e .side → wordsFrom s 0 8 ≡ eventWords e → eventOf s ≡ e
-unfolding eventOf eventWords
-event-from s e b8 b9 b10 w =
-    let at : (k : ℕ) → getD (wordsFrom s 0 8) k 0 ≡ getD (eventWords e) k 0 = λ k. ap (λ (l : List ℕ). getD l k 0) w in
-    simp (b8, b9, b10, at 0, at 1, at 3, at 4, at 5, at 6)
+event-width : (wide : Bool) → wordsIn wide * 4 ≡ widthOf wide
+unfolding widthOf
+event-width true = refl
+event-width false = refl
 
-event-words : (s : List ℕ) → 32 ≤ length s → eventSpare s ≡ true → eventWords (eventOf s) ≡ wordsFrom s 0 8
+module _ (s : List ℕ) (e : Event) where
+  event-from : (wide : Bool) → getD s 8 0 ≡ e .kind → getD s 9 0 ≡ e .marks → getD s 10 0 ≡ e .side → eventHeld wide e ≡ true → wordsFrom s 0 (wordsIn wide) ≡ eventWords wide e → eventOf wide s ≡ e
+  unfolding eventOf eventWords eventHeld
+  event-from true b8 b9 b10 ok w =
+      let at : (k : ℕ) → getD (wordsFrom s 0 10) k 0 ≡ getD (eventWords true e) k 0 = λ k. ap (λ (l : List ℕ). getD l k 0) w in
+      λ i. record { sequence = at 0 i; time = at 1 i; kind = b8 i; marks = b9 i; side = b10 i; f12 = at 3 i; f16 = at 4 i; f20 = at 5 i; f24 = at 6 i; participant = at 8 i }
+  event-from false b8 b9 b10 ok w =
+      let at : (k : ℕ) → getD (wordsFrom s 0 8) k 0 ≡ getD (eventWords false e) k 0 = λ k. ap (λ (l : List ℕ). getD l k 0) w in
+      let nobody : e .participant ≡ 0 = eqb-true (e .participant) 0 (and-right (eventFormed e) _ ok) in
+      λ i. record { sequence = at 0 i; time = at 1 i; kind = b8 i; marks = b9 i; side = b10 i; f12 = at 3 i; f16 = at 4 i; f20 = at 5 i; f24 = at 6 i; participant = sym nobody i }
+
+  event-spares : (wide : Bool) → getD s 11 0 ≡ 0 → wordsFrom s 0 (wordsIn wide) ≡ eventWords wide e → eventSpare wide s ≡ true
+  unfolding eventSpare eventWords
+  event-spares true b11 w =
+      let z : wordAt s 28 ≡ 0 = ap (λ (l : List ℕ). getD l 7 0) w in
+      let y : wordAt s 36 ≡ 0 = ap (λ (l : List ℕ). getD l 9 0) w in
+      simp (b11, z, y)
+  event-spares false b11 w = let z : wordAt s 28 ≡ 0 = ap (λ (l : List ℕ). getD l 7 0) w in simp (b11, z)
+
+  event-row : (wide : Bool) (n : ℕ) → wordsIn wide ≡ suc n → wordAt s 0 ≡ e .sequence → wordsFrom s 4 n ≡ drop 1 (eventWords wide e) → wordsFrom s 0 (wordsIn wide) ≡ eventWords wide e
+  unfolding eventWords
+  event-row wide n k q w = ap (wordsFrom s 0) k ∙ ap (λ (x : ℕ). x ∷ wordsFrom s 4 n) q ∙ ap (λ (r : List ℕ). e .sequence ∷ r) w
+
+-- the words of an event that stands in bytes whose spare ones are zero
+event-words : (wide : Bool) (s : List ℕ) → 12 ≤ length s → eventSpare wide s ≡ true → eventWords wide (eventOf wide s) ≡ wordsFrom s 0 (wordsIn wide)
 unfolding eventOf eventWords eventSpare
-event-words s h z =
-    let b11 : getD s 11 0 ≡ 0 = eqb-true (getD s 11 0) 0 (and-left _ (eqb (wordAt s 28) 0) z) in
-    let w28 : wordAt s 28 ≡ 0 = eqb-true (wordAt s 28) 0 (and-right (eqb (getD s 11 0) 0) _ z) in
-    simp (four-word s 8 (omega arith) b11, w28)
+event-words wide s h z =
+    let two = and-left (eqb (getD s 11 0) 0 && eqb (wordAt s 28) 0) _ z in
+    let b11 : getD s 11 0 ≡ 0 = eqb-true (getD s 11 0) 0 (and-left _ (eqb (wordAt s 28) 0) two) in
+    let w28 : wordAt s 28 ≡ 0 = eqb-true (wordAt s 28) 0 (and-right (eqb (getD s 11 0) 0) _ two) in
+    let last : newWord wide s 36 ≡ 0 = eqb-true (newWord wide s 36) 0 (and-right (eqb (getD s 11 0) 0 && eqb (wordAt s 28) 0) _ z) in
+    all wide (four-word s 8 h b11) w28 last
+  where
+    all : (wide : Bool) → joined (getD s 8 0) (getD s 9 0) (getD s 10 0) 0 ≡ wordAt s 8 → wordAt s 28 ≡ 0 → newWord wide s 36 ≡ 0 → eventWords wide (eventOf wide s) ≡ wordsFrom s 0 (wordsIn wide)
+    all true w8 w28 w36 = simp (w8, w28, w36)
+    all false w8 w28 _ = simp (w8, w28)
 
-event-front : (e : Event) (l : List ℕ) → e .kind < 256 → e .marks < 256 → e .side < 256
-    → drop 4 (wordBytes (drop 1 (eventWords e)) ++ l) ≡ (e .kind ∷ e .marks ∷ e .side ∷ 0 ∷ []) ++ drop 8 (wordBytes (drop 1 (eventWords e)) ++ l)
+event-front : (wide : Bool) (e : Event) (l : List ℕ) → e .kind < 256 → e .marks < 256 → e .side < 256
+    → drop 4 (wordBytes (drop 1 (eventWords wide e)) ++ l) ≡ (e .kind ∷ e .marks ∷ e .side ∷ 0 ∷ []) ++ drop 8 (wordBytes (drop 1 (eventWords wide e)) ++ l)
 unfolding eventWords
-event-front e l hk hm hs = ap (λ (f : List ℕ). f ++ drop 8 (wordBytes (drop 1 (eventWords e)) ++ l)) (bytes-joined (e .kind) (e .marks) (e .side) 0 hk hm hs (omega arith))
+event-front wide e l hk hm hs = ap (λ (f : List ℕ). f ++ drop 8 (wordBytes (drop 1 (eventWords wide e)) ++ l)) (bytes-joined (e .kind) (e .marks) (e .side) 0 hk hm hs (omega arith))
 
-event-spares : (s : List ℕ) (e : Event) → getD s 11 0 ≡ 0 → wordsFrom s 0 8 ≡ eventWords e → eventSpare s ≡ true
-unfolding eventSpare eventWords
-event-spares s e b11 w = let z : wordAt s 28 ≡ 0 = ap (λ (l : List ℕ). getD l 7 0) w in simp (b11, z)
-
-event-row : (s : List ℕ) (e : Event) → wordAt s 0 ≡ e .sequence → wordsFrom s 4 7 ≡ drop 1 (eventWords e) → wordsFrom s 0 8 ≡ eventWords e
-unfolding eventWords
-event-row s e q w = ap (λ (x : ℕ). x ∷ wordsFrom s 4 7) q ∙ ap (λ (r : List ℕ). e .sequence ∷ r) w
+-- one word less than a record has
+event-rest : (wide : Bool) → wordsIn wide ≡ suc (wordsIn wide - 1)
+event-rest true = refl
+event-rest false = refl
 
 -- an event is read where four bytes that say its sequence stand before the words of its other fields
-pub event-said : (e : Event) (said l : List ℕ) → length said ≡ 4 → wordAt said 0 ≡ e .sequence → eventFormed e ≡ true → readEvent (said ++ (wordBytes (drop 1 (eventWords e)) ++ l)) ≡ GotEvent e
+pub event-said : (wide : Bool) (e : Event) (said l : List ℕ) → length said ≡ 4 → wordAt said 0 ≡ e .sequence → Word (e .participant) → eventHeld wide e ≡ true → readEvent wide (said ++ (wordBytes (drop 1 (eventWords wide e)) ++ l)) ≡ GotEvent e
 unfolding readEvent
-event-said e said l n q ok =
-    let b = event-fit e ok in
-    let ws : List ℕ = drop 1 (eventWords e) in
+event-said wide e said l n q p ok =
+    let formed : eventFormed e ≡ true = held-formed wide e ok in
+    let b = event-fit wide e p formed in
+    let ws : List ℕ = drop 1 (eventWords wide e) in
     let x : List ℕ = wordBytes ws ++ l in
     let s : List ℕ = said ++ x in
-    let seven : length ws ≡ 7 = omega (arith, length-drop 1 (eventWords e), event-length e) in
-    let later : wordsFrom s 4 7 ≡ ws = row-past said x 4 7 0 n ∙ ap (wordsFrom x 0) (sym seven) ∙ row-read ws l (b .0) in
-    let w : wordsFrom s 0 8 ≡ eventWords e = event-row s e (word-alone said x 0 (omega arith) ∙ q) later in
-    let f : drop 8 s ≡ (e .kind ∷ e .marks ∷ e .side ∷ 0 ∷ []) ++ drop 8 x = sym (drop-drop 4 4 s) ∙ ap (drop 4) (drop-at said x 4 n) ∙ event-front e l (b .1) (b .2) (b .3) in
+    let rest : length ws ≡ wordsIn wide - 1 = omega (arith, length-drop 1 (eventWords wide e), event-length wide e) in
+    let later : wordsFrom s 4 (wordsIn wide - 1) ≡ ws = row-past said x 4 (wordsIn wide - 1) 0 n ∙ ap (wordsFrom x 0) (sym rest) ∙ row-read ws l (b .0) in
+    let w : wordsFrom s 0 (wordsIn wide) ≡ eventWords wide e = event-row s e wide (wordsIn wide - 1) (event-rest wide) (word-alone said x 0 (omega arith) ∙ q) later in
+    let f : drop 8 s ≡ (e .kind ∷ e .marks ∷ e .side ∷ 0 ∷ []) ++ drop 8 x = sym (drop-drop 4 4 s) ∙ ap (drop 4) (drop-at said x 4 n) ∙ event-front wide e l (b .1) (b .2) (b .3) in
     let g : (k : ℕ) → getD s (8 + k) 0 ≡ getD ((e .kind ∷ e .marks ∷ e .side ∷ 0 ∷ []) ++ drop 8 x) k 0 = λ k. sym (getD-drop 8 s k 0) ∙ ap (λ (y : List ℕ). getD y k 0) f in
-    let back : eventOf s ≡ e = event-from s e (g 0) (g 1) (g 2) w in
-    let spare : eventSpare s ≡ true = event-spares s e (g 3) w in
-    let long : 32 ≤ length s = omega (arith, length-append said x, record-long ws l 28 (ap (λ (k : ℕ). k * 4) seven)) in
-    simp (le-ltb (length s) 32 long, spare, back, ok)
+    let back : eventOf wide s ≡ e = event-from s e wide (g 0) (g 1) (g 2) ok w in
+    let spare : eventSpare wide s ≡ true = event-spares s e wide (g 3) w in
+    let long : widthOf wide ≤ length s = omega (arith, length-append said x, length-append (wordBytes ws) l, length-wordBytes ws, rest, event-width wide, event-rest wide) in
+    simp (le-ltb (length s) (widthOf wide) long, spare, back, formed)
 
 -- an event that was written is read
-pub event-written : (e : Event) (l : List ℕ) → Word (e .sequence) → eventFormed e ≡ true → readEvent (wordBytes (eventWords e) ++ l) ≡ GotEvent e
+pub event-written : (wide : Bool) (e : Event) (l : List ℕ) → Word (e .sequence) → Word (e .participant) → eventHeld wide e ≡ true → readEvent wide (wordBytes (eventWords wide e) ++ l) ≡ GotEvent e
 unfolding eventWords
-event-written e l q ok = event-said e (u32Bytes (e .sequence)) l refl (ap (λ (ws : List ℕ). getD ws 0 0) (row-read (e .sequence ∷ []) [] (q, tt))) ok
+event-written wide e l q p ok = event-said wide e (u32Bytes (e .sequence)) l refl (ap (λ (ws : List ℕ). getD ws 0 0) (row-read (e .sequence ∷ []) [] (q, tt))) p ok
 
-pub event-read : (s : List ℕ) (e : Event) → AllBytes s → readEvent s ≡ GotEvent e → wordBytes (eventWords e) ≡ take 32 s
-event-read s e b h =
-    let t = event-took s e h in
-    let n : 32 ≤ length s = ltb-false (length s) 32 (t .0) in
-    ap (λ (x : Event). wordBytes (eventWords x)) (sym (t .2)) ∙ ap wordBytes (event-words s n (and-left (eventSpare s) (eventFormed (eventOf s)) (t .1))) ∙ record-back s 8 b n
+pub event-read : (wide : Bool) (s : List ℕ) (e : Event) → AllBytes s → readEvent wide s ≡ GotEvent e → wordBytes (eventWords wide e) ≡ take (widthOf wide) s
+event-read wide s e b h =
+    let t = event-took wide s e h in
+    let n : widthOf wide ≤ length s = ltb-false (length s) (widthOf wide) (t .0) in
+    let m : wordsIn wide * 4 ≡ widthOf wide = event-width wide in
+    ap (λ (x : Event). wordBytes (eventWords wide x)) (sym (t .2)) ∙ ap wordBytes (event-words wide s (omega (arith, width-ge wide)) (and-left (eventSpare wide s) (eventFormed (eventOf wide s)) (t .1)))
+    ∙ record-back s (wordsIn wide) b (omega arith) ∙ ap (λ (k : ℕ). take k s) m
 
 -- ---- the trailer
 
@@ -233,7 +272,14 @@ trailer-from : (s : List ℕ) (t : Trailer) → 16 ≤ length s → wordsFrom s 
 unfolding readTrailer trailerOf trailerWords
 trailer-from s t n w =
     let at : (k : ℕ) → getD (wordsFrom s 0 4) k 0 ≡ getD (trailerWords t) k 0 = λ k. ap (λ (l : List ℕ). getD l k 0) w in
-    simp (le-ltb (length s) 16 n, at 0, at 1, at 2, at 3)
+    let known : (eqb (wordAt s 0) cubt || t .wide) ≡ true = ap (λ (w : ℕ). eqb w cubt || t .wide) (at 0) ∙ named (t .wide) .0 in
+    let told : eqb (wordAt s 0) cub2 ≡ t .wide = ap (λ (w : ℕ). eqb w cub2) (at 0) ∙ named (t .wide) .1 in
+    simp (le-ltb (length s) 16 n, told, known, at 1, at 2, at 3)
+  where
+    -- the form's word is one of the two, and tells the form
+    named : (wide : Bool) → ((eqb (nameOf wide) cubt || wide) ≡ true) × (eqb (nameOf wide) cub2 ≡ wide)
+    named true = (refl, refl)
+    named false = (refl, refl)
 
 pub trailer-length : (t : Trailer) → length (trailerWords t) ≡ 4
 unfolding trailerWords
@@ -243,17 +289,30 @@ pub trailer-written : (t : Trailer) (l : List ℕ) → Word (t .order) → Word 
 unfolding trailerWords
 trailer-written t l ho he =
     let s : List ℕ = wordBytes (trailerWords t) ++ l in
-    let w : wordsFrom s 0 4 ≡ trailerWords t = row-read (trailerWords t) l (omega arith, (ho, (he, (omega arith, tt)))) in
+    let w : wordsFrom s 0 4 ≡ trailerWords t = row-read (trailerWords t) l (name-fits (t .wide), (ho, (he, (omega arith, tt)))) in
     let n : 16 ≤ length s = record-long (trailerWords t) l 16 refl in
     trailer-from s t n w
+  where
+    name-fits : (wide : Bool) → Word (nameOf wide)
+    name-fits true = omega arith
+    name-fits false = omega arith
+
+-- a word that is one of the two names is the one of the form that it tells
+name-back : (w : ℕ) → (eqb w cubt || eqb w cub2) ≡ true → nameOf (eqb w cub2) ≡ w
+name-back w h = go (eqb w cub2) refl h
+  where
+    go : (b : Bool) → eqb w cub2 ≡ b → (eqb w cubt || b) ≡ true → nameOf b ≡ w
+    go true e h = sym (eqb-true w cub2 e)
+    go false e h = sym (eqb-true w cubt (sym (or-false (eqb w cubt)) ∙ h))
 
 pub trailer-read : (s : List ℕ) (t : Trailer) → AllBytes s → readTrailer s ≡ GotTrailer t → wordBytes (trailerWords t) ≡ take 16 s
 unfolding readTrailer trailerOf trailerWords
 trailer-read s t b h =
-    let k : (ltb (length s) 16 ≡ false) × ((eqb (wordAt s 0) cubt && eqb (wordAt s 12) 0) ≡ true) × (trailerOf s ≡ t) = took-trailer (ltb (length s) 16) (eqb (wordAt s 0) cubt && eqb (wordAt s 12) 0) (trailerOf s) t h in
+    let name : Bool = eqb (wordAt s 0) cubt || eqb (wordAt s 0) cub2 in
+    let k : (ltb (length s) 16 ≡ false) × ((name && eqb (wordAt s 12) 0) ≡ true) × (trailerOf s ≡ t) = took-trailer (ltb (length s) 16) (name && eqb (wordAt s 12) 0) (trailerOf s) t h in
     let n : 16 ≤ length s = ltb-false (length s) 16 (k .0) in
-    let w0 : wordAt s 0 ≡ cubt = eqb-true (wordAt s 0) cubt (and-left _ (eqb (wordAt s 12) 0) (k .1)) in
-    let w3 : wordAt s 12 ≡ 0 = eqb-true (wordAt s 12) 0 (and-right (eqb (wordAt s 0) cubt) _ (k .1)) in
+    let w0 : nameOf (eqb (wordAt s 0) cub2) ≡ wordAt s 0 = name-back (wordAt s 0) (and-left name (eqb (wordAt s 12) 0) (k .1)) in
+    let w3 : wordAt s 12 ≡ 0 = eqb-true (wordAt s 12) 0 (and-right name _ (k .1)) in
     let same : trailerWords (trailerOf s) ≡ wordsFrom s 0 4 = simp (w0, w3) in
     ap (λ (x : Trailer). wordBytes (trailerWords x)) (sym (k .2)) ∙ ap wordBytes same ∙ record-back s 4 b n
 
@@ -264,7 +323,7 @@ unfolding orderWrote eventWrote trailerWrote
 values-back =
     record {
       order = λ o out ok room. ap readOrder (wrote-is (orderWords o) out ok (omega (arith, order-length o))) ∙ order-written o (drop (length (orderWords o) * 4) out) ok;
-      event = λ e out q ok room. ap readEvent (wrote-is (eventWords e) out ok (omega (arith, event-length e))) ∙ event-written e (drop (length (eventWords e) * 4) out) q ok;
+      event = λ wide e out q p ok room. ap (readEvent wide) (wrote-is (eventWords wide e) out ok (omega (arith, words-long wide e))) ∙ event-written wide e (drop (length (eventWords wide e) * 4) out) q p ok;
       trailer = λ t out ho he room. ap readTrailer (wrote-is (trailerWords t) out refl (omega (arith, trailer-length t))) ∙ trailer-written t (drop (length (trailerWords t) * 4) out) ho he;
     }
 
@@ -274,14 +333,14 @@ bytes-back =
     record {
       order = λ s out o b h room.
           wrote-is (orderWords o) out (order-formed s o h) (omega (arith, order-length o))
-          ∙ cut 16 (orderWords o) (take 64 s) out (order-length o) (order-read s o b h);
-      event = λ s out e b h room.
-          wrote-is (eventWords e) out (event-formed s e h) (omega (arith, event-length e))
-          ∙ cut 8 (eventWords e) (take 32 s) out (event-length e) (event-read s e b h);
+          ∙ cut (orderWords o) (take 64 s) out (ap (λ (k : ℕ). k * 4) (order-length o)) (order-read s o b h);
+      event = λ wide s out e b h room.
+          wrote-is (eventWords wide e) out (event-held wide s e h) (omega (arith, words-long wide e))
+          ∙ cut (eventWords wide e) (take (widthOf wide) s) out (words-long wide e) (event-read wide s e b h);
       trailer = λ s out t b h room.
           wrote-is (trailerWords t) out refl (omega (arith, trailer-length t))
-          ∙ cut 4 (trailerWords t) (take 16 s) out (trailer-length t) (trailer-read s t b h);
+          ∙ cut (trailerWords t) (take 16 s) out (ap (λ (k : ℕ). k * 4) (trailer-length t)) (trailer-read s t b h);
     }
   where
-    cut : (n : ℕ) (ws front out : List ℕ) → length ws ≡ n → wordBytes ws ≡ front → withRecord ws out ≡ front ++ drop (n * 4) out
-    cut n ws front out e f = ap (λ (k : ℕ). wordBytes ws ++ drop (k * 4) out) e ∙ ap (λ (l : List ℕ). l ++ drop (n * 4) out) f
+    cut : {n : ℕ} (ws front out : List ℕ) → length ws * 4 ≡ n → wordBytes ws ≡ front → withRecord ws out ≡ front ++ drop n out
+    cut {n} ws front out e f = ap (λ (k : ℕ). wordBytes ws ++ drop k out) e ∙ ap (λ (l : List ℕ). l ++ drop n out) f

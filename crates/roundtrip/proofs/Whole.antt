@@ -1,8 +1,9 @@
 -- A whole tape by its bytes: any records make a tape, and a tape is made of its records. Assumes nothing.
 use mathlib.Core.Path.{_≡_, refl, ap, sym, _∙_}
+use mathlib.Core.Bool.{Bool}
 use mathlib.Core.List.{List, [], _∷_, _++_, map, append-assoc, append-nil}
 use Prim.Native.Nat.{ℕ, zero, suc, _+_, _*_, _-_, _≤_}
-use native.Mathlib.Nat.{zero-mul, suc-mul}
+use native.Mathlib.Nat.{zero-mul, suc-mul, add-mul}
 use native.Mathlib.Omega.{arith}
 use lib.ListN.{length, take, drop, length-append, length-drop, take-append-drop}
 use lib.Seq.{length-take-le, take-all, take-at, drop-at, drop-drop}
@@ -14,11 +15,11 @@ use Rattle.tape.specs.declared.event.Event.{Event}
 use Rattle.tape.specs.declared.trailer.Trailer.{Trailer}
 use Rattle.tape.specs.declared.trailer.ReadTrailer.the-variants.{Trailer as GotTrailer}
 use Rattle.tape.specs.declared.trailer.Opened.the-variants.{Tape}
-use Rattle.tape.specs.rules.Records.{trailerWords, readOrder, recordAt, readTrailer}
-use Rattle.tape.specs.rules.Tape.{lengthOf, openTape, eventPlace, orderIn, recordIn, recordsFrom, recordsOf, trailerFor}
+use Rattle.tape.specs.rules.Records.{widthOf, trailerWords, readOrder, recordAt, readTrailer}
+use Rattle.tape.specs.rules.Tape.{lengthOf, lastTrailer, openTape, eventPlace, orderIn, recordIn, recordsFrom, recordsOf, trailerFor}
 use Rattle.tape.specs.rules.Whole.{together, parts, inPlace, tapeWith, ownBytes, orderBytes, recordsBytes}
 use Rattle.roundtrip.specs.promises.Demands.{Fitting, AnyRecords, MadeOf}
-use Rattle.tape.proofs.RecordLaws.{order-alone, record-alone}
+use Rattle.tape.proofs.RecordLaws.{at-least, order-alone, record-alone}
 use Rattle.tape.proofs.HoldsLaws.{records-none, records-more, tape-took}
 use Rattle.roundtrip.proofs.RoundTrip.{trailer-length, trailer-written, trailer-read}
 
@@ -29,7 +30,7 @@ module _ (long : ℕ) where
   abbrev pub Long : List (List ℕ) → Type 0
   Long = Every (λ r. length r ≡ long)
 
-  together-long : (rs : List (List ℕ)) → Long rs → length (together rs) ≡ length rs * long
+  pub together-long : (rs : List (List ℕ)) → Long rs → length (together rs) ≡ length rs * long
   together-long [] e = sym (zero-mul long)
   together-long (r ∷ rs) e = omega (arith, length-append r (together rs), e .0, together-long rs (e .1), suc-mul (length rs) long)
 
@@ -113,75 +114,88 @@ module _ (s : List ℕ) (t : Trailer) where
       let rest : List ℕ = drop (t .order) s in
       ap readOrder (sym (take-append-drop 64 rest)) ∙ order-alone (take 64 rest) (drop 64 rest) (length-take-le 64 rest (omega (arith, length-drop (t .order) s)))
 
-  records-from : (n k : ℕ) → eventPlace (t .order) k + n * 32 ≤ length s → recordsFrom s t k n ≡ map recordAt (parts 32 (drop (eventPlace (t .order) k) s) n)
+  abbrev long : ℕ
+  long = widthOf (t .wide)
+
+  abbrev at : List ℕ → Event
+  at = recordAt (t .wide)
+
+  records-from : (n k : ℕ) → eventPlace (t .wide) (t .order) k + n * long ≤ length s → recordsFrom s t k n ≡ map at (parts long (drop (eventPlace (t .wide) (t .order) k) s) n)
   unfolding recordIn
   records-from zero k h = records-none s t k
   records-from (suc n) k h =
-      let rest : List ℕ = drop (eventPlace (t .order) k) s in
-      let one : recordAt rest ≡ recordAt (take 32 rest) =
-      ap recordAt (sym (take-append-drop 32 rest)) ∙ record-alone (take 32 rest) (drop 32 rest) (length-take-le 32 rest (omega (arith, length-drop (eventPlace (t .order) k) s))) in
-      let place : eventPlace (t .order) k + 32 ≡ eventPlace (t .order) (k + 1) = omega arith in
-      let next : drop (eventPlace (t .order) (k + 1)) s ≡ drop 32 rest = ap (λ (i : ℕ). drop i s) (sym place) ∙ sym (drop-drop 32 (eventPlace (t .order) k) s) in
+      let here : ℕ = eventPlace (t .wide) (t .order) k in
+      let rest : List ℕ = drop here s in
+      let more : suc n * long ≡ n * long + long = suc-mul n long in
+      let one : at rest ≡ at (take long rest) =
+      ap at (sym (take-append-drop long rest)) ∙ record-alone (t .wide) (take long rest) (drop long rest) (length-take-le long rest (omega (arith, length-drop here s))) in
+      let after : here + long ≡ eventPlace (t .wide) (t .order) (k + 1) = omega (arith, add-mul k 1 long) in
+      let next : drop (eventPlace (t .wide) (t .order) (k + 1)) s ≡ drop long rest = ap (λ (i : ℕ). drop i s) (sym after) ∙ sym (drop-drop long here s) in
       records-more s t k n
       ∙ ap (λ (e : Event). e ∷ recordsFrom s t (k + 1) n) one
-      ∙ ap (λ (es : List Event). recordAt (take 32 rest) ∷ es) (records-from n (k + 1) (omega arith) ∙ ap (λ (l : List ℕ). map recordAt (parts 32 l n)) next)
+      ∙ ap (λ (es : List Event). at (take long rest) ∷ es) (records-from n (k + 1) (omega (arith, after, more)) ∙ ap (λ (l : List ℕ). map at (parts long l n)) next)
 
-  records-part : t .order + 64 + t .events * 32 ≤ length s → recordsOf s t ≡ map recordAt (recordsBytes s t)
+  records-part : t .order + 64 + t .events * long ≤ length s → recordsOf s t ≡ map at (recordsBytes s t)
   unfolding recordsOf recordsBytes
   records-part h =
-      let z : eventPlace (t .order) 0 ≡ t .order + 64 = omega arith in
-      records-from (t .events) 0 (omega arith) ∙ ap (λ (i : ℕ). map recordAt (parts 32 (drop i s) (t .events))) z
+      let z : eventPlace (t .wide) (t .order) 0 ≡ t .order + 64 = omega (arith, zero-mul long) in
+      records-from (t .events) 0 (omega (arith, z)) ∙ ap (λ (i : ℕ). map at (parts long (drop i s) (t .events))) z
 
 -- ---- a tape of any records
 
 trailer-bytes : (t : Trailer) → length (wordBytes (trailerWords t)) ≡ 16
 trailer-bytes t = length-wordBytes (trailerWords t) ∙ ap (λ (n : ℕ). n * 4) (trailer-length t)
 
-module _ (own order : List ℕ) (rs : List (List ℕ)) (n : length order ≡ 64) (e : Long 32 rs) where
-  pub tape-long : length (tapeWith own order rs) ≡ lengthOf (trailerFor own rs)
+module _ (wide : Bool) (own order : List ℕ) (rs : List (List ℕ)) (n : length order ≡ 64) (e : Long (widthOf wide) rs) where
+  pub tape-long : length (tapeWith wide own order rs) ≡ lengthOf (trailerFor wide own rs)
   unfolding tapeWith
-  tape-long = let t : Trailer = trailerFor own rs in omega (arith, placed-long 32 own order rs (wordBytes (trailerWords t)) n e, trailer-bytes t)
+  tape-long = let t : Trailer = trailerFor wide own rs in omega (arith, placed-long (widthOf wide) own order rs (wordBytes (trailerWords t)) n e, trailer-bytes t)
 
-  order-with : orderBytes (tapeWith own order rs) (trailerFor own rs) ≡ order
+  pub own-with : ownBytes (tapeWith wide own order rs) (trailerFor wide own rs) ≡ own
+  unfolding tapeWith ownBytes
+  own-with = take-at own _ (length own) refl
+
+  pub order-with : orderBytes (tapeWith wide own order rs) (trailerFor wide own rs) ≡ order
   unfolding tapeWith orderBytes
-  order-with = placed-order 32 own order rs (wordBytes (trailerWords (trailerFor own rs))) n e
+  order-with = placed-order (widthOf wide) own order rs (wordBytes (trailerWords (trailerFor wide own rs))) n e
 
-  records-with : recordsBytes (tapeWith own order rs) (trailerFor own rs) ≡ rs
+  pub records-with : recordsBytes (tapeWith wide own order rs) (trailerFor wide own rs) ≡ rs
   unfolding tapeWith recordsBytes
-  records-with = placed-records 32 own order rs (wordBytes (trailerWords (trailerFor own rs))) n e
+  records-with = placed-records (widthOf wide) own order rs (wordBytes (trailerWords (trailerFor wide own rs))) n e
 
-  trailer-with : drop (eventPlace (length own) (length rs)) (tapeWith own order rs) ≡ wordBytes (trailerWords (trailerFor own rs))
+  trailer-with : drop (eventPlace wide (length own) (length rs)) (tapeWith wide own order rs) ≡ wordBytes (trailerWords (trailerFor wide own rs))
   unfolding tapeWith
-  trailer-with = placed-trailer 32 own order rs (wordBytes (trailerWords (trailerFor own rs))) n e
+  trailer-with = placed-trailer (widthOf wide) own order rs (wordBytes (trailerWords (trailerFor wide own rs))) n e
 
-  tape-opens : length (tapeWith own order rs) ≤ 65536 → openTape (tapeWith own order rs) ≡ Tape (trailerFor own rs)
-  unfolding openTape
+  tape-opens : length (tapeWith wide own order rs) ≤ 65536 → openTape (tapeWith wide own order rs) ≡ Tape (trailerFor wide own rs)
+  unfolding openTape lastTrailer
   tape-opens fits =
-      let s : List ℕ = tapeWith own order rs in
-      let t : Trailer = trailerFor own rs in
+      let s : List ℕ = tapeWith wide own order rs in
+      let t : Trailer = trailerFor wide own rs in
       let l : length s ≡ lengthOf t = tape-long in
-      let place : length s - 16 ≡ eventPlace (length own) (length rs) = omega arith in
+      let many : length rs * 32 ≤ length rs * widthOf wide = at-least wide (length rs) in
+      let place : length s - 16 ≡ eventPlace wide (length own) (length rs) = omega arith in
       let last : drop (length s - 16) s ≡ wordBytes (trailerWords t) ++ [] = ap (λ (k : ℕ). drop k s) place ∙ trailer-with ∙ sym (append-nil (wordBytes (trailerWords t))) in
       let got : readTrailer (drop (length s - 16) s) ≡ GotTrailer t = ap readTrailer last ∙ trailer-written t [] (omega arith) (omega arith) in
       simp (le-ltb (length s) 16 (omega arith), le-ltb 65536 (length s) fits, got, eq-eqb (lengthOf t) (length s) (sym l))
 
-pub any-records : (own order : List ℕ) (rs : List (List ℕ)) → Fitting own order rs → AnyRecords own order rs
-any-records own order rs f =
-    let s : List ℕ = tapeWith own order rs in
-    let t : Trailer = trailerFor own rs in
-    let l : length s ≡ lengthOf t = tape-long own order rs (f .order-long) (f .each-long) in
+pub any-records : (wide : Bool) (own order : List ℕ) (rs : List (List ℕ)) → Fitting wide own order rs → AnyRecords wide own order rs
+any-records wide own order rs f =
+    let s : List ℕ = tapeWith wide own order rs in
+    let t : Trailer = trailerFor wide own rs in
+    let l : length s ≡ lengthOf t = tape-long wide own order rs (f .order-long) (f .each-long) in
     record {
-      opens = tape-opens own order rs (f .order-long) (f .each-long) (f .fits);
-      ordered = order-part s t (omega arith) ∙ ap readOrder (order-with own order rs (f .order-long) (f .each-long));
-      records = records-part s t (omega arith) ∙ ap (map recordAt) (records-with own order rs (f .order-long) (f .each-long));
+      opens = tape-opens wide own order rs (f .order-long) (f .each-long) (f .fits);
+      ordered = order-part s t (omega arith) ∙ ap readOrder (order-with wide own order rs (f .order-long) (f .each-long));
+      records = records-part s t (omega arith) ∙ ap (map (recordAt wide)) (records-with wide own order rs (f .order-long) (f .each-long));
     }
 
 -- a tape of bytes
-pub tape-bytes : (own order : List ℕ) (rs : List (List ℕ)) → AllBytes own → AllBytes order → Every AllBytes rs → AllBytes (tapeWith own order rs)
+pub tape-bytes : (wide : Bool) (own order : List ℕ) (rs : List (List ℕ)) → AllBytes own → AllBytes order → Every AllBytes rs → AllBytes (tapeWith wide own order rs)
 unfolding tapeWith
-tape-bytes own order rs a b c =
-    let end : List ℕ = wordBytes (trailerWords (trailerFor own rs)) in
-    bytes-append own (order ++ (together rs ++ end)) a (bytes-append order (together rs ++ end) b (bytes-append (together rs) end (together-bytes rs c) (bytes-words (trailerWords (trailerFor own rs)))))
+tape-bytes wide own order rs a b c =
+    let end : List ℕ = wordBytes (trailerWords (trailerFor wide own rs)) in
+    bytes-append own (order ++ (together rs ++ end)) a (bytes-append order (together rs ++ end) b (bytes-append (together rs) end (together-bytes rs c) (bytes-words (trailerWords (trailerFor wide own rs)))))
 
 -- ---- what a tape that opens is made of
 
@@ -196,43 +210,47 @@ module _ (s : List ℕ) (t : Trailer) (b : AllBytes s) where
 
   pub records-bytes : Every AllBytes (recordsBytes s t)
   unfolding recordsBytes
-  records-bytes = parts-bytes 32 (drop (t .order + 64) s) (t .events) (bytes-drop (t .order + 64) s b)
+  records-bytes = parts-bytes (widthOf (t .wide)) (drop (t .order + 64) s) (t .events) (bytes-drop (t .order + 64) s b)
+
+-- where the lengths add up, each record is as long as its form says
+pub each-long : (s : List ℕ) (t : Trailer) → lengthOf t ≡ length s → Long (widthOf (t .wide)) (recordsBytes s t)
+unfolding recordsBytes
+each-long s t l = parts-long (widthOf (t .wide)) (drop (t .order + 64) s) (t .events) (omega (arith, length-drop (t .order + 64) s))
+
+-- and the trailer is the one for them
+pub same-trailer : (s : List ℕ) (t : Trailer) → lengthOf t ≡ length s → trailerFor (t .wide) (ownBytes s t) (recordsBytes s t) ≡ t
+unfolding ownBytes recordsBytes
+same-trailer s t l =
+    let a : length (take (t .order) s) ≡ t .order = length-take-le (t .order) s (omega arith) in
+    let b : length (parts (widthOf (t .wide)) (drop (t .order + 64) s) (t .events)) ≡ t .events = parts-count (widthOf (t .wide)) (drop (t .order + 64) s) (t .events) in
+    simp (a, b)
 
 module _ (s : List ℕ) (t : Trailer) (h : openTape s ≡ Tape t) where
+  abbrev wide : Bool
+  wide = t .wide
+
   order-64 : length (orderBytes s t) ≡ 64
   unfolding orderBytes
   order-64 = length-take-le 64 (drop (t .order) s) (omega (arith, length-drop (t .order) s, tape-took s t h .1))
 
-  records-32 : Long 32 (recordsBytes s t)
-  unfolding recordsBytes
-  records-32 = parts-long 32 (drop (t .order + 64) s) (t .events) (omega (arith, length-drop (t .order + 64) s, tape-took s t h .1))
-
-  -- its trailer is the one for them
-  same-trailer : trailerFor (ownBytes s t) (recordsBytes s t) ≡ t
-  unfolding ownBytes recordsBytes
-  same-trailer =
-      let a : length (take (t .order) s) ≡ t .order = length-take-le (t .order) s (omega (arith, tape-took s t h .1)) in
-      let b : length (parts 32 (drop (t .order + 64) s) (t .events)) ≡ t .events = parts-count 32 (drop (t .order + 64) s) (t .events) in
-      simp (a, b)
-
-  whole : AllBytes s → tapeWith (ownBytes s t) (orderBytes s t) (recordsBytes s t) ≡ s
+  whole : AllBytes s → tapeWith wide (ownBytes s t) (orderBytes s t) (recordsBytes s t) ≡ s
   unfolding tapeWith ownBytes orderBytes recordsBytes
   whole b =
       let l : lengthOf t ≡ length s = tape-took s t h .1 in
       let last : List ℕ = drop (length s - 16) s in
       let all : take 16 last ≡ last = take-all 16 last (omega (arith, length-drop (length s - 16) s)) in
-      let place : length s - 16 ≡ eventPlace (t .order) (t .events) = omega arith in
-      let trailer : wordBytes (trailerWords t) ≡ drop (eventPlace (t .order) (t .events)) s = trailer-read last t (bytes-drop (length s - 16) s b) (tape-took s t h .2) ∙ all ∙ ap (λ (k : ℕ). drop k s) place in
-      ap (inPlace (ownBytes s t) (orderBytes s t) (recordsBytes s t)) (ap (λ (x : Trailer). wordBytes (trailerWords x)) same-trailer ∙ trailer)
-      ∙ placed-back 32 s (t .order) (t .events)
+      let place : length s - 16 ≡ eventPlace wide (t .order) (t .events) = omega arith in
+      let trailer : wordBytes (trailerWords t) ≡ drop (eventPlace wide (t .order) (t .events)) s = trailer-read last t (bytes-drop (length s - 16) s b) (tape-took s t h .2) ∙ all ∙ ap (λ (k : ℕ). drop k s) place in
+      ap (inPlace (ownBytes s t) (orderBytes s t) (recordsBytes s t)) (ap (λ (x : Trailer). wordBytes (trailerWords x)) (same-trailer s t l) ∙ trailer)
+      ∙ placed-back (widthOf wide) s (t .order) (t .events)
 
   pub made-of : MadeOf s t
   made-of =
       let l : lengthOf t ≡ length s = tape-took s t h .1 in
       let short : length s ≤ 65536 = tape-took s t h .0 in
-      let long : length (tapeWith (ownBytes s t) (orderBytes s t) (recordsBytes s t)) ≡ lengthOf t = tape-long (ownBytes s t) (orderBytes s t) (recordsBytes s t) order-64 records-32 ∙ ap lengthOf same-trailer in
+      let long : length (tapeWith wide (ownBytes s t) (orderBytes s t) (recordsBytes s t)) ≡ lengthOf t = tape-long wide (ownBytes s t) (orderBytes s t) (recordsBytes s t) order-64 (each-long s t l) ∙ ap lengthOf (same-trailer s t l) in
       record {
-        fitting = record { order-long = order-64; each-long = records-32; fits = omega arith };
+        fitting = record { order-long = order-64; each-long = each-long s t l; fits = omega arith };
         whole = whole;
         ordered = order-part s t (omega arith);
         records = records-part s t (omega arith);

@@ -17,7 +17,7 @@ use Rattle.board.specs.rules.Board.{responseAt, isLive, liveOf, seatedAt, clear
 use Rattle.board.specs.promises.Board.{Good, GtxAt, Amending}
 use Rattle.board.specs.declared.Board.{Board}
 use Rattle.board.specs.declared.Response.{Response}
-use Rattle.board.proofs.BoardLaws.{amending, seated-good, clearing, cleared-good, find-gtx, gtx-found, no-gtx}
+use Rattle.board.proofs.BoardLaws.{amending, seated-good, clearing, cleared-good, find-named, named-found, no-named}
 use Rattle.tape.specs.declared.event.Event.{Event}
 use Rattle.tape.specs.rules.Fields.{nameOf, newSizeOf}
 use Rattle.mirror.specs.rules.Mirror.{buyEvent}
@@ -131,7 +131,7 @@ module _ (a : Auction) (e : Event) (s : Sound a) (newer : a .head .sequence < e 
   i = namedPlace a e
 
   at : GtxAt (a .board) (nameOf e) i
-  at = find-gtx (a .board) (nameOf e) (s .board) found
+  at = find-named false (a .board) (nameOf e) (s .board) found
 
   made : Amending (a .board) i r
   made = amending (a .board) i r (s .board) (at .live)
@@ -157,7 +157,7 @@ module _ (a : Auction) (e : Event) (s : Sound a) (newer : a .head .sequence < e 
       (subst (λ (k : ℕ). Absent k (liveOf (cleared (a .board) i))) (at .sequence) (others-apart (made .takes) (s .distinct))) z
 
   gone : findGtx new (nameOf e) ≡ 64
-  gone = no-gtx new (nameOf e) new-good nobody
+  gone = no-named false new (nameOf e) new-good nobody
     where
       nobody : (j : ℕ) → GtxAt new (nameOf e) j → ⊥
       nobody j g = go (eqb j i) refl
@@ -178,7 +178,7 @@ module _ (a : Auction) (e : Event) (s : Sound a) (newer : a .head .sequence < e 
       stands = record { live = ap (λ (w : ℕ). bitAt w i) (made .word) ∙ at .live; gtx = ap (λ (x : Response). x .gtx) (made .stands) ∙ gtx; sequence = ap (λ (x : Response). x .sequence) (made .stands) ∙ name }
 
       first : GtxAt new (e .sequence) f
-      first = find-gtx new (e .sequence) new-good (omega (arith, gtx-found new (e .sequence) new-good i stands, found))
+      first = find-named false new (e .sequence) new-good (omega (arith, named-found false new (e .sequence) new-good i stands, found))
 
       go : (b : Bool) → eqb f i ≡ b → f ≡ i
       go true z = eqb-true f i z
@@ -250,7 +250,7 @@ does v a e s k6 sees =
         old = responseAt (a .board .places) (namedPlace a e) .size
 
         offered : movedOffer (onOffer a) old (r .size) + old ≡ onOffer a + min (newSizeOf e) (a .head .terms .size)
-        offered = omega (arith, clear-sizes (a .board) (s .board) (namedPlace a e) (find-gtx (a .board) (nameOf e) (s .board) found .live), made-for .size, s .offered, sum-fits a s, new-size-of e k6 (o .formed) .1)
+        offered = omega (arith, clear-sizes (a .board) (s .board) (namedPlace a e) (find-named false (a .board) (nameOf e) (s .board) found .live), made-for .size, s .offered, sum-fits a s, new-size-of e k6 (o .formed) .1)
 
 pub amends : Amends
 amends =

@@ -14,7 +14,7 @@ use Rattle.board.specs.rules.Board.{responseAt, isLive, liveOf, seatedAt, clear
 use Rattle.board.specs.promises.Board.{Good}
 use Rattle.board.specs.declared.Board.{Board}
 use Rattle.board.specs.declared.Response.{Response}
-use Rattle.board.proofs.BoardLaws.{seating, amending, clearing, cleared-dead, find-gtx}
+use Rattle.board.proofs.BoardLaws.{seating, amending, clearing, cleared-dead, find-named}
 use Rattle.words.proofs.BitLaws.{clear-is}
 use Rattle.share.specs.rules.Fills.{sizes}
 use Rattle.trade.proofs.CodeLaws.{live-short}
@@ -31,7 +31,7 @@ unfolding sightOf
 sees b e g =
     record {
       free = λ h. clear-is 64 (b .live) h;
-      found = by (λ (i : ℕ). i < 64 → isLive b i ≡ true) (isCancel e || isAmend e) (findGtx b (nameOf e)) 64 (λ _ h. find-gtx b (nameOf e) g h .live) (λ _ h. absurd (omega arith));
+      found = by (λ (i : ℕ). i < 64 → isLive b i ≡ true) (isCancel e || isAmend e) (findGtx b (nameOf e)) 64 (λ _ h. find-named false b (nameOf e) g h .live) (λ _ h. absurd (omega arith));
       old = refl;
     }
 

@@ -31,6 +31,7 @@ fn cancel_step(a: Auction, sequence: u32, time: u32, named: u32) -> Stepped
         f16: 0,
         f20: 0,
         f24: 0,
+        participant: 0,
     };
     step(a, e)
 }

@@ -7,6 +7,7 @@ mod trailer;
 
 pub use event::Event;
 pub use event::ReadEvent;
+pub use event::event_bytes;
 pub use event::read_event;
 pub use event::record_at;
 pub use event::write_event;
@@ -21,14 +22,14 @@ pub use records::record_in;
 pub use trailer::Opened;
 pub use trailer::ReadTrailer;
 pub use trailer::Trailer;
+pub use trailer::last_trailer;
+pub use trailer::length_of;
 pub use trailer::open_tape;
 pub use trailer::read_trailer;
 pub use trailer::write_trailer;
 
-// How many bytes an order's record has, and an event's.
+// How many bytes an order's record has.
 pub const ORDER_BYTES: usize = 64;
-
-pub const EVENT_BYTES: usize = 32;
 
 // A writer's answer: done, or the number of the refusal.
 pub enum Written {

@@ -1,9 +1,11 @@
 // A tape's records one by one, where its trailer says that they stand. No other crate knows those places.
 ghost use mathlib.Core.Path.{_≡_};
+ghost use Prim.Native.Nat.{_/_};
+ghost use Rattle.tape.specs.rules.Records.{widthOf};
 ghost use Rattle.tape.specs.rules.Tape.{orderIn, recordIn};
-use crate::EVENT_BYTES;
 use crate::ORDER_BYTES;
 use crate::event::Event;
+use crate::event::event_bytes;
 use crate::event::of_no_kind;
 use crate::event::record_at;
 use crate::order::ReadOrder;
@@ -21,6 +23,13 @@ pub fn order_in(s: &[u8], t: Trailer) -> ReadOrder
     read_order(&s[at..])
 }
 
+// How many whole event records there is room for.
+fn whole_records(wide: bool, room: usize) -> usize
+    ensures { λ r. ⌜ r ≡ room / widthOf wide ⌝ }
+{
+    if wide { room / 40 } else { room / 32 }
+}
+
 // The event that stands in record k, counted from 0, in form or not: one of no kind where the bytes that should be zero are not, or end before the record does.
 pub fn record_in(s: &[u8], t: Trailer, k: usize) -> Event
     ensures { λ r. ⌜ r ≡ recordIn (now (s .entry)) t k ⌝ }
@@ -30,9 +39,9 @@ pub fn record_in(s: &[u8], t: Trailer, k: usize) -> Event
     if n < first {
         return of_no_kind(0);
     }
-    if (n - first) / EVENT_BYTES < k {
+    if whole_records(t.wide, n - first) < k {
         return of_no_kind(0);
     }
-    let place = first + k * EVENT_BYTES;
-    record_at(&s[place..])
+    let place = first + k * event_bytes(t.wide);
+    record_at(t.wide, &s[place..])
 }

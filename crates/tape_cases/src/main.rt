@@ -1,4 +1,4 @@
-// Runs the readers, the writers and the opening of `tape` on cases from standard input, and prints each answer on a line.
+// Runs the readers, the writers and the opening of `tape`, and the moves of `moving`, on cases from standard input, and prints each answer on a line.
 //
 // A case is five words (what to run, v, n, h, t), v bytes of values, then h bytes for the start and t bytes for the end of the
 // n lent bytes; the bytes between are zero.
@@ -112,17 +112,37 @@ fn event_values(e: tape::Event) {
     number(e.f16);
     number(e.f20);
     number(e.f24);
+    number(e.participant);
 }
 
-fn event(s: &[u8]) {
-    match tape::read_event(s) {
+// Of which form a case is, for those that have one for each: the new one's numbers are ten higher.
+fn is_wide(what: u32) -> bool {
+    10 < what
+}
+
+fn event_back(wide: bool, e: tape::Event, s: &[u8], back: &mut [u8]) {
+    tape::write_event(wide, e, back);
+    same(starts(s, back));
+}
+
+fn event(wide: bool, s: &[u8]) {
+    match tape::read_event(wide, s) {
         tape::ReadEvent::Event(e) => {
             event_values(e);
-            let mut back = [0u8; 32];
-            tape::write_event(e, &mut back);
-            same(starts(s, &back));
+            let mut back = [0u8; 40];
+            let start = 0;
+            let n = tape::event_bytes(wide);
+            event_back(wide, e, s, &mut back[start..n]);
         }
         tape::ReadEvent::Refused(n) => refused(n),
+    }
+}
+
+fn form(wide: bool) {
+    if wide {
+        text(b" new");
+    } else {
+        text(b" old");
     }
 }
 
@@ -130,6 +150,7 @@ fn trailer(s: &[u8]) {
     match tape::read_trailer(s) {
         tape::ReadTrailer::Trailer(t) => {
             text(b"trailer");
+            form(t.wide);
             number(t.order);
             number(t.events);
             let mut back = [0u8; 16];
@@ -144,6 +165,7 @@ fn opened(s: &[u8]) {
     match tape::open_tape(s) {
         tape::Opened::Tape(t) => {
             text(b"tape");
+            form(t.wide);
             number(t.order);
             number(t.events);
         }
@@ -189,6 +211,7 @@ fn event_from(v: &[u8]) -> tape::Event {
         f16: read_word(v, 24),
         f20: read_word(v, 28),
         f24: read_word(v, 32),
+        participant: read_word(v, 36),
     }
 }
 
@@ -197,28 +220,71 @@ fn put_order(v: &[u8], lent: &mut [u8]) {
     bytes(lent);
 }
 
-fn put_event(v: &[u8], lent: &mut [u8]) {
-    written(tape::write_event(event_from(v), lent));
+fn put_event(wide: bool, v: &[u8], lent: &mut [u8]) {
+    written(tape::write_event(wide, event_from(v), lent));
     bytes(lent);
 }
 
-fn put_trailer(v: &[u8], lent: &mut [u8]) {
+fn put_trailer(wide: bool, v: &[u8], lent: &mut [u8]) {
     let t = tape::Trailer {
         order: read_word(v, 0),
         events: read_word(v, 4),
+        wide,
     };
     written(tape::write_trailer(t, lent));
     bytes(lent);
 }
 
+// ---- moving the tape that the lent bytes are: the answer, and all bytes of a room of as many bytes as the first value says
+
+fn moved(m: moving::Moved) {
+    match m {
+        moving::Moved::Length(n) => {
+            text(b"moved ");
+            io::print_decimal(1, n);
+        }
+        moving::Moved::Refused(n) => refused(n),
+    }
+}
+
+// A 7 in each byte.
+fn sevens(room: &mut [u8]) {
+    let mut i = 0;
+    while i < room.len() {
+        room[i] = 7;
+        i += 1;
+    }
+}
+
+// The bytes of the room, which are sevens before it is moved into; of a long one only those at its end.
+fn move_into(wide: bool, s: &[u8], room: &mut [u8]) {
+    sevens(room);
+    moved(moving::move_tape(wide, s, room));
+    let n = room.len();
+    if n < 400 {
+        return bytes(room);
+    }
+    bytes(&room[n - 24..]);
+}
+
+fn move_to(wide: bool, v: &[u8], s: &[u8]) {
+    let mut room = [0u8; 65540];
+    let start = 0;
+    let n = read_word(v, 0) as usize;
+    if n <= 65540 {
+        move_into(wide, s, &mut room[start..n]);
+    }
+}
+
 // ---- a case
 
 fn run(what: u32, v: &[u8], lent: &mut [u8]) {
+    let wide = is_wide(what);
     if what == 1 {
         return order(lent);
     }
-    if what == 2 {
-        return event(lent);
+    if (what == 2) | (what == 12) {
+        return event(wide, lent);
     }
     if what == 3 {
         return trailer(lent);
@@ -229,10 +295,13 @@ fn run(what: u32, v: &[u8], lent: &mut [u8]) {
     if what == 5 {
         return put_order(v, lent);
     }
-    if what == 6 {
-        return put_event(v, lent);
+    if (what == 6) | (what == 16) {
+        return put_event(wide, v, lent);
     }
-    put_trailer(v, lent);
+    if (what == 8) | (what == 18) {
+        return move_to(wide, v, lent);
+    }
+    put_trailer(wide, v, lent);
 }
 
 // Bytes of standard input into a part of a slice.

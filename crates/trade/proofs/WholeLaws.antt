@@ -1,18 +1,18 @@
 -- The market order, all the fills together, and the lent part.
 use mathlib.Core.Path.{_≡_, refl, sym, ap, ap₂, _∙_}
 use mathlib.Core.Bool.{Bool, true, false, cond}
-use mathlib.Core.List.{List, _++_, append-nil}
+use mathlib.Core.List.{List, _++_}
 use mathlib.Core.Logic.{_≢_, ⊎-elim}
 use Prim.Native.Nat.{ℕ, _+_, _-_, _*_, _/_, _^_, _≤_, _<_, min, max}
-use native.Mathlib.Nat.{le-of-eq, zero-add}
+use native.Mathlib.Nat.{zero-add}
 use native.Mathlib.Omega.{arith}
 use borrow.Author.Tests.{eq-eqb, ne-eqb, eqb-true, eqb-false, le-leb, lt-leb}
 use lib.Dec.{eqb}
 use borrow.Rule.Slice.PartMut.{putMid}
-use lib.ListN.{length, take, drop, length-drop, drop-of-length-le}
+use lib.ListN.{length, take, drop, length-drop}
 use lib.Seq.{drop-drop}
 use Rattle.base.proofs.Numbers.{le-or-lt}
-use Rattle.base.proofs.SetsLaws.{rest-is}
+use Rattle.base.proofs.SetsLaws.{part-back, rest-is}
 use Rattle.words.specs.rules.Bits.{trailingZeros, onesIn}
 use Rattle.board.specs.declared.Response.{Response}
 use Rattle.board.specs.declared.Board.{Board}
@@ -108,7 +108,7 @@ words-back a xs ys fs h e =
     e ∙ ap (λ (l : List ℕ). written l 0 fs) (rest-is xs a)
     ∙ written-words (drop a xs) 0 fs (omega (arith, length-drop a xs))
     ∙ rw (zero-add (3 * length fs), drop-drop (3 * length fs) a xs) in
-    ap {B = List ℕ} (λ r. take a xs ++ r) (ap {B = List ℕ} (λ r. ys ++ r) (drop-of-length-le (drop a xs) (le-of-eq (length-drop a xs))) ∙ append-nil ys ∙ w)
+    part-back a xs ys ∙ ap (λ (r : List ℕ). take a xs ++ r) w
 
 -- ---- the answers
 

@@ -1,5 +1,6 @@
 -- Laws and theorems of `words`.
 pub mod ByteLaws
+pub mod WroteLaws
 pub mod BitLaws
 pub mod BitTheorems
 pub mod BitExamples

@@ -1,2 +1,3 @@
--- What proofs of rows of words speak of.
+-- What proofs of rows of words speak of, and what writers of bytes say.
 pub mod Row
+pub mod Writing

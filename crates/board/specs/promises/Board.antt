@@ -1,12 +1,12 @@
 -- What the board's definitions mean, as statements. Each has its proof. Assumes nothing.
 use mathlib.Core.Path.{_≡_}
-use mathlib.Core.Bool.{Bool, true, false}
+use mathlib.Core.Bool.{Bool, true, false, _||_}
 use mathlib.Core.List.{List, [], _∷_, _++_, map}
 use Prim.Native.Nat.{ℕ, suc, _+_, _^_, _≤_, _<_}
 use lib.Dec.{eqb}
 use lib.ListN.{length}
 use Rattle.base.specs.Lists.{Every, filter, sum, Inserts, Shuffles}
-use Rattle.board.specs.rules.Board.{responseAt, emptyBoard, isLive, liveCount, firstFree, liveOf, seatedAt, cleared, findGtx, inSequence}
+use Rattle.board.specs.rules.Board.{responseAt, emptyBoard, isLive, liveCount, firstFree, liveOf, seatedAt, cleared, findNamed, inSequence}
 use Rattle.board.specs.declared.Response.{Response}
 use Rattle.board.specs.declared.Board.{Board}
 
@@ -83,22 +83,25 @@ pub record Seen : Type 0 where
   pub no-room : (b : Board) → firstFree b < 64 → liveCount b < 64
   -- what is not live can't be seen
   pub live : (b c : Board) → Good b → Good c → b .live ≡ c .live → ((j : ℕ) → isLive b j ≡ true → responseAt (b .places) j ≡ responseAt (c .places) j) → liveOf b ≡ liveOf c
-  pub find : (b c : Board) (s : ℕ) → Good b → Good c → b .live ≡ c .live → ((j : ℕ) → isLive b j ≡ true → responseAt (b .places) j ≡ responseAt (c .places) j) → findGtx b s ≡ findGtx c s
+  pub find : (any : Bool) (b c : Board) (s : ℕ) → Good b → Good c → b .live ≡ c .live → ((j : ℕ) → isLive b j ≡ true → responseAt (b .places) j ≡ responseAt (c .places) j) → findNamed any b s ≡ findNamed any c s
 
--- ---- a GTX response is found by its sequence
+-- ---- a response is found by its sequence
 
--- the place i is live, and a GTX response with this sequence stands there
-pub record GtxAt (b : Board) (s i : ℕ) : Type 0 where
+-- the place i is live, and a response with this sequence stands there: any, or a GTX response
+pub record NamedAt (any : Bool) (b : Board) (s i : ℕ) : Type 0 where
   pub live : isLive b i ≡ true
-  pub gtx : responseAt (b .places) i .gtx ≡ true
+  pub gtx : (any || responseAt (b .places) i .gtx) ≡ true
   pub sequence : responseAt (b .places) i .sequence ≡ s
 
--- finding a GTX response by its sequence
+abbrev pub GtxAt : Board → ℕ → ℕ → Type 0
+GtxAt b s i = NamedAt false b s i
+
+-- finding a response by its sequence
 pub record Finding : Type 0 where
   -- found exactly where there is one, and the lowest
-  pub found : (b : Board) (s : ℕ) → Good b → findGtx b s < 64 → GtxAt b s (findGtx b s)
-  pub some : (b : Board) (s i : ℕ) → Good b → GtxAt b s i → findGtx b s ≤ i
-  pub none : (b : Board) (s : ℕ) → Good b → ((i : ℕ) → GtxAt b s i → ⊥) → findGtx b s ≡ 64
+  pub found : (any : Bool) (b : Board) (s : ℕ) → Good b → findNamed any b s < 64 → NamedAt any b s (findNamed any b s)
+  pub some : (any : Bool) (b : Board) (s i : ℕ) → Good b → NamedAt any b s i → findNamed any b s ≤ i
+  pub none : (any : Bool) (b : Board) (s : ℕ) → Good b → ((i : ℕ) → NamedAt any b s i → ⊥) → findNamed any b s ≡ 64
 
 -- ---- rising order of sequence
 

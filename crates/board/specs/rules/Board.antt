@@ -1,6 +1,6 @@
 -- The board: what its functions give, as definitions that compute. Assumes nothing.
 use Prim.Native.Nat.{ℕ, suc, _/_, _%_}
-use mathlib.Core.Bool.{Bool, false, cond, _&&_}
+use mathlib.Core.Bool.{Bool, false, cond, _&&_, _||_}
 use mathlib.Core.List.{List, [], _∷_}
 use lib.Dec.{leb, ltb, eqb}
 use lib.ListN.{getD, set, replicate}
@@ -12,7 +12,7 @@ use Rattle.board.specs.declared.Found.{Found}
 
 -- what stands where no response was ever placed
 abbrev pub noResponse : Response
-noResponse = record { sequence = 0; size = 0; price = 0; customer = false; gtx = false }
+noResponse = record { sequence = 0; size = 0; price = 0; participant = 0; customer = false; gtx = false }
 
 -- what stands at place i
 abbrev pub responseAt : List Response → ℕ → Response
@@ -62,17 +62,26 @@ unfoldable pub findIn : {A : Type 0} → (A → Bool) → ℕ → List A → ℕ
 findIn t w [] = 0
 findIn t w (r ∷ rs) = cond (eqb (w % 2) 1 && t r) 0 (suc (findIn t (w / 2) rs))
 
--- a GTX response with this sequence, and no limit order
-abbrev pub isGtx : ℕ → Response → Bool
-isGtx s r = r .gtx && eqb (r .sequence) s
+-- a response with this sequence: any, or a GTX response and no limit order
+abbrev pub isNamed : Bool → ℕ → Response → Bool
+isNamed any s r = (any || r .gtx) && eqb (r .sequence) s
 
--- the place of the live GTX response with this sequence, and 64 where there is none
+abbrev pub isGtx : ℕ → Response → Bool
+isGtx s r = isNamed false s r
+
+-- the place of the live one with this sequence, and 64 where there is none
+abbrev pub findNamed : Bool → Board → ℕ → ℕ
+findNamed any b s = findIn (isNamed any s) (b .live) (b .places)
+
 abbrev pub findGtx : Board → ℕ → ℕ
-findGtx b s = findIn (isGtx s) (b .live) (b .places)
+findGtx b s = findNamed false b s
 
 -- and what stands there
+abbrev pub found : Bool → Board → ℕ → Found
+found any b s = record { place = findNamed any b s; response = responseAt (b .places) (findNamed any b s) }
+
 abbrev pub foundGtx : Board → ℕ → Found
-foundGtx b s = record { place = findGtx b s; response = responseAt (b .places) (findGtx b s) }
+foundGtx b s = found false b s
 
 -- ---- rising order of sequence
 

@@ -31,7 +31,7 @@ isNonRoutable e = bitAt (e .marks) 1
 
 -- a response of a size: a GTX one, or a limit order
 abbrev pub responseOf : Bool → ℕ → Event → Response
-responseOf gtx size e = record { sequence = e .sequence; size = size; price = priceOf e; customer = isCustomer e; gtx = gtx }
+responseOf gtx size e = record { sequence = e .sequence; size = size; price = priceOf e; participant = e .participant; customer = isCustomer e; gtx = gtx }
 
 -- a response stands at a place, from which a size is gone; a number refuses it where there is no such place
 abbrev pub seats : ℕ → Response → ℕ → Ending → ℕ → Outcome
@@ -54,7 +54,7 @@ cancelOutcome s = cond (ltb (s .found) 64) (Does (Free (s .found) (s .old .size)
 
 -- the GTX response that an amend makes of an old one: the event's sequence, the new size, capped at the CUBE size, the new price; the Customer mark stays
 abbrev pub amendedBy : Terms → Response → Event → Response
-amendedBy t old e = record { sequence = e .sequence; size = min (newSizeOf e) (t .size); price = newPriceOf e; customer = old .customer; gtx = true }
+amendedBy t old e = record { sequence = e .sequence; size = min (newSizeOf e) (t .size); price = newPriceOf e; participant = e .participant; customer = old .customer; gtx = true }
 
 -- an amend: the new response stands at the place of the GTX response that is named
 unfoldable pub amendOutcome : Terms → Sight → Event → Outcome

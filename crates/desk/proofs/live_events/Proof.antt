@@ -5,10 +5,10 @@ use Rattle.desk.proofs.live_events.Statement.{statement}
 use Rattle.desk.proofs.live_events.Tie as tie
 
 abbrev Inv-loop : tie.InvT-loop
-Inv-loop bytes₀ out₀ a₀ turns₀ bytes out a turns = (length bytes ≡ length bytes₀) × (length out ≡ length out₀)
+Inv-loop wide bytes₀ out₀ a₀ turns₀ bytes out a turns = (length bytes ≡ length bytes₀) × (length out ≡ length out₀)
 
 abbrev μ-loop : tie.MeasureT-loop
-μ-loop bytes₀ out₀ a₀ turns₀ bytes out a turns = turns
+μ-loop wide bytes₀ out₀ a₀ turns₀ bytes out a turns = turns
 
 loop-holds : tie.Need-loop-holds Inv-loop μ-loop
 loop-holds c = search needs

@@ -18,8 +18,8 @@ use Rattle.decision.specs.declared.Sight.{Sight}
 use Rattle.tape.specs.declared.event.Event.{Event}
 use mathlib.Core.List.{List, []}
 use Rattle.listing.specs.rules.Listing.{eventLines}
-use Rattle.listing.specs.inside.Code.{LeftBytes}
-use Rattle.listing.proofs.WroteLaws.{wrote-same, left-start, left-wrote, left-same, left-done}
+use Rattle.words.specs.inside.Writing.{LeftBytes}
+use Rattle.words.proofs.WroteLaws.{wrote-same, left-start, left-wrote, left-same, left-done}
 use Rattle.listing.proofs.LookLaws.{looked, sought-le, look-start, look-end, look-found, look-next}
 use Rattle.listing.proofs.RunLaws.{whole, closed-whole, seat-set, seat-past, seat-free, seat-none, good-after, rest, rest-none, rest-all, events-turn, run-turn}
 use Rattle.listing.proofs.put_events.Statement.{statement}
@@ -88,8 +88,8 @@ mul-r c = omega (arith, low c .place)
 element-copy-out-r : tie.Need-element-copy-out-r Inv-loop2 μ-loop2 Inv-loop μ-loop
 element-copy-out-r c = low c .place
 
-is-gtx-requires : tie.Need-is-gtx-requires Inv-loop2 μ-loop2 Inv-loop μ-loop
-is-gtx-requires c κs = search needs
+is-named-requires : tie.Need-is-named-requires Inv-loop2 μ-loop2 Inv-loop μ-loop
+is-named-requires c κs = search needs
 
 loop2-less : tie.Need-loop2-less Inv-loop2 μ-loop2 Inv-loop μ-loop
 loop2-less c = omega (arith, c .before .before .before .before .loop2-test .taken)
@@ -100,7 +100,7 @@ loop2-again c =
     let l = f .before .before in
     let o = l .before .before .before .before .before .before in (
       omega arith,
-      look-found (o .loop .b) (o .loop .inv .6) (l .before .before .before .before .record-in .result .f12) (l .loop2 .named) (l .loop2 .rest) (f .first-set .result) (low f) (sym (c .before .is-gtx .ensures) ∙ c .if1 .taken) ∙ l .loop2 .inv .1,
+      look-found (o .loop .b) (o .loop .inv .6) (l .before .before .before .before .record-in .result .f12) (l .loop2 .named) (l .loop2 .rest) (f .first-set .result) (low f) (sym (c .before .is-named .ensures) ∙ c .if1 .taken) ∙ l .loop2 .inv .1,
     )
 
 without-lowest-requires : tie.Need-without-lowest-requires Inv-loop2 μ-loop2 Inv-loop μ-loop
@@ -123,7 +123,7 @@ loop2-again-2 c =
     let s = l .before .before .before .before .record-in .result .f12 in (
       omega (arith, left c, without-le (l .loop2 .rest) (f .first-set .result), l .loop2 .inv .0),
       ap (looked (o .loop .b) s (l .loop2 .named)) (left c)
-          ∙ look-next (o .loop .b) s (l .loop2 .named) (l .loop2 .rest) (f .first-set .result) (sym (c .before .before .is-gtx .ensures) ∙ c .before .if1 .left)
+          ∙ look-next (o .loop .b) s (l .loop2 .named) (l .loop2 .rest) (f .first-set .result) (sym (c .before .before .is-named .ensures) ∙ c .before .if1 .left)
           ∙ l .loop2 .inv .1,
     )
 
@@ -250,7 +250,7 @@ put-events-spec =
     cast-i
     mul-r
     element-copy-out-r
-    is-gtx-requires
+    is-named-requires
     loop2-less
     loop2-again
     without-lowest-requires

@@ -4,21 +4,12 @@ use mathlib.Core.List.{List, [], _∷_}
 use Prim.Native.Nat.{ℕ, zero, suc}
 use lib.ListN.{length, getD, drop}
 use lib.Seq.{sets}
-use Rattle.base.specs.Writing.{Wrote, Left}
 use Rattle.share.specs.rules.Fills.{Fill, fill}
 use Rattle.trade.specs.declared.Filled.{Filled}
 use Rattle.trade.specs.declared.Filled.the-variants.{Count, Refused as NoFills}
 use Rattle.listing.specs.declared.Listed.{Listed}
 use Rattle.run.specs.rules.Run.{Run}
 use Rattle.listing.specs.rules.Listing.{linesOf, answerOf}
-
--- what a writer of bytes says: from xs, at place `at`, it wrote the bytes t; ys is what is there then, and `next` the place after
-abbrev pub WroteBytes : List ℕ → ℕ → List ℕ → ℕ → List ℕ → Type 0
-WroteBytes xs at t next ys = Wrote sets length xs at t next ys
-
--- a loop that writes: to write t at w in ys comes to the same as to write s at `at` in xs
-abbrev pub LeftBytes : List ℕ → ℕ → List ℕ → List ℕ → ℕ → List ℕ → Type 0
-LeftBytes xs at s ys w t = Left sets length xs at s ys w t
 
 -- what the writer of a run's lines says: from xs it wrote them at the start, and answered r; ys is what is there then
 pub record Lists (run : Run) (xs : List ℕ) (r : Listed) (ys : List ℕ) : Type 0 where

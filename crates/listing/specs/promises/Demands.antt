@@ -1,5 +1,6 @@
 -- What is promised of the listing, beyond the contract of `listing`.
 use mathlib.Core.Path.{_≡_}
+use mathlib.Core.Bool.{true, false}
 use mathlib.Core.List.{List, [], _∷_, _++_}
 use Prim.Native.Nat.{ℕ, _+_, _-_, _*_, _^_, _≤_, _<_}
 use lib.ListN.{length, drop}
@@ -33,10 +34,10 @@ exampleOrder =
     }
 
 abbrev pub exampleResponse : Event
-exampleResponse = record { sequence = 1; time = 20; kind = 1; marks = 0; side = 2; f12 = 3; f16 = 105; f20 = 0; f24 = 0 }
+exampleResponse = record { sequence = 1; time = 20; kind = 1; marks = 0; side = 2; f12 = 3; f16 = 105; f20 = 0; f24 = 0; participant = 0 }
 
 abbrev pub exampleTape : List ℕ
-exampleTape = tapeOf [] exampleOrder (exampleResponse ∷ exampleResponse ∷ [])
+exampleTape = tapeOf false [] exampleOrder (exampleResponse ∷ exampleResponse ∷ [])
 
 abbrev pub exampleListing : List ℕ
 exampleListing =
@@ -74,13 +75,13 @@ orderE =
 
 -- of no kind
 abbrev pub noEvent : ℕ → Event
-noEvent k = record { sequence = k; time = 20; kind = 9; marks = 0; side = 0; f12 = 0; f16 = 0; f20 = 0; f24 = 0 }
+noEvent k = record { sequence = k; time = 20; kind = 9; marks = 0; side = 0; f12 = 0; f16 = 0; f20 = 0; f24 = 0; participant = 0 }
 
 abbrev pub marketE : Event
-marketE = record { sequence = 2; time = 20; kind = 4; marks = 0; side = 1; f12 = 4; f16 = 0; f20 = 0; f24 = 0 }
+marketE = record { sequence = 2; time = 20; kind = 4; marks = 0; side = 1; f12 = 4; f16 = 0; f20 = 0; f24 = 0; participant = 77 }
 
 abbrev pub tapeE : List ℕ
-tapeE = tapeOf (7 ∷ 7 ∷ []) orderE (noEvent 1 ∷ marketE ∷ noEvent 3 ∷ [])
+tapeE = tapeOf true (7 ∷ 7 ∷ []) orderE (noEvent 1 ∷ marketE ∷ noEvent 3 ∷ [])
 
 abbrev pub listingE : List ℕ
 listingE =

@@ -25,7 +25,7 @@ watchC = text "EVENT 1 taken on offer 3\n" ++ text "EVENT 1 refused 33 on offer 
 
 -- its order, with a response that is capped, amended and cancelled, and a limit order that ends the auction and counts whole
 abbrev pub amend : ℕ → ℕ → ℕ → ℕ → Event
-amend sequence named size price = record { sequence = sequence; time = 20; kind = 6; marks = 0; side = 0; f12 = named; f16 = size; f20 = price; f24 = 0 }
+amend sequence named size price = record { sequence = sequence; time = 20; kind = 6; marks = 0; side = 0; f12 = named; f16 = size; f20 = price; f24 = 0; participant = 0 }
 
 abbrev pub moved : List Event
 moved = gtx 1 30 105 ∷ amend 2 1 4 104 ∷ event 2 3 0 2 0 ∷ event 3 4 2 25 100 ∷ noEvent 5 ∷ []

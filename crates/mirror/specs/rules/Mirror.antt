@@ -48,19 +48,19 @@ mirroredOrder o =
 
 -- a GTX response, a limit order: its side and its price
 unfoldable pub mirroredPriced : Event → Event
-mirroredPriced e = record { sequence = e .sequence; time = e .time; kind = e .kind; marks = e .marks; side = mirroredSide (e .side); f12 = sizeOf e; f16 = mirrored (priceOf e); f20 = e .f20; f24 = e .f24 }
+mirroredPriced e = record { sequence = e .sequence; time = e .time; kind = e .kind; marks = e .marks; side = mirroredSide (e .side); f12 = sizeOf e; f16 = mirrored (priceOf e); f20 = e .f20; f24 = e .f24; participant = e .participant }
 
 -- a market order: its side
 unfoldable pub mirroredMarket : Event → Event
-mirroredMarket e = record { sequence = e .sequence; time = e .time; kind = e .kind; marks = e .marks; side = mirroredSide (e .side); f12 = sizeOf e; f16 = e .f16; f20 = e .f20; f24 = e .f24 }
+mirroredMarket e = record { sequence = e .sequence; time = e .time; kind = e .kind; marks = e .marks; side = mirroredSide (e .side); f12 = sizeOf e; f16 = e .f16; f20 = e .f20; f24 = e .f24; participant = e .participant }
 
 -- quotes: NBB for NBO, BB for BO, and their marks
 unfoldable pub mirroredQuotes : Event → Event
-mirroredQuotes e = record { sequence = e .sequence; time = e .time; kind = e .kind; marks = mirroredMarks (e .marks); side = e .side; f12 = mirrored (nboOf e); f16 = mirrored (nbbOf e); f20 = mirrored (boOf e); f24 = mirrored (bbOf e) }
+mirroredQuotes e = record { sequence = e .sequence; time = e .time; kind = e .kind; marks = mirroredMarks (e .marks); side = e .side; f12 = mirrored (nboOf e); f16 = mirrored (nbbOf e); f20 = mirrored (boOf e); f24 = mirrored (bbOf e); participant = e .participant }
 
 -- an amend: its new price
 unfoldable pub mirroredAmend : Event → Event
-mirroredAmend e = record { sequence = e .sequence; time = e .time; kind = e .kind; marks = e .marks; side = e .side; f12 = nameOf e; f16 = newSizeOf e; f20 = mirrored (newPriceOf e); f24 = e .f24 }
+mirroredAmend e = record { sequence = e .sequence; time = e .time; kind = e .kind; marks = e .marks; side = e .side; f12 = nameOf e; f16 = newSizeOf e; f20 = mirrored (newPriceOf e); f24 = e .f24; participant = e .participant }
 
 -- a cancel has nothing to mirror
 unfoldable pub mirroredEvent : Event → Event

@@ -6,6 +6,7 @@ use Rattle.words.specs.promises.Bits.{BitsMean}
 use Rattle.tape.specs.declared.trailer.Trailer.{Trailer}
 use Rattle.reader.specs.promises.Reading.{Reading}
 use Rattle.roundtrip.specs.promises.Demands.{Demands as RoundTrips}
+use Rattle.moving.specs.promises.Moves.{Moves}
 use Rattle.mirror.specs.promises.Records.{RecordsMirror}
 use Rattle.auction.specs.promises.Collared.{Collared}
 use Rattle.board.specs.promises.Board.{Changes, Seen, Finding, Ordering}
@@ -24,6 +25,8 @@ pub record Below : Type 0 where
   -- a held tape, read from place to place; records read and written back
   pub reading : (bytes : RefT (List ℕ)) (t : Trailer) → Reading bytes t
   pub round-trips : RoundTrips
+  -- a tape moved from one form to the other
+  pub moves : Moves
   -- mirrored orders and events
   pub records-mirror : RecordsMirror
   -- a collared order on the other side: what it moves, and what it leaves

@@ -1,6 +1,6 @@
 -- The parts of the promise.
 use mathlib.Core.Path.{_≡_}
-use mathlib.Core.Bool.{true, false, cond, _&&_}
+use mathlib.Core.Bool.{Bool, true, false, cond, not, _&&_, _||_}
 use mathlib.Core.List.{List, [], _∷_, _++_, map}
 use mathlib.Core.Logic.{_⊎_, _≢_}
 use Prim.Native.Nat.{ℕ, _+_, _*_, _≤_, _<_, min, max}
@@ -8,7 +8,7 @@ use Prim.Native.String.{String}
 use lib.Dec.{ltb, eqb}
 use lib.ListN.{length, take, drop}
 use Rattle.base.specs.Lists.{In, Every, sum}
-use Rattle.words.specs.rules.Bytes.{wordAt}
+use Rattle.words.specs.rules.Bytes.{AllBytes, wordAt}
 use Rattle.board.specs.declared.Response.{Response}
 use Rattle.board.specs.rules.Board.{inSequence}
 use Rattle.board.specs.promises.Board.{Good}
@@ -19,7 +19,7 @@ use Rattle.tape.specs.declared.order.Order.{Order}
 use Rattle.tape.specs.declared.event.Event.{Event}
 use Rattle.tape.specs.declared.trailer.Trailer.{Trailer}
 use Rattle.tape.specs.rules.Form.{orderFormed, eventFormed}
-use Rattle.tape.specs.rules.Records.{cubt, orderOf, orderSpare, readOrder, orderAnswer, eventOf, eventSpare, readEvent, eventAnswer, trailerOf, readTrailer, trailerAnswer}
+use Rattle.tape.specs.rules.Records.{cubt, cub2, orderOf, orderSpare, readOrder, orderAnswer, widthOf, eventOf, eventSpare, readEvent, eventAnswer, trailerOf, readTrailer, trailerAnswer}
 use Rattle.tape.specs.rules.Fields.{sizeOf, nameOf, newPriceOf}
 use Rattle.tape.specs.rules.Tape.{openTape, orderIn}
 use Rattle.trade.specs.rules.Trade.{offers, fills, traded}
@@ -30,6 +30,9 @@ use Rattle.auction.specs.rules.Range.{isOpen}
 use Rattle.auction.specs.rules.Offer.{onOffer}
 use Rattle.auction.specs.declared.Auction.{Auction}
 use Rattle.auction.specs.declared.Ending.{Ending}
+use Rattle.auction.specs.rules.Firm.{participantOf}
+use Rattle.moving.specs.rules.Moving.{moveAnswer, moveWrote}
+use Rattle.moving.specs.promises.Moves.{movedTo}
 use Rattle.decision.specs.rules.Decide.{isAmend}
 use Rattle.events.specs.rules.Step.{stepOf}
 use Rattle.events.specs.declared.Answer.{Answer}
@@ -39,7 +42,7 @@ use Rattle.run.specs.promises.Demands.{Within, Trades, Names, InTime}
 use Rattle.listing.specs.rules.Text.{text, newline}
 use Rattle.listing.specs.rules.Watch.{watchLine}
 use Rattle.listing.specs.rules.Listing.{field, answerText, eventText, endText, refusedLine, auctionLine, eventLines, endLines, listingOf, roomOf, listedOf, lengthIn, bytesOf}
-use Rattle.promise.specs.rules.Answers.{Accepts, no, yes, openedIs, orderIs, eventIs, trailerIs, writtenIs, entryIs, answerIs, endingIs, filledIs, runIs, listedIs}
+use Rattle.promise.specs.rules.Answers.{Accepts, no, yes, openedIs, orderIs, eventIs, trailerIs, writtenIs, entryIs, answerIs, endingIs, filledIs, movedIs, firmIs, runIs, listedIs}
 use Rattle.promise.specs.rules.Tapes.{Carries}
 use Rattle.promise.specs.rules.Sides.{isSell, otherSide, better, gotBetter, sent, responses, takenRecords, atEnd, rangeAtEnd, writtenFills, liveAtEnd, marketOrder, workingPrice, othersAtPrice, guaranteeAtEnd, planAtPrice, leftToOthersAtPrice, sentBy, sentInstead, initiatingPrice, takesPlace, standingOf, hasNamed, givenSize, givenPrice}
 
@@ -79,10 +82,10 @@ pub record Filling (a : Auction) (xs : List ℕ) (start : ℕ) : Type 0 where
 -- the records' readers and writers: 24 first, or last; and the record's own number
 pub record Numbered : Type 0 where
   pub reads-order : (s : List ℕ) → orderIs (readOrder s) ≡ cond (ltb (length s) 64) (no 24) (cond (orderSpare s && orderFormed (orderOf s)) (yes (orderOf s)) (no 1))
-  pub reads-event : (s : List ℕ) → eventIs (readEvent s) ≡ cond (ltb (length s) 32) (no 24) (cond (eventSpare s && eventFormed (eventOf s)) (yes (eventOf s)) (no 32))
-  pub reads-trailer : (s : List ℕ) → trailerIs (readTrailer s) ≡ cond (ltb (length s) 16) (no 24) (cond (eqb (wordAt s 0) cubt && eqb (wordAt s 12) 0) (yes (trailerOf s)) (no 22))
+  pub reads-event : (wide : Bool) (s : List ℕ) → eventIs (readEvent wide s) ≡ cond (ltb (length s) (widthOf wide)) (no 24) (cond (eventSpare wide s && eventFormed (eventOf wide s)) (yes (eventOf wide s)) (no 32))
+  pub reads-trailer : (s : List ℕ) → trailerIs (readTrailer s) ≡ cond (ltb (length s) 16) (no 24) (cond ((eqb (wordAt s 0) cubt || eqb (wordAt s 0) cub2) && eqb (wordAt s 12) 0) (yes (trailerOf s)) (no 22))
   pub writes-order : (o : Order) (out : List ℕ) → writtenIs (orderAnswer o out) ≡ cond (orderFormed o) (cond (ltb (length out) 64) (no 24) (yes tt)) (no 1)
-  pub writes-event : (e : Event) (out : List ℕ) → writtenIs (eventAnswer e out) ≡ cond (eventFormed e) (cond (ltb (length out) 32) (no 24) (yes tt)) (no 32)
+  pub writes-event : (wide : Bool) (e : Event) (out : List ℕ) → writtenIs (eventAnswer wide e out) ≡ cond (eventFormed e && (wide || eqb (e .participant) 0)) (cond (ltb (length out) (widthOf wide)) (no 24) (yes tt)) (no 32)
   pub writes-trailer : (t : Trailer) (out : List ℕ) → writtenIs (trailerAnswer t out) ≡ cond (ltb (length out) 16) (no 24) (yes tt)
   -- the words of the EVENT and END lines
   pub event-words : (a : Answer) (w : String) → answerIs a ≡ yes w → answerText a ≡ text " " ++ text w
@@ -226,3 +229,31 @@ module _ (o : Order) where
     -- on a watch each EVENT line is the listing's, with the sum after that record at its end
     pub watched : (es : List Event) (e : Event) → Accepts o
         → watchLine (auctionAfter o es) e ≡ eventText (said (e .sequence) (stepOf (auctionAfter o es) e .answer)) ++ (field " on offer " (sum (sizes (standingOf o (takenRecords o (es ++ (e ∷ [])))))) ++ newline)
+
+-- ---- 7. which firm stands behind a response
+
+module _ (o : Order) where
+  -- of an auction: the firm is answered for every live response, by its sequence, and for no other sequence
+  pub record Told (a : Auction) : Type 0 where
+    pub answers : (r : Response) → In r (responses a) → firmIs (participantOf a (r .sequence)) ≡ r .participant ∷ []
+    pub nobody : (k : ℕ) → Absent k (responses a) → firmIs (participantOf a k) ≡ []
+
+  pub record Firms : Type 0 where
+    -- it is the participant of the record that sent the response; of an amended one that of the amend (which record that is: `one-record` of part 4)
+    pub of-record : (es : List Event) (e : Event) (r : Response) → Sends o es e r → r .participant ≡ e .participant
+    -- after any records, and at the end
+    pub told : (es : List Event) → Accepts o → Told (auctionAfter o es)
+    pub told-end : (es : List Event) → Accepts o → Told (atEnd o es)
+
+-- ---- 8. a tape in the other form
+
+-- the tape s moved into the bytes `out`; `wide` is the form that is wanted
+pub record MovedTape (wide : Bool) (s out : List ℕ) : Type 0 where
+  -- a refusal has one of six numbers, and changes no byte
+  pub refused : (n : ℕ) → movedIs (moveAnswer wide s out) ≡ no n → In n (21 ∷ 22 ∷ 23 ∷ 25 ∷ 26 ∷ 24 ∷ []) × (moveWrote wide s out ≡ out)
+  -- else the moved tape stands at the start, and every byte past its length stays; it has the same listing
+  pub stays : (n : ℕ) → movedIs (moveAnswer wide s out) ≡ yes n → drop n (moveWrote wide s out) ≡ drop n out
+  pub listed : (n : ℕ) → movedIs (moveAnswer wide s out) ≡ yes n → listingOf (movedTo wide s out n) ≡ listingOf s
+  -- and moved back, wherever there is room for it, it is the tape byte for byte
+  pub back : (n : ℕ) → movedIs (moveAnswer wide s out) ≡ yes n → AllBytes s → (out′ : List ℕ) → length s ≤ length out′
+      → (movedIs (moveAnswer (not wide) (movedTo wide s out n) out′) ≡ yes (length s)) × (moveWrote (not wide) (movedTo wide s out n) out′ ≡ s ++ drop (length s) out′)

@@ -1,5 +1,6 @@
 -- The promise: what the user is promised of every tape, on one page. A tape is any list of bytes.
 use mathlib.Core.Path.{_≡_}
+use mathlib.Core.Bool.{Bool}
 use mathlib.Core.List.{List}
 use mathlib.Core.Logic.{_≢_}
 use Prim.Native.Nat.{ℕ, _≤_, _<_}
@@ -19,7 +20,7 @@ use Rattle.listing.specs.rules.Watch.{watchLines}
 use Rattle.promise.specs.rules.Tapes.{Carries, SomeTape, endOf, notRefused, notRefusedSaid, WithResent, mirroredLines}
 use Rattle.promise.specs.rules.Answers.{Accepts, no, entryIs}
 use Rattle.promise.specs.rules.Sides.{openingRange}
-use Rattle.promise.specs.promises.Parts.{Answered, Roomed, Filling, Numbered, EventNumber, InRealPrices, CountedOnce, Offered}
+use Rattle.promise.specs.promises.Parts.{Answered, Roomed, Filling, Numbered, EventNumber, InRealPrices, CountedOnce, Offered, Firms, MovedTape}
 use Rattle.promise.specs.promises.Below.{Below}
 
 pub record Promise : Type 0 where
@@ -55,5 +56,9 @@ pub record Promise : Type 0 where
   pub mirrors : (s t : List ℕ) (o : Order) (es : List Event) → Carries s o es → Carries t (mirroredOrder o) (mirroredRecords es) → listingOf t ≡ mirroredLines (runOf s)
   -- and the same EVENT lines on a watch
   pub mirrors-watch : (o : Order) (es : List Event) → Accepts o → watchLines (acceptOf (mirroredOrder o) .auction) (mirroredRecords es) ≡ watchLines (acceptOf o .auction) es
+  -- 7. Which firm stands behind a live response: the participant of the record that sent it
+  pub firms : (o : Order) → Firms o
+  -- 8. A tape moves between the old form and the new: the same listing, and back the identical bytes
+  pub moved : (wide : Bool) (s out : List ℕ) → MovedTape wide s out
   -- and the theorems below
   pub below : Below

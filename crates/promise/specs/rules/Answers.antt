@@ -1,6 +1,7 @@
 -- What document 01 has for each case of each answer: a number for "no", or what is answered.
 use mathlib.Core.Path.{_≡_}
 use mathlib.Core.Bool.{Bool, true, false}
+use mathlib.Core.List.{List, [], _∷_}
 use Prim.Native.Nat.{ℕ}
 use Prim.Native.String.{String}
 use Rattle.tape.specs.declared.Written.{Written}
@@ -21,6 +22,10 @@ use Rattle.auction.specs.declared.Entry.{Entry}
 use Rattle.auction.specs.declared.Entry.the-variants.{Accepted, Refused as NotAccepted}
 use Rattle.auction.specs.declared.Ending.{Ending}
 use Rattle.auction.specs.declared.Ending.the-variants.{Open, Time, Same, Opposite, Improve}
+use Rattle.auction.specs.declared.firm.Firm.{Firm}
+use Rattle.auction.specs.declared.firm.Firm.the-variants.{Participant, Nobody}
+use Rattle.moving.specs.declared.Moved.{Moved}
+use Rattle.moving.specs.declared.Moved.the-variants.{Length, Refused as NotMoved}
 use Rattle.events.specs.declared.Answer.{Answer}
 use Rattle.events.specs.declared.Answer.the-variants.{Taken, Ended, Late, Refused as NotTaken}
 use Rattle.trade.specs.declared.Filled.{Filled}
@@ -38,7 +43,7 @@ abbrev pub isNo : {A : Type 0} → Paper A → Bool
 isNo (no n) = true
 isNo (yes a) = false
 
--- an opened tape: 21, 22, 23; where the order stands, and how many events there are
+-- an opened tape: 21, 22, 23; where the order stands, how many events there are, and of which form
 abbrev pub openedIs : Opened → Paper Trailer
 openedIs (Tape t) = yes t
 openedIs (NotOpened n) = no n
@@ -89,6 +94,16 @@ endingIs Improve = "improve"
 abbrev pub filledIs : Filled → Paper ℕ
 filledIs (Count n) = yes n
 filledIs (NotFilled n) = no n
+
+-- a tape that is moved: 21, 22, 23, 25, 26, then 24, or the length of the moved tape
+abbrev pub movedIs : Moved → Paper ℕ
+movedIs (Length n) = yes n
+movedIs (NotMoved n) = no n
+
+-- the firm behind a response: its participant, or none where no live response has the sequence; document 01 has no number for that
+abbrev pub firmIs : Firm → List ℕ
+firmIs (Participant n) = n ∷ []
+firmIs Nobody = []
 
 -- what came of a tape: its number, or why its auction ended
 abbrev pub runIs : Run → Paper Ending

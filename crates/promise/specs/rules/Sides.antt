@@ -38,7 +38,7 @@ better sell p q = cond sell (ltb q p) (ltb p q)
 
 -- a response with its price as it was sent
 abbrev pub sent : Bool → Response → Response
-sent sell r = record { sequence = r .sequence; size = r .size; price = reportedPrice sell (r .price); customer = r .customer; gtx = r .gtx }
+sent sell r = record { sequence = r .sequence; size = r .size; price = reportedPrice sell (r .price); participant = r .participant; customer = r .customer; gtx = r .gtx }
 
 -- the live responses of an auction, with their prices as they were sent; a GTX response's size is capped at the CUBE size
 abbrev pub responses : Auction → List Response
@@ -75,13 +75,14 @@ module _ (o : Order) where
         sequence = e .sequence;
         size = cond (eqb (e .kind) 1) (min (sizeOf e) (o .size)) (sizeOf e);
         price = priceOf e;
+        participant = e .participant;
         customer = isCustomer e;
         gtx = eqb (e .kind) 1;
       }
 
-  -- the response that an amend sends instead of an old one: the record's sequence, the new size, capped at the CUBE size, and the new price; the Customer mark stays
+  -- the response that an amend sends instead of an old one: the record's sequence, the new size, capped at the CUBE size, the new price and the record's participant; the Customer mark stays
   abbrev pub sentInstead : Event → Response → Response
-  sentInstead e old = record { sequence = e .sequence; size = min (newSizeOf e) (o .size); price = newPriceOf e; customer = old .customer; gtx = true }
+  sentInstead e old = record { sequence = e .sequence; size = min (newSizeOf e) (o .size); price = newPriceOf e; participant = e .participant; customer = old .customer; gtx = true }
 
   -- the initiating price
   abbrev pub initiatingPrice : ℕ

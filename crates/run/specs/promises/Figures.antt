@@ -68,7 +68,7 @@ timed time closes o =
 
 -- an event of a kind: its sequence, side, size and price
 abbrev pub event : ℕ → ℕ → ℕ → ℕ → ℕ → Event
-event kind sequence side size price = record { sequence = sequence; time = 20; kind = kind; marks = 0; side = side; f12 = size; f16 = price; f20 = 0; f24 = 0 }
+event kind sequence side size price = record { sequence = sequence; time = 20; kind = kind; marks = 0; side = side; f12 = size; f16 = price; f20 = 0; f24 = 0; participant = 0 }
 
 abbrev pub gtx : ℕ → ℕ → ℕ → Event
 gtx sequence size price = event 1 sequence 2 size price
@@ -79,7 +79,7 @@ gtxBuy sequence size price = event 1 sequence 1 size price
 
 -- an event with marks: a Customer's has bit 0, a non-routable one bit 1
 abbrev pub marked : ℕ → Event → Event
-marked marks e = record { sequence = e .sequence; time = e .time; kind = e .kind; marks = marks; side = e .side; f12 = e .f12; f16 = e .f16; f20 = e .f20; f24 = e .f24 }
+marked marks e = record { sequence = e .sequence; time = e .time; kind = e .kind; marks = marks; side = e .side; f12 = e .f12; f16 = e .f16; f20 = e .f20; f24 = e .f24; participant = e .participant }
 
 abbrev pub byCustomer : Event → Event
 byCustomer e = marked 1 e
@@ -89,7 +89,7 @@ nonRoutable e = marked 2 e
 
 -- a response, by its name, has another size and price from here on
 abbrev pub amend : ℕ → ℕ → ℕ → ℕ → Event
-amend sequence name size price = record { sequence = sequence; time = 20; kind = 6; marks = 0; side = 0; f12 = name; f16 = size; f20 = price; f24 = 0 }
+amend sequence name size price = record { sequence = sequence; time = 20; kind = 6; marks = 0; side = 0; f12 = name; f16 = size; f20 = price; f24 = 0; participant = 0 }
 
 abbrev pub bid : ℕ → ℕ → ℕ → Event
 bid sequence size price = event 3 sequence 1 size price

@@ -1,5 +1,5 @@
 -- The records of a tape: which words they are, how they are read and written.
-use mathlib.Core.Bool.{Bool, true, cond, _&&_}
+use mathlib.Core.Bool.{Bool, true, cond, _&&_, _||_}
 use mathlib.Core.List.{List, [], _∷_, _++_}
 use Prim.Native.Nat.{ℕ, _*_}
 use lib.Dec.{ltb, eqb}
@@ -78,17 +78,25 @@ orderAnswer o out = wroteAnswer (orderFormed o) 1 (orderWords o) out
 unfoldable pub orderWrote : Order → List ℕ → List ℕ
 orderWrote o out = wroteBytes (orderFormed o) (orderWords o) out
 
--- ---- the event record, 32 bytes
+-- ---- the event record: 32 bytes on an old tape; 40 on a new one, which is `wide` and has the participant
 
-unfoldable pub eventWords : Event → List ℕ
-eventWords e =
+-- how many bytes it has
+unfoldable pub widthOf : Bool → ℕ
+widthOf wide = cond wide 40 32
+
+unfoldable pub eventWords : Bool → Event → List ℕ
+eventWords wide e =
     e .sequence ∷ e .time
     ∷ joined (e .kind) (e .marks) (e .side) 0
     ∷ e .f12 ∷ e .f16 ∷ e .f20 ∷ e .f24
-    ∷ 0 ∷ []
+    ∷ 0 ∷ cond wide (e .participant ∷ 0 ∷ []) []
 
-unfoldable pub eventOf : List ℕ → Event
-eventOf s =
+-- a word that only a new record has; 0 in an old one
+abbrev pub newWord : Bool → List ℕ → ℕ → ℕ
+newWord wide s at = cond wide (wordAt s at) 0
+
+unfoldable pub eventOf : Bool → List ℕ → Event
+eventOf wide s =
     record {
       sequence = wordAt s 0;
       time = wordAt s 4;
@@ -99,54 +107,65 @@ eventOf s =
       f16 = wordAt s 16;
       f20 = wordAt s 20;
       f24 = wordAt s 24;
+      participant = newWord wide s 32;
     }
 
--- the bytes that no field has are zero: 11, and 28 to 31
-unfoldable pub eventSpare : List ℕ → Bool
-eventSpare s = eqb (getD s 11 0) 0 && eqb (wordAt s 28) 0
+-- the bytes that no field has are zero: 11, and 28 to 31; in a new record 36 to 39 too
+unfoldable pub eventSpare : Bool → List ℕ → Bool
+eventSpare wide s = eqb (getD s 11 0) 0 && eqb (wordAt s 28) 0 && eqb (newWord wide s 36) 0
 
-unfoldable pub readEvent : List ℕ → ReadEvent
-readEvent s =
-    cond (ltb (length s) 32) (NoEvent 24)
-    (cond (eventSpare s && eventFormed (eventOf s)) (GotEvent (eventOf s))
+unfoldable pub readEvent : Bool → List ℕ → ReadEvent
+readEvent wide s =
+    cond (ltb (length s) (widthOf wide)) (NoEvent 24)
+    (cond (eventSpare wide s && eventFormed (eventOf wide s)) (GotEvent (eventOf wide s))
     (NoEvent 32))
 
 -- an event of no kind, which no auction takes
 abbrev pub ofNoKind : ℕ → Event
-ofNoKind sequence = record { sequence = sequence; time = 0; kind = 0; marks = 0; side = 0; f12 = 0; f16 = 0; f20 = 0; f24 = 0 }
+ofNoKind sequence = record { sequence = sequence; time = 0; kind = 0; marks = 0; side = 0; f12 = 0; f16 = 0; f20 = 0; f24 = 0; participant = 0 }
 
 -- the event that stands in a record, in form or not: one of no kind where the bytes that should be zero are not, or end before the record does
-unfoldable pub recordAt : List ℕ → Event
-recordAt s =
-    cond (ltb (length s) 32) (ofNoKind (wordAt s 0))
-    (cond (eventSpare s) (eventOf s)
+unfoldable pub recordAt : Bool → List ℕ → Event
+recordAt wide s =
+    cond (ltb (length s) (widthOf wide)) (ofNoKind (wordAt s 0))
+    (cond (eventSpare wide s) (eventOf wide s)
     (ofNoKind (wordAt s 0)))
 
-unfoldable pub eventAnswer : Event → List ℕ → Written
-eventAnswer e out = wroteAnswer (eventFormed e) 32 (eventWords e) out
+-- an event that can be written: it is in form, and an old record holds no participant
+unfoldable pub eventHeld : Bool → Event → Bool
+eventHeld wide e = eventFormed e && (wide || eqb (e .participant) 0)
 
-unfoldable pub eventWrote : Event → List ℕ → List ℕ
-eventWrote e out = wroteBytes (eventFormed e) (eventWords e) out
+unfoldable pub eventAnswer : Bool → Event → List ℕ → Written
+eventAnswer wide e out = wroteAnswer (eventHeld wide e) 32 (eventWords wide e) out
+
+unfoldable pub eventWrote : Bool → Event → List ℕ → List ℕ
+eventWrote wide e out = wroteBytes (eventHeld wide e) (eventWords wide e) out
 
 -- ---- the trailer, 16 bytes
 
--- "CUBT" as a word
+-- its first word tells the form: "CUBT" an old tape, "CUB2" a new one
 abbrev pub cubt : ℕ
 cubt = 1413633347
 
+abbrev pub cub2 : ℕ
+cub2 = 843208003
+
+abbrev pub nameOf : Bool → ℕ
+nameOf wide = cond wide cub2 cubt
+
 unfoldable pub trailerWords : Trailer → List ℕ
-trailerWords t = cubt ∷ t .order ∷ t .events ∷ 0 ∷ []
+trailerWords t = nameOf (t .wide) ∷ t .order ∷ t .events ∷ 0 ∷ []
 
 unfoldable pub trailerOf : List ℕ → Trailer
-trailerOf s = record { order = wordAt s 4; events = wordAt s 8 }
+trailerOf s = record { order = wordAt s 4; events = wordAt s 8; wide = eqb (wordAt s 0) cub2 }
 
 unfoldable pub readTrailer : List ℕ → ReadTrailer
 readTrailer s =
     cond (ltb (length s) 16) (NoTrailer 24)
-    (cond (eqb (wordAt s 0) cubt && eqb (wordAt s 12) 0) (GotTrailer (trailerOf s))
+    (cond ((eqb (wordAt s 0) cubt || eqb (wordAt s 0) cub2) && eqb (wordAt s 12) 0) (GotTrailer (trailerOf s))
     (NoTrailer 22))
 
--- any S and n are in form: only 24 is left
+-- any S, n and form will do: only 24 is left
 unfoldable pub trailerAnswer : Trailer → List ℕ → Written
 trailerAnswer t out = wroteAnswer true 24 (trailerWords t) out
 

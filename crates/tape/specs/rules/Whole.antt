@@ -1,9 +1,10 @@
 -- A whole tape by its bytes: put together of any records as they are, and taken apart where its trailer says.
+use mathlib.Core.Bool.{Bool}
 use mathlib.Core.List.{List, [], _∷_, _++_}
 use Prim.Native.Nat.{ℕ, zero, suc, _+_}
 use lib.ListN.{take, drop}
 use Rattle.words.specs.rules.Bytes.{wordBytes}
-use Rattle.tape.specs.rules.Records.{trailerWords}
+use Rattle.tape.specs.rules.Records.{widthOf, trailerWords}
 use Rattle.tape.specs.rules.Tape.{trailerFor}
 use Rattle.tape.specs.declared.trailer.Trailer.{Trailer}
 
@@ -22,8 +23,8 @@ abbrev pub inPlace : List ℕ → List ℕ → List (List ℕ) → List ℕ → 
 inPlace own order rs trailer = own ++ (order ++ (together rs ++ trailer))
 
 -- a tape of any records as they are
-unfoldable pub tapeWith : List ℕ → List ℕ → List (List ℕ) → List ℕ
-tapeWith own order rs = inPlace own order rs (wordBytes (trailerWords (trailerFor own rs)))
+unfoldable pub tapeWith : Bool → List ℕ → List ℕ → List (List ℕ) → List ℕ
+tapeWith wide own order rs = inPlace own order rs (wordBytes (trailerWords (trailerFor wide own rs)))
 
 -- ---- what a tape is made of, by its trailer
 
@@ -34,4 +35,4 @@ unfoldable pub orderBytes : List ℕ → Trailer → List ℕ
 orderBytes s t = take 64 (drop (t .order) s)
 
 unfoldable pub recordsBytes : List ℕ → Trailer → List (List ℕ)
-recordsBytes s t = parts 32 (drop (t .order + 64) s) (t .events)
+recordsBytes s t = parts (widthOf (t .wide)) (drop (t .order + 64) s) (t .events)

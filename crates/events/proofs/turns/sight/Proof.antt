@@ -8,8 +8,8 @@ use Rattle.events.proofs.turns.sight.Tie as tie
 names-requires : tie.Need-names-requires
 names-requires c κs = search needs
 
-find-gtx-requires : tie.Need-find-gtx-requires
-find-gtx-requires c κs = search needs
+find-requires : tie.Need-find-requires
+find-requires c κs = search needs
 
 sight-of-requires : tie.Need-sight-of-requires
 sight-of-requires c κs = search needs
@@ -17,7 +17,7 @@ sight-of-requires c κs = search needs
 returns : tie.Need-returns
 returns c =
     let a = c .before .before .before .before .args in
-    sight-named (a .b) (a .e) _ _ _ (c .before .before .before .names .ensures) (c .sight-of .ensures) (c .before .before .if1 .taken) (c .before .find-gtx .ensures)
+    sight-named (a .b) (a .e) _ _ _ (c .before .before .before .names .ensures) (c .sight-of .ensures) (c .before .before .if1 .taken) (c .before .find .ensures)
 
 response-at-requires : tie.Need-response-at-requires
 response-at-requires c κs = search needs
@@ -35,7 +35,7 @@ sight-spec =
     tie.close
     (tie.spec
     names-requires
-    find-gtx-requires
+    find-requires
     sight-of-requires
     returns
     response-at-requires

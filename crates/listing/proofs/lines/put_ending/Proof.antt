@@ -1,6 +1,6 @@
 use mathlib.Core.Path.{sym, ap}
 use native.Mathlib.Omega.{arith}
-use Rattle.listing.proofs.WroteLaws.{wrote-same}
+use Rattle.words.proofs.WroteLaws.{wrote-same}
 use Rattle.listing.specs.rules.Listing.{endText}
 use borrow.Author.Needs.{needs}
 use Rattle.listing.proofs.lines.put_ending.Statement.{statement}

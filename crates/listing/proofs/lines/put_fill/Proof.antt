@@ -1,5 +1,5 @@
 use native.Mathlib.Omega.{arith}
-use Rattle.listing.proofs.WroteLaws.{wrote-append}
+use Rattle.words.proofs.WroteLaws.{wrote-append}
 use Rattle.listing.specs.rules.Listing.{fillLine}
 use borrow.Author.Needs.{needs}
 use Rattle.listing.proofs.lines.put_fill.Statement.{statement}

@@ -5,8 +5,8 @@ use denote.Ref.{now}
 use lib.ListN.{length}
 use borrow.Author.Needs.{needs}
 use Rattle.listing.specs.rules.Listing.{fillLines}
-use Rattle.listing.proofs.WroteLaws.{left-start, left-wrote, left-same, left-done}
-use Rattle.listing.specs.inside.Code.{LeftBytes}
+use Rattle.words.proofs.WroteLaws.{left-start, left-wrote, left-same, left-done}
+use Rattle.words.specs.inside.Writing.{LeftBytes}
 use Rattle.listing.proofs.FillLaws.{fillsFrom, fills-all, fills-more, fills-none}
 use Rattle.listing.proofs.results.put_fills.Statement.{statement}
 use Rattle.listing.proofs.results.put_fills.Tie as tie

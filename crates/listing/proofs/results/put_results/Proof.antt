@@ -4,7 +4,7 @@ use lib.ListN.{length, replicate}
 use Rattle.base.proofs.ListLaws.{length-mapped}
 use Rattle.trade.specs.rules.Trade.{traded}
 use Rattle.listing.specs.rules.Listing.{fillLines, totalLine, endLines}
-use Rattle.listing.proofs.WroteLaws.{wrote-append, wrote-same}
+use Rattle.words.proofs.WroteLaws.{wrote-append, wrote-same}
 use Rattle.listing.proofs.FillLaws.{Reported, reported}
 use borrow.Author.Needs.{needs}
 use Rattle.listing.proofs.results.put_results.Statement.{statement}

@@ -1,5 +1,5 @@
 use native.Mathlib.Omega.{arith}
-use Rattle.listing.proofs.WroteLaws.{wrote-append}
+use Rattle.words.proofs.WroteLaws.{wrote-append}
 use borrow.Author.Needs.{needs}
 use Rattle.listing.proofs.text.put_field.Statement.{statement}
 use Rattle.listing.proofs.text.put_field.Tie as tie

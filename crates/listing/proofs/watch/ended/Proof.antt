@@ -10,7 +10,7 @@ use Rattle.run.specs.rules.Run.{closed}
 use Rattle.listing.specs.rules.Listing.{endLines}
 use Rattle.listing.proofs.LengthLaws.{end-lines-short, closed-kept}
 use Rattle.listing.proofs.RunLaws.{closed-ended}
-use Rattle.listing.proofs.WroteLaws.{wrote-same}
+use Rattle.words.proofs.WroteLaws.{wrote-same}
 use Rattle.listing.proofs.WatchLaws.{unshown, shown}
 use borrow.Author.Needs.{needs}
 use Rattle.listing.proofs.watch.ended.Statement.{statement}

@@ -8,7 +8,7 @@ use Rattle.run.specs.rules.Run.{said}
 use Rattle.listing.specs.rules.Listing.{eventLineWith}
 use Rattle.listing.specs.rules.Watch.{watchLine}
 use Rattle.listing.proofs.LengthLaws.{watched-short}
-use Rattle.listing.proofs.WroteLaws.{wrote-same}
+use Rattle.words.proofs.WroteLaws.{wrote-same}
 use Rattle.listing.proofs.WatchLaws.{unshown, shown, unwatched, watched}
 use borrow.Author.Needs.{needs}
 use Rattle.listing.proofs.watch.event.Statement.{statement}

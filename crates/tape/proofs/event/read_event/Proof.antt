@@ -7,10 +7,19 @@ use Rattle.tape.specs.rules.Records.{readEvent, eventOf, eventSpare}
 use borrow.Author.Needs.{needs}
 use Rattle.tape.proofs.event.read_event.Statement.{statement}
 use Rattle.tape.proofs.event.read_event.Tie as tie
+use Rattle.tape.proofs.event.read_event.Reads as reads
+use Rattle.tape.proofs.event.read_event.Lts as lts
+use Rattle.tape.proofs.event.event_bytes.Reads as event-bytes-reads
+use Rattle.tape.proofs.event.event_of.Reads as event-of-reads
+use Rattle.tape.proofs.event.event_spare.Reads as event-spare-reads
+use Rattle.tape.proofs.form.event_form.Reads as event-form-reads
+
+event-bytes-requires : tie.Need-event-bytes-requires
+event-bytes-requires c κs = search needs
 
 returns : tie.Need-returns
 unfolding readEvent
-returns c = simp (lt-ltb _ _ (c .if1 .taken))
+returns c = simp (rw (c .before .event-bytes .ensures .0) at (lt-ltb _ _ (c .if1 .taken)))
 
 event-of-requires : tie.Need-event-of-requires
 event-of-requires c κs = search needs
@@ -24,21 +33,24 @@ event-form-requires c κs = search needs
 returns-2 : tie.Need-returns-2
 unfolding readEvent
 returns-2 c =
-    let s = now (c .before .before .before .before .before .before .args .s) in
-    let e : (eventSpare s && eventFormed (eventOf s)) ≡ true = cc in
-    simp (le-ltb _ _ (c .before .before .before .before .if1 .left), e, c .before .before .before .event-of .ensures)
+    let a = c .before .before .before .before .before .before .before .args in
+    let s = now (a .s) in
+    let e : (eventSpare (a .wide) s && eventFormed (eventOf (a .wide) s)) ≡ true = cc in
+    simp (rw (c .before .before .before .before .before .event-bytes .ensures .0) at (le-ltb _ _ (c .before .before .before .before .if1 .left)), e, c .before .before .before .event-of .ensures)
 
 returns-3 : tie.Need-returns-3
 unfolding readEvent
 returns-3 c =
-    let s = now (c .before .before .before .before .before .before .args .s) in
-    let e : (eventSpare s && eventFormed (eventOf s)) ≡ false = cc in
-    simp (le-ltb _ _ (c .before .before .before .before .if1 .left), e)
+    let a = c .before .before .before .before .before .before .before .args in
+    let s = now (a .s) in
+    let e : (eventSpare (a .wide) s && eventFormed (eventOf (a .wide) s)) ≡ false = cc in
+    simp (rw (c .before .before .before .before .before .event-bytes .ensures .0) at (le-ltb _ _ (c .before .before .before .before .if1 .left)), e)
 
 pub read-event-spec : {M : Type 1} → statement M
 read-event-spec =
     tie.close
     (tie.spec
+    event-bytes-requires
     returns
     event-of-requires
     event-spare-requires

@@ -3,6 +3,16 @@ use Rattle.tape.specs.rules.Records.{recordAt}
 use borrow.Author.Needs.{needs}
 use Rattle.tape.proofs.event.record_at.Statement.{statement}
 use Rattle.tape.proofs.event.record_at.Tie as tie
+use Rattle.tape.proofs.event.record_at.Reads as reads
+use Rattle.tape.proofs.event.record_at.Lts as lts
+use Rattle.tape.proofs.event.event_bytes.Reads as event-bytes-reads
+use Rattle.tape.proofs.event.event_of.Reads as event-of-reads
+use Rattle.tape.proofs.event.event_spare.Reads as event-spare-reads
+use Rattle.tape.proofs.event.of_no_kind.Reads as of-no-kind-reads
+use Rattle.words.proofs.bytes.read_word.Reads as read-word-reads
+
+event-bytes-requires : tie.Need-event-bytes-requires
+event-bytes-requires c κs = search needs
 
 read-word-requires : tie.Need-read-word-requires
 read-word-requires c κs = search needs
@@ -12,7 +22,7 @@ of-no-kind-requires c κs = search needs
 
 returns : tie.Need-returns
 unfolding recordAt
-returns c = simp (lt-ltb _ _ (c .before .before .if1 .taken), c .of-no-kind .ensures, c .before .read-word .ensures)
+returns c = simp (rw (c .before .before .before .event-bytes .ensures .0) at (lt-ltb _ _ (c .before .before .if1 .taken)), c .of-no-kind .ensures, c .before .read-word .ensures)
 
 event-spare-requires : tie.Need-event-spare-requires
 event-spare-requires c κs = search needs
@@ -22,7 +32,7 @@ event-of-requires c κs = search needs
 
 returns-2 : tie.Need-returns-2
 unfolding recordAt
-returns-2 c = simp (le-ltb _ _ (c .before .before .before .if1 .left), rw (c .before .before .event-spare .ensures) at (c .before .if2 .taken), c .event-of .ensures)
+returns-2 c = simp (rw (c .before .before .before .before .event-bytes .ensures .0) at (le-ltb _ _ (c .before .before .before .if1 .left)), rw (c .before .before .event-spare .ensures) at (c .before .if2 .taken), c .event-of .ensures)
 
 read-word-requires-2 : tie.Need-read-word-requires-2
 read-word-requires-2 c κs = search needs
@@ -32,12 +42,13 @@ of-no-kind-requires-2 c κs = search needs
 
 returns-3 : tie.Need-returns-3
 unfolding recordAt
-returns-3 c = simp (le-ltb _ _ (c .before .before .before .before .if1 .left), rw (c .before .before .before .event-spare .ensures) at (c .before .before .if2 .left), c .of-no-kind2 .ensures, c .before .read-word2 .ensures)
+returns-3 c = simp (rw (c .before .before .before .before .before .event-bytes .ensures .0) at (le-ltb _ _ (c .before .before .before .before .if1 .left)), rw (c .before .before .before .event-spare .ensures) at (c .before .before .if2 .left), c .of-no-kind2 .ensures, c .before .read-word2 .ensures)
 
 pub record-at-spec : {M : Type 1} → statement M
 record-at-spec =
     tie.close
     (tie.spec
+    event-bytes-requires
     read-word-requires
     of-no-kind-requires
     returns

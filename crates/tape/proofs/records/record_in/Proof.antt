@@ -1,10 +1,22 @@
+use mathlib.Core.Path.{_∙_, ap, subst}
+use Prim.Native.Nat.{ℕ, _*_, _-_, _+_, _≤_}
 use native.Mathlib.Omega.{arith}
+use lib.ListN.{length}
 use denote.Ref.{now}
-use mathlib.Core.Path.{_∙_}
-use Rattle.tape.proofs.RecordLaws.{record-past, record-there}
+use Rattle.tape.proofs.RecordLaws.{records-fit, records-over, record-past, record-there}
 use borrow.Author.Needs.{needs}
 use Rattle.tape.proofs.records.record_in.Statement.{statement}
 use Rattle.tape.proofs.records.record_in.Tie as tie
+use Rattle.tape.proofs.records.record_in.Reads as reads
+use Rattle.tape.proofs.records.record_in.Lts as lts
+use Rattle.tape.proofs.event.event_bytes.Reads as event-bytes-reads
+use Rattle.tape.proofs.event.of_no_kind.Reads as of-no-kind-reads
+use Rattle.tape.proofs.event.record_at.Reads as record-at-reads
+use Rattle.tape.proofs.records.whole_records.Reads as whole-records-reads
+
+-- the record begins before the bytes end
+fits : (c : tie.After-event-bytes) → c .before .before .before .before .before .before .args .k * c .event-bytes .result ≤ length (now (c .before .before .before .before .before .before .args .s)) - (c .before .before .before .before .before .before .args .t .order + 64)
+fits c = rw (c .event-bytes .ensures .0) (records-fit _ _ _ (rw (c .before .before .whole-records .ensures) at (c .before .if2 .left)))
 
 cast-first : tie.Need-cast-first
 cast-first c = search needs
@@ -20,25 +32,31 @@ returns c =
     let a = c .before .before .before .before .args in
     c .of-no-kind .ensures ∙ record-past (now (a .s)) (a .t) (a .k) (omega arith)
 
+whole-records-requires : tie.Need-whole-records-requires
+whole-records-requires c κs = search needs
+
 of-no-kind-requires-2 : tie.Need-of-no-kind-requires-2
 of-no-kind-requires-2 c κs = search needs
 
 returns-2 : tie.Need-returns-2
 returns-2 c =
-    let a = c .before .before .before .before .before .args in
-    c .of-no-kind2 .ensures ∙ record-past (now (a .s)) (a .t) (a .k) (omega arith)
+    let a = c .before .before .before .before .before .before .args in
+    c .of-no-kind2 .ensures ∙ record-past (now (a .s)) (a .t) (a .k) (omega (arith, records-over (a .t .wide) (a .k) _ (rw (c .before .before .whole-records .ensures) at (c .before .if2 .taken))))
+
+event-bytes-requires : tie.Need-event-bytes-requires
+event-bytes-requires c κs = search needs
 
 mul-place : tie.Need-mul-place
-mul-place c = search needs
+mul-place c = omega (arith, fits c)
 
 add-place : tie.Need-add-place
-add-place c = search needs
+add-place c = omega (arith, fits c)
 
 sub-record-at : tie.Need-sub-record-at
-sub-record-at c = search needs
+sub-record-at c = omega (arith, fits c)
 
 part-record-at-start : tie.Need-part-record-at-start
-part-record-at-start c = search needs
+part-record-at-start c = omega (arith, fits c)
 
 part-record-at-end : tie.Need-part-record-at-end
 part-record-at-end c = search needs
@@ -48,8 +66,8 @@ record-at-requires c κs = search needs
 
 returns-3 : tie.Need-returns-3
 returns-3 c =
-    let a = c .before .before .before .before .before .before .args in
-    record-there (now (a .s)) (a .t) (a .k) (c .record-at .ensures)
+    let a = c .before .before .before .before .before .before .before .before .args in
+    record-there (now (a .s)) (a .t) (a .k) (rw (c .before .before .event-bytes .ensures .0) at (c .record-at .ensures))
 
 pub record-in-spec : {M : Type 1} → statement M
 record-in-spec =
@@ -59,8 +77,10 @@ record-in-spec =
     add-first
     of-no-kind-requires
     returns
+    whole-records-requires
     of-no-kind-requires-2
     returns-2
+    event-bytes-requires
     mul-place
     add-place
     sub-record-at

@@ -1,13 +1,16 @@
 use mathlib.Core.Path.{_≡_}
-use mathlib.Core.Bool.{true, false, _&&_}
+use mathlib.Core.Bool.{true, false, _&&_, _||_}
 use lib.Dec.{eqb}
 use borrow.Author.Tests.{le-ltb, lt-ltb}
 use denote.Ref.{now}
 use Rattle.words.specs.rules.Bytes.{wordAt}
-use Rattle.tape.specs.rules.Records.{cubt, trailerOf, readTrailer}
+use Rattle.tape.specs.rules.Records.{cubt, cub2, trailerOf, readTrailer}
 use borrow.Author.Needs.{needs}
 use Rattle.tape.proofs.trailer.read_trailer.Statement.{statement}
 use Rattle.tape.proofs.trailer.read_trailer.Tie as tie
+use Rattle.tape.proofs.trailer.read_trailer.Reads as reads
+use Rattle.tape.proofs.trailer.read_trailer.Lts as lts
+use Rattle.words.proofs.bytes.read_word.Reads as read-word-reads
 
 returns : tie.Need-returns
 unfolding readTrailer
@@ -29,14 +32,14 @@ returns-2 : tie.Need-returns-2
 unfolding readTrailer trailerOf
 returns-2 c =
     let s = now (c .before .before .before .before .before .before .before .args .s) in
-    let e : (eqb (wordAt s 0) cubt && eqb (wordAt s 12) 0) ≡ true = cc in
-    simp (le-ltb _ _ (c .before .before .before .before .before .if1 .left), e, c .before .read-word3 .ensures, c .read-word4 .ensures)
+    let e : ((eqb (wordAt s 0) cubt || eqb (wordAt s 0) cub2) && eqb (wordAt s 12) 0) ≡ true = cc in
+    simp (le-ltb _ _ (c .before .before .before .before .before .if1 .left), e, c .before .before .before .before .read-word .ensures, c .before .read-word3 .ensures, c .read-word4 .ensures)
 
 returns-3 : tie.Need-returns-3
 unfolding readTrailer
 returns-3 c =
     let s = now (c .before .before .before .before .before .args .s) in
-    let e : (eqb (wordAt s 0) cubt && eqb (wordAt s 12) 0) ≡ false = cc in
+    let e : ((eqb (wordAt s 0) cubt || eqb (wordAt s 0) cub2) && eqb (wordAt s 12) 0) ≡ false = cc in
     simp (le-ltb _ _ (c .before .before .before .if1 .left), e)
 
 pub read-trailer-spec : {M : Type 1} → statement M

@@ -13,6 +13,9 @@ returns c =
     let a = c .before .before .args in
     wrote-short 24 (trailerWords (a .t)) (now (a .out)) refl (omega arith)
 
+name-of-requires : tie.Need-name-of-requires
+name-of-requires c κs = search needs
+
 slice-aggregate-write-words : tie.Need-slice-aggregate-write-words
 slice-aggregate-write-words c = search needs
 
@@ -25,10 +28,16 @@ same-length c = search needs
 returns-2 : tie.Need-returns-2
 unfolding trailerAnswer trailerWrote trailerWords
 returns-2 c =
-    let a = c .before .before .before .before .before .before .before .args in
+    let a = c .before .before .before .before .before .before .before .before .args in
     wrote-done 24 (trailerWords (a .t)) (now (a .out)) refl (omega arith) (cc)
 
 pub write-trailer-spec : {M : Type 1} → statement M
 write-trailer-spec =
     tie.close
-    (tie.spec returns slice-aggregate-write-words write-words-requires same-length returns-2)
+    (tie.spec
+    returns
+    name-of-requires
+    slice-aggregate-write-words
+    write-words-requires
+    same-length
+    returns-2)

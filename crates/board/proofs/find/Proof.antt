@@ -1,4 +1,4 @@
--- `board::find_gtx` meets its contract. The invariant: a search of the places still to come finds what a search of all finds. Assumes nothing.
+-- `board::find` meets its contract. The invariant: a search of the places still to come finds what a search of all finds. Assumes nothing.
 use Prim.Native.Nat.{ℕ, _^_, _<_}
 use mathlib.Core.Path.{_≡_, sym, ap, _∙_}
 use native.Mathlib.Omega.{arith}
@@ -6,19 +6,19 @@ use borrow.Author.Needs.{needs}
 use lib.ListN.{length, List·getD-eq-default}
 use Rattle.words.specs.rules.Bits.{withoutBit}
 use Rattle.words.proofs.BitLaws.{without-le, without-lt, without-lowest, LowestBit, lowest-set}
-use Rattle.board.specs.rules.Board.{noResponse, responseAt, findIn, isGtx, findGtx}
+use Rattle.board.specs.rules.Board.{noResponse, responseAt, findIn, isNamed, findNamed}
 use Rattle.board.specs.declared.Response.{Response}
 use Rattle.base.proofs.ListLaws.{length-mapped}
 use Rattle.board.proofs.FindLaws.{find-low, find-rest, find-none}
-use Rattle.board.proofs.find_gtx.Statement.{statement}
-use Rattle.board.proofs.find_gtx.Tie as tie
+use Rattle.board.proofs.find.Statement.{statement}
+use Rattle.board.proofs.find.Tie as tie
 
 abbrev Inv-loop : tie.InvT-loop
-Inv-loop sequence b rest₀ rest =
-    (rest < 2 ^ 64) × (findIn (isGtx sequence) rest (b .places) ≡ findGtx b sequence)
+Inv-loop sequence any b rest₀ rest =
+    (rest < 2 ^ 64) × (findIn (isNamed any sequence) rest (b .places) ≡ findNamed any b sequence)
 
 abbrev μ-loop : tie.MeasureT-loop
-μ-loop sequence b rest₀ rest = rest
+μ-loop sequence any b rest₀ rest = rest
 
 len : (c : tie.Start Inv-loop μ-loop) → length (c .args .t1 .places) ≡ 64
 len c = search (needs, length-mapped)
@@ -42,8 +42,8 @@ mul-r c = omega (arith, low c .place)
 element-copy-out-r : tie.Need-element-copy-out-r Inv-loop μ-loop
 element-copy-out-r c = low c .place
 
-is-gtx-requires : tie.Need-is-gtx-requires Inv-loop μ-loop
-is-gtx-requires c κs = search needs
+is-named-requires : tie.Need-is-named-requires Inv-loop μ-loop
+is-named-requires c κs = search needs
 
 returns : tie.Need-returns Inv-loop μ-loop
 returns c =
@@ -52,7 +52,7 @@ returns c =
     let i = f .first-set .result in
     let h : i < length (s .args .t1 .places) = omega (arith, len s, low f .place) in
     ap (λ (j : ℕ). record { place = j; response = responseAt (s .args .t1 .places) j })
-    (sym (find-low (isGtx (s .args .sequence)) (f .before .before .loop .rest) (s .args .t1 .places) noResponse i h (low f) (sym (c .before .is-gtx .ensures) ∙ c .if1 .taken))
+    (sym (find-low (isNamed (s .args .any) (s .args .sequence)) (f .before .before .loop .rest) (s .args .t1 .places) noResponse i h (low f) (sym (c .before .is-named .ensures) ∙ c .if1 .taken))
     ∙ f .before .before .loop .inv .1)
 
 without-lowest-requires : tie.Need-without-lowest-requires Inv-loop μ-loop
@@ -72,11 +72,11 @@ loop-again c =
     let f = c .before .before .before .before in
     let l = f .before .before in
     let s = l .before in
-    let t = isGtx (s .args .sequence) in
+    let t = isNamed (s .args .any) (s .args .sequence) in
     let ps = s .args .t1 .places in (
       omega (arith, left c, without-le (l .loop .rest) (f .first-set .result)),
       ap (λ (v : ℕ). findIn t v ps) (left c)
-          ∙ find-rest t (l .loop .rest) ps noResponse (f .first-set .result) (sym (c .before .before .is-gtx .ensures) ∙ c .before .if1 .left)
+          ∙ find-rest t (l .loop .rest) ps noResponse (f .first-set .result) (sym (c .before .before .is-named .ensures) ∙ c .before .if1 .left)
           ∙ l .loop .inv .1,
     )
 
@@ -87,14 +87,14 @@ returns-2 : tie.Need-returns-2 Inv-loop μ-loop
 returns-2 c =
     let e = c .before in
     let s = e .before .before in
-    let t = isGtx (s .args .sequence) in
+    let t = isNamed (s .args .any) (s .args .sequence) in
     let ps = s .args .t1 .places in
-    let none : 64 ≡ findGtx (s .args .t1) (s .args .sequence) = sym (ap (λ (v : ℕ). findIn t v ps) (e .loop-test .left) ∙ find-none t ps ∙ len s) ∙ e .before .loop .inv .1 in
+    let none : 64 ≡ findNamed (s .args .any) (s .args .t1) (s .args .sequence) = sym (ap (λ (v : ℕ). findIn t v ps) (e .loop-test .left) ∙ find-none t ps ∙ len s) ∙ e .before .loop .inv .1 in
     let nobody : c .no-response .result ≡ responseAt ps 64 = c .no-response .ensures ∙ sym (List·getD-eq-default ps noResponse (omega (arith, len s))) in
     ap (λ (r : Response). record { place = 64; response = r }) nobody ∙ ap (λ (j : ℕ). record { place = j; response = responseAt ps j }) none
 
-pub find-gtx-spec : {M : Type 1} → statement M
-find-gtx-spec =
+pub find-spec : {M : Type 1} → statement M
+find-spec =
     tie.close
     (tie.spec
     Inv-loop
@@ -104,7 +104,7 @@ find-gtx-spec =
     cast-i
     mul-r
     element-copy-out-r
-    is-gtx-requires
+    is-named-requires
     returns
     without-lowest-requires
     loop-less

@@ -6,7 +6,7 @@ use lib.ListN.{length, length-append}
 use lib.Seq.{sets}
 use Rattle.base.proofs.SetsLaws.{sets-append}
 use Rattle.base.proofs.WriteLaws as Writers
-use Rattle.listing.specs.inside.Code.{WroteBytes, LeftBytes}
+use Rattle.words.specs.inside.Writing.{WroteBytes, LeftBytes}
 
 pub wrote-append : {xs ys zs : List ℕ} {at next last : ℕ} {s t : List ℕ} → WroteBytes xs at s next ys → WroteBytes ys next t last zs → WroteBytes xs at (s ++ t) last zs
 wrote-append a b = Writers.wrote-append sets-append length-append a b

@@ -1,0 +1,2 @@
+-- What the private functions say.
+pub mod Code

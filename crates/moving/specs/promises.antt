@@ -1,0 +1,2 @@
+-- Statements of theorems.
+pub mod Moves

@@ -1,0 +1,2 @@
+-- A tape moved from one form to the other.
+pub mod Moving
