@@ -86,9 +86,11 @@ static void out_of_order(uint32_t size)
     respond(size, 950);
 }
 
+static size_t form;             /* of the tape that is made */
+
 static void tape_of(struct peer_order o)
 {
-    length[0] = build_tape(tapes[0], &o, event, n_events);
+    length[0] = build_tape(tapes[0], form, &o, event, n_events);
     n_tapes = 1;
 }
 
@@ -181,13 +183,14 @@ static void shared_out(int market)
     tape(PEER_MATCH);
 }
 
-/* Cases by name: KIND-COUNT, where COUNT is how many responses stand. */
+/* Cases by name: KIND-COUNT, where COUNT is how many responses stand; new_KIND-COUNT is the same on a tape of the new form. */
 static int make(const char *name)
 {
     char kind[32];
     int n = 0, i;
 
-    if (sscanf(name, "%31[a-z_]-%d", kind, &n) < 1)
+    form = strncmp(name, "new_", 4) == 0 ? PEER_NEW : PEER_OLD;
+    if (sscanf(name + (form == PEER_NEW ? 4 : 0), "%31[a-z_]-%d", kind, &n) < 1)
         return 0;
     n_events = 0;
     sequence = FIRST;
@@ -267,6 +270,7 @@ static int make(const char *name)
 static const char *const cases[] = {
     "refused", "order", "collared", "standing-0", "standing-1", "standing-8", "standing-63", "quotes-0", "quotes-8", "quotes-63", "pairs-0", "pairs-8", "pairs-63",
     "amended-1", "amended-8", "amended-63",
+    "new_order", "new_standing-8", "new_quotes-8", "new_pairs-8",
     "limits-8", "resent-8", "shared-1", "shared-8", "shared-40", "shared-64", "shared_market-0", "shared_market-1", "shared_market-8", "shared_market-40",
     "shared_market-64", "whole-40", "whole-64", "whole_market-0", "whole_market-40", "whole_market-64", "apart-40", "apart-64", "apart_market-0",
     "apart_market-40", "apart_market-64", "short-40", "short-64", "short_market-0", "short_market-40", "short_market-64",

@@ -2,7 +2,7 @@
  *
  * `rt staticlib engine` writes target/staticlib/libengine.a, for x86-64 Linux; examples/embed.c says how to link it.
  * One function, from a tape's bytes to the bytes of its listing. It keeps nothing between calls, so several threads may call it at once.
- * It takes at most 3 KB of stack, whatever the tape is, and no other memory than what is handed over. */
+ * It takes at most 3,328 bytes of stack, whatever the tape is, and no other memory than what is handed over. */
 #ifndef CUBE_H
 #define CUBE_H
 

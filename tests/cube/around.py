@@ -34,7 +34,7 @@ class Around(Case):
             subprocess.run(["c++", "-x", "c++", "-fsyntax-only", "-Wall", "-Werror", os.path.join(ROOT, "include", "cube.h")], check=True)
 
     def test_the_stack_of_a_listing(self):
-        """At most 3 KB, whatever number of prices there is, as the header says; and what measures it fails above that."""
+        """At most 3,328 bytes, whatever number of prices there is, as the header says; and what measures it fails above that."""
         if platform.machine() != "x86_64":
             raise unittest.SkipTest("the static library is for x86-64")
         made = subprocess.run([os.path.join(ROOT, "bench", "run"), "--stack"], cwd=ROOT, stdout=subprocess.PIPE, stderr=subprocess.STDOUT, text=True)

@@ -6,7 +6,7 @@ use Prim.Native.Nat.{ℕ, zero, suc}
 use lib.ListN.{replicate}
 use Rattle.words.specs.rules.Bits.{withBit, withoutBit, onesIn, clearIn}
 use Rattle.base.specs.Lists.{sum}
-use Rattle.board.specs.rules.Board.{noResponse, emptyBoard, liveCount, firstFree, liveIn, liveOf, seatedAt, cleared, findIn, findGtx, inserted, inSequence}
+use Rattle.board.specs.rules.Board.{noResponse, emptyBoard, liveCount, firstFree, liveIn, liveOf, seatedAt, cleared, findIn, findNamed, findGtx, inserted, inSequence}
 use Rattle.board.specs.inside.Places.{wordOf, lowestFrom, firstInSequence}
 use Rattle.board.specs.declared.Response.{Response}
 use Rattle.board.specs.declared.Board.{Board}
@@ -80,6 +80,11 @@ clear-past = refl
 find-seven : findGtx some 7 ≡ 63
 unfolding findIn
 find-seven = refl
+
+-- any response, and not a GTX response alone: the limit order
+find-any : findNamed true some 7 ≡ 2
+unfolding findIn
+find-any = refl
 
 find-eight : findGtx some 8 ≡ 64
 unfolding findIn

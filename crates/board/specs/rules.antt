@@ -1,2 +1,2 @@
--- The board, as document 01 has it.
+-- The board, as documents 01 and 02 have it.
 pub mod Board

@@ -1,5 +1,6 @@
 -- Listings and watches by computation.
 use mathlib.Core.Path.{_≡_, refl}
+use mathlib.Core.Bool.{Bool, true, false}
 use mathlib.Core.List.{List, [], _∷_}
 use Prim.Native.Nat.{ℕ}
 use Rattle.words.specs.rules.Bytes.{wordAt}
@@ -23,9 +24,10 @@ pub case-c : listingOf exampleTape ≡ exampleListing
 unfolding Lists
 case-c = refl
 
-pub case-e : listingOf tapeE ≡ listingE
+pub case-e : (wide : Bool) → listingOf (tapeE wide) ≡ listingE
 unfolding Lists
-case-e = refl
+case-e true = refl
+case-e false = refl
 
 pub watch-c : watchLines (acceptOf exampleOrder .auction) (exampleResponse ∷ exampleResponse ∷ []) ≡ watchC
 unfolding Lists

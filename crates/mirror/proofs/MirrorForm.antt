@@ -17,7 +17,7 @@ use Rattle.mirror.specs.promises.Records.{RecordsMirror}
 use Rattle.mirror.proofs.MarkLaws.{marks-mirror, marks-twice, marks-below}
 use Rattle.mirror.specs.rules.Mirror.{mirroredMarks, mirroredSide, mirroredUnless, mirroredOrder, mirroredPriced, mirroredMarket, mirroredQuotes, mirroredAmend, mirroredEvent, buyOrder}
 use Rattle.base.proofs.Bools.{by}
-use Rattle.mirror.proofs.EventLaws.{mirror-one, mirror-three, mirror-four, mirror-five, mirror-six, mirror-rest, mirror-by}
+use Rattle.mirror.proofs.EventLaws.{mirror-one, mirror-three, mirror-four, mirror-five, mirror-six, mirror-rest, mirror-by, mirror-participant}
 
 pub side-twice : (s : ℕ) → mirroredSide (mirroredSide s) ≡ s
 unfolding mirroredSide
@@ -289,6 +289,7 @@ records-mirror =
       event-twice = event-twice;
       order-form = order-form;
       event-form = event-form;
+      participant = mirror-participant;
       collared = order-collared;
       other-side = other-side;
       same-buy = buy-mirrored;

@@ -6,9 +6,8 @@ use Prim.Native.Nat.{ℕ, suc, _+_, _*_, _-_, _≤_, _<_}
 use native.Mathlib.Nat.{suc-mul, zero-add}
 use native.Mathlib.Omega.{arith}
 use borrow.Rule.Slice.PartMut.{putMid}
-use lib.Dec.{eqb}
 use lib.ListN.{length, take, drop, length-drop, length-map, take-append-drop}
-use lib.Seq.{sets, sets-eq, take-all, take-take, take-add, drop-drop, length-take-le}
+use lib.Seq.{sets, sets-eq, take-take, take-add, drop-drop, length-take-le}
 use Rattle.base.proofs.SetsLaws.{part-back, rest-is, sets-front}
 use Rattle.words.specs.rules.Bytes.{wordBytes, wordAt}
 use Rattle.words.specs.inside.Writing.{WroteBytes, LeftBytes}
@@ -16,7 +15,7 @@ use Rattle.words.proofs.ByteLaws.{word-alone, length-wordBytes}
 use Rattle.words.proofs.WroteLaws.{wrote-append, left-same, left-wrote}
 use Rattle.tape.specs.declared.trailer.Trailer.{Trailer}
 use Rattle.tape.specs.rules.Records.{widthOf, trailerWords, trailerWrote}
-use Rattle.tape.specs.rules.Tape.{lengthOf, trailerFor}
+use Rattle.tape.specs.rules.Tape.{lengthOf}
 use Rattle.tape.specs.rules.Whole.{together, parts, tapeWith, ownBytes, orderBytes, recordsBytes}
 use Rattle.roundtrip.proofs.RoundTrip.{wrote-is, trailer-length}
 use Rattle.roundtrip.proofs.Whole.{together-long, each-long, same-trailer}

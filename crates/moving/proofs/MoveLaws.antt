@@ -2,7 +2,7 @@
 use mathlib.Core.Path.{_≡_, refl, sym, ap, subst, _∙_}
 use mathlib.Core.Bool.{Bool, true, false, not, true≢false}
 use mathlib.Core.List.{List, [], _∷_, _++_, map, append-nil}
-use Prim.Native.Nat.{ℕ, suc, _+_, _*_, _≤_, _<_}
+use Prim.Native.Nat.{ℕ, _+_, _≤_, _<_}
 use native.Mathlib.Omega.{arith}
 use lib.Dec.{eqb}
 use lib.ListN.{length, getD, take, drop, length-append, length-map, take-append-drop, drop-of-length-le}
@@ -20,7 +20,7 @@ use Rattle.tape.specs.rules.Tape.{lengthOf, openTape, orderIn, recordsOf, trail
 use Rattle.tape.specs.rules.Whole.{tapeWith, ownBytes, orderBytes, recordsBytes}
 use Rattle.tape.proofs.RecordLaws.{width-ge}
 use Rattle.tape.proofs.HoldsLaws.{tape-last}
-use Rattle.roundtrip.specs.promises.Demands.{Fitting, AnyRecords, MadeOf}
+use Rattle.roundtrip.specs.promises.Demands.{AnyRecords, MadeOf}
 use Rattle.roundtrip.proofs.Whole.{Long, tape-long, own-with, order-with, records-with, any-records, records-bytes, same-trailer, made-of}
 use Rattle.moving.specs.rules.Moving.{movedRecord, movedTrailer, movedTape, isBare, allBare}
 
@@ -167,7 +167,7 @@ module _ (wide : Bool) (s : List ℕ) (t : Trailer) (h : openTape s ≡ Tape t) 
   unfolding movedTape
   moved-order = ap (orderBytes (tapeWith wide own order rs)) (sym trailer) ∙ order-with wide own order rs (made .fitting .order-long) long
 
-  moved-records : recordsBytes (movedTape wide s t) (movedTrailer wide t) ≡ rs
+  pub moved-records : recordsBytes (movedTape wide s t) (movedTrailer wide t) ≡ rs
   unfolding movedTape
   moved-records = ap (recordsBytes (tapeWith wide own order rs)) (sym trailer) ∙ records-with wide own order rs (made .fitting .order-long) long
 

@@ -1,5 +1,5 @@
 -- The public function's contract settles it. What is cited is made from the code's own clauses, so a clause that says less is refused here.
-use mathlib.Core.Path.{refl, sym, _∙_, ap}
+use mathlib.Core.Path.{sym, _∙_, ap}
 use Rattle.base.specs.Settled.{Settled}
 use Rattle.moving.proofs as contracts
 

@@ -1,16 +1,16 @@
 -- What is promised of moving a tape.
 use mathlib.Core.Path.{_≡_, refl, sym, ap, subst, _∙_}
 use mathlib.Core.Bool.{Bool, true, false, cond, not, _&&_, _||_, true≢false}
-use mathlib.Core.List.{List, [], _∷_, _++_, map}
-use mathlib.Core.Logic.{inl, inr}
-use Prim.Native.Nat.{ℕ, _-_, _≤_}
+use mathlib.Core.List.{List, [], _∷_, _++_}
+use mathlib.Core.Logic.{_⊎_, _≢_, inl, inr}
+use Prim.Native.Nat.{ℕ, _-_, _≤_, _<_}
 use native.Mathlib.Omega.{arith}
 use lib.Dec.{ltb, eqb}
 use lib.ListN.{length, take, drop}
 use lib.Seq.{take-at, drop-at}
-use borrow.Author.Tests.{le-ltb, ltb-true, ltb-false, eq-eqb, eqb-true, not-false}
-use Rattle.base.specs.Lists.{In}
-use Rattle.base.proofs.Bools.{by}
+use borrow.Author.Tests.{lt-ltb, le-ltb, ltb-true, ltb-false, eq-eqb, ne-eqb, eqb-true, not-false}
+use Rattle.base.specs.Lists.{In, Every}
+use Rattle.base.proofs.Bools.{by, and-both, and-no-left, and-no-right}
 use Rattle.words.specs.rules.Bytes.{AllBytes, wordAt}
 use Rattle.tape.specs.declared.trailer.Trailer.{Trailer}
 use Rattle.tape.specs.declared.trailer.ReadTrailer.{ReadTrailer}
@@ -21,11 +21,10 @@ use Rattle.tape.specs.rules.Tape.{lengthOf, lastTrailer, openTape, orderIn, rec
 use Rattle.tape.specs.rules.Whole.{ownBytes, orderBytes, recordsBytes}
 use Rattle.tape.proofs.RecordLaws.{at-least}
 use Rattle.tape.proofs.HoldsLaws.{tape-took, tape-last, trailer-took, tape-opens}
-use Rattle.moving.specs.declared.Moved.{Moved}
 use Rattle.moving.specs.declared.Moved.the-variants.{Length, Refused}
 use Rattle.moving.specs.rules.Moving.{hasForm, movedRecord, movedTrailer, movedTape, movedBytes, isBare, allBare, moveOpened, moveWith, moveAnswer, bytesWith, moveWrote}
-use Rattle.moving.specs.promises.Moves.{movedTo, Done, Moves}
-use Rattle.moving.proofs.MoveLaws.{moved-length, moved-own, moved-order, moved-all-bare, moved-opens, same-order, same-records, tape-again}
+use Rattle.moving.specs.promises.Moves.{movedTo, HasMoved, Moves}
+use Rattle.moving.proofs.MoveLaws.{moved-length, moved-own, moved-order, moved-records, moved-all-bare, moved-opens, same-order, same-records, tape-again}
 
 -- ---- the tests that led to an answer
 
@@ -78,18 +77,71 @@ takes wide s out n h = go (lastTrailer s) refl h
           long = k .5;
         }
 
--- ---- what moves
+-- ---- each answer, by the tests before it
 
-pub moves : (wide : Bool) (s out : List ℕ) (t : Trailer) → openTape s ≡ Tape t → hasForm t wide ≡ false → (wide ≡ false → allBare (recordsBytes s t) ≡ true)
-    → lengthOf (movedTrailer wide t) ≤ 65536 → lengthOf (movedTrailer wide t) ≤ length out → moveAnswer wide s out ≡ Length (lengthOf (movedTrailer wide t))
+form-other : (wide : Bool) (t : Trailer) → t .wide ≡ not wide → hasForm t wide ≡ false
+form-other true t h = h
+form-other false t h = ap not h
+
+form-same : (wide : Bool) (t : Trailer) → t .wide ≡ wide → hasForm t wide ≡ true
+form-same true t h = h
+form-same false t h = ap not h
+
+no-trailer : (wide : Bool) (s out : List ℕ) (number : ℕ) → lastTrailer s ≡ NoTrailer number → moveAnswer wide s out ≡ Refused number
+unfolding moveAnswer
+no-trailer wide s out number e = ap (moveWith wide s out) e
+
+already : (wide : Bool) (s out : List ℕ) (t : Trailer) → lastTrailer s ≡ GotTrailer t → t .wide ≡ wide → moveAnswer wide s out ≡ Refused 22
 unfolding moveAnswer moveOpened
-moves wide s out t h f b l r =
-    let k = tape-last s t h in
-    simp (k .1, f, eq-eqb (lengthOf t) (length s) (k .0), bare wide (allBare (recordsBytes s t)) b, le-ltb 65536 _ l, le-ltb (length out) _ r)
+already wide s out t e f = simp (e, form-same wide t f)
+
+not-adding : (wide : Bool) (s out : List ℕ) (t : Trailer) → lastTrailer s ≡ GotTrailer t → t .wide ≡ not wide → lengthOf t ≢ length s → moveAnswer wide s out ≡ Refused 23
+unfolding moveAnswer moveOpened
+not-adding wide s out t e f n = simp (e, form-other wide t f, ne-eqb (lengthOf t) (length s) n)
+
+module _ (wide : Bool) (s out : List ℕ) (t : Trailer) (h : openTape s ≡ Tape t) (f : t .wide ≡ not wide) where
+  -- of a tape of the other form, what is answered is told by the last three tests
+  by-tests : (c d g : Bool) → (wide || allBare (recordsBytes s t)) ≡ c → ltb 65536 (lengthOf (movedTrailer wide t)) ≡ d → ltb (length out) (lengthOf (movedTrailer wide t)) ≡ g
+      → moveAnswer wide s out ≡ cond (not c) (Refused 25) (cond d (Refused 26) (cond g (Refused 24) (Length (lengthOf (movedTrailer wide t)))))
+  unfolding moveAnswer moveOpened
+  by-tests c d g x y z = let k = tape-last s t h in simp (k .1, form-other wide t f, eq-eqb (lengthOf t) (length s) (k .0), x, y, z)
+
+  module _ (b : wide ≡ false → allBare (recordsBytes s t) ≡ true) (l : lengthOf (movedTrailer wide t) ≤ 65536) where
+    bare : (wide || allBare (recordsBytes s t)) ≡ true
+    bare = go wide (allBare (recordsBytes s t)) b
+      where
+        go : (w x : Bool) → (w ≡ false → x ≡ true) → (w || x) ≡ true
+        go true x b = refl
+        go false x b = b refl
+
+    no-room : length out < lengthOf (movedTrailer wide t) → moveAnswer wide s out ≡ Refused 24
+    no-room r = by-tests true false true bare (le-ltb 65536 _ l) (lt-ltb (length out) _ r)
+
+    moves : lengthOf (movedTrailer wide t) ≤ length out → moveAnswer wide s out ≡ Length (lengthOf (movedTrailer wide t))
+    moves r = by-tests true false false bare (le-ltb 65536 _ l) (le-ltb (length out) _ r)
+
+-- where the two words of each are 0, all are bare
+all-zero : (rs : List (List ℕ)) → Every (λ r. (wordAt r 32 ≡ 0) × (wordAt r 36 ≡ 0)) rs → allBare rs ≡ true
+unfolding allBare
+all-zero [] z = refl
+all-zero (r ∷ rs) z = and-both (and-both (eq-eqb (wordAt r 32) 0 (z .0 .0)) (eq-eqb (wordAt r 36) 0 (z .0 .1))) (all-zero rs (z .1))
+
+too-long : (s out : List ℕ) (t : Trailer) → openTape s ≡ Tape t → t .wide ≡ false → 65536 < lengthOf (movedTrailer true t) → moveAnswer true s out ≡ Refused 26
+too-long s out t h f l = by-tests true s out t h f true true (ltb (length out) (lengthOf (movedTrailer true t))) refl (lt-ltb 65536 _ l) refl
+
+-- one record that is not bare is enough
+not-bare : (rs : List (List ℕ)) (r : List ℕ) → In r rs → isBare r ≡ false → allBare rs ≡ false
+unfolding allBare
+not-bare [] r i b = absurd i
+not-bare (x ∷ rs) r (inl e) b = ap (λ (y : List ℕ). isBare y && allBare rs) (sym e) ∙ and-no-left (allBare rs) b
+not-bare (x ∷ rs) r (inr i) b = and-no-right (isBare x) (not-bare rs r i b)
+
+laden : (s out : List ℕ) (t : Trailer) (r : List ℕ) → openTape s ≡ Tape t → t .wide ≡ true → In r (recordsBytes s t) → (wordAt r 32 ≢ 0) ⊎ (wordAt r 36 ≢ 0) → moveAnswer false s out ≡ Refused 25
+laden s out t r h f i w = by-tests false s out t h f false _ _ (not-bare (recordsBytes s t) r i (some w)) refl refl
   where
-    bare : (w x : Bool) → (w ≡ false → x ≡ true) → not (w || x) ≡ false
-    bare true x b = refl
-    bare false x b = ap not (b refl)
+    some : (wordAt r 32 ≢ 0) ⊎ (wordAt r 36 ≢ 0) → isBare r ≡ false
+    some (inl n) = and-no-left (eqb (wordAt r 36) 0) (ne-eqb (wordAt r 32) 0 n)
+    some (inr n) = and-no-right (eqb (wordAt r 32) 0) (ne-eqb (wordAt r 36) 0 n)
 
 -- the lent bytes, where a tape moves and where it does not
 wrote : (wide : Bool) (s out : List ℕ) (t : Trailer) (n : ℕ) → lastTrailer s ≡ GotTrailer t → moveAnswer wide s out ≡ Length n → moveWrote wide s out ≡ movedBytes wide s t out
@@ -137,18 +189,19 @@ module _ (wide : Bool) (s out : List ℕ) (n : ℕ) (h : moveAnswer wide s out �
       let m : lengthOf (movedTrailer (not wide) (movedTrailer wide t)) ≡ length s = ap lengthOf again ∙ k .adds in
       let fits : length s ≤ 65536 = tape-took s t opened .0 in
       let moved : moveAnswer (not wide) (movedTape wide s t) out′ ≡ Length (length s) =
-      moves (not wide) (movedTape wide s t) out′ (movedTrailer wide t) opens (form wide) (moved-all-bare wide s t opened (k .other)) (omega arith) (omega arith) ∙ ap Length m in (
+      moves (not wide) (movedTape wide s t) out′ (movedTrailer wide t) opens (twice wide) (moved-all-bare wide s t opened (k .other)) (omega arith) (omega arith) ∙ ap Length m in (
         moved,
         wrote (not wide) (movedTape wide s t) out′ (movedTrailer wide t) (length s) (tape-last (movedTape wide s t) (movedTrailer wide t) opens .1) moved
             ∙ ap (λ (x : List ℕ). x ++ drop (lengthOf (movedTrailer (not wide) (movedTrailer wide t))) out′) (tape-again wide s t opened (k .other) (k .bare) a)
             ∙ ap (λ (j : ℕ). s ++ drop j out′) m,
       )
     where
-      form : (w : Bool) → hasForm (movedTrailer w t) (not w) ≡ false
-      form true = refl
-      form false = refl
+      twice : (w : Bool) → w ≡ not (not w)
+      twice true = refl
+      twice false = refl
 
-  pub done : Done wide s out n
+  pub done : HasMoved wide s out n
+  unfolding movedRecord
   done =
       record {
         trailer = t;
@@ -161,6 +214,7 @@ module _ (wide : Bool) (s out : List ℕ) (n : ℕ) (h : moveAnswer wide s out �
         opens = ap openTape is ∙ opens;
         own = ap (λ (x : List ℕ). ownBytes x (movedTrailer wide t)) is ∙ moved-own wide s t opened (k .other);
         order-bytes = ap (λ (x : List ℕ). orderBytes x (movedTrailer wide t)) is ∙ moved-order wide s t opened (k .other);
+        record-bytes = ap (λ (x : List ℕ). recordsBytes x (movedTrailer wide t)) is ∙ moved-records wide s t opened (k .other);
         order = ap (λ (x : List ℕ). orderIn x (movedTrailer wide t)) is ∙ same-order wide s t opened (k .other) (k .short);
         records = ap (λ (x : List ℕ). recordsOf x (movedTrailer wide t)) is ∙ same-records wide s t opened (k .other) (k .short) (k .bare);
         back = λ a out′ room.
@@ -245,4 +299,18 @@ only-new s out h = go (lastTrailer s) refl h
         omega (arith, ltb-true 65536 m (g .1), adds, trailer-took s t e .0, at-least (t .wide) (t .events))
 
 pub all-moves : Moves
-all-moves = record { done = done; numbers = numbers; keeps = keeps; moves = moves; only-back = only-back; only-new = only-new }
+all-moves =
+    record {
+      done = done;
+      numbers = numbers;
+      keeps = keeps;
+      no-trailer = no-trailer;
+      already = already;
+      not-adding = not-adding;
+      laden = laden;
+      too-long = too-long;
+      no-room = λ wide s out t h f z. no-room wide s out t h f (λ e. all-zero (recordsBytes s t) (z e));
+      moves = λ wide s out t h f z. moves wide s out t h f (λ e. all-zero (recordsBytes s t) (z e));
+      only-back = only-back;
+      only-new = only-new;
+    }

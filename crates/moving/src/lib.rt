@@ -9,7 +9,7 @@ ghost use Rattle.tape.specs.rules.Tape.{lengthOf};
 ghost use Rattle.tape.specs.rules.Whole.{together, recordsBytes};
 ghost use Rattle.moving.specs.rules.Moving.{hasForm, movedTrailer, isBare, allBare, movedRecord, movedBytes, moveOpened, moveAnswer, moveWrote};
 ghost use Rattle.words.specs.inside.Writing.{WroteBytes};
-ghost use Rattle.moving.specs.inside.Code.{Moves};
+ghost use Rattle.moving.specs.inside.Code.{MovesOpened};
 use tape::ORDER_BYTES;
 use tape::ReadTrailer;
 use tape::Trailer;
@@ -134,7 +134,7 @@ fn put_tape(wide: bool, t: Trailer, s: &[u8], out: &mut [u8])
 
 // A tape whose trailer was read: 22 where it has the wanted form already, 23, 25, 26, 24.
 fn move_opened(wide: bool, t: Trailer, s: &[u8], out: &mut [u8]) -> Moved
-    ensures { λ r. ⌜ Moves wide (now (s .entry)) t (now (out .entry)) r (now (out .exit)) ⌝ }
+    ensures { λ r. ⌜ MovesOpened wide (now (s .entry)) t (now (out .entry)) r (now (out .exit)) ⌝ }
 {
     if has_form(t, wide) {
         return Moved::Refused(22);

@@ -16,7 +16,7 @@ use Rattle.run.proofs.OnOffer.{on-offer}
 use Rattle.run.proofs.SoundLaws.{demanded}
 use Rattle.run.proofs.Mirrors.{mirrors}
 use Rattle.run.proofs.LentLaws.{in-place}
-use Rattle.run.proofs.Figures.{figures}
+use Rattle.run.proofs.Figures.{figures, firm-figures}
 use Rattle.listing.proofs.Theorems.{demands as listings}
 use Rattle.listing.proofs.WatchLaws.{watching}
 use Rattle.promise.specs.promises.Below.{Below}
@@ -46,6 +46,7 @@ below =
       mirrors = mirrors;
       in-place = in-place;
       figures = figures;
+      firm-figures = firm-figures;
       listings = listings;
       watching = watching;
     }

@@ -61,5 +61,5 @@ tape-at {s} c = opened-is (openTape s) (c .trailer) (c .opened)
 pub order-at : {s : List ℕ} {o : Order} {es : List Event} (c : Carries s o es) → orderIn s (c .trailer) ≡ GotOrder o
 order-at {s} {o} c = order-is (orderIn s (c .trailer)) o (c .order)
 
-pub carry : (s : List ℕ) (o : Order) (es : List Event) (t : Trailer) → openTape s ≡ Tape t → orderIn s t ≡ GotOrder o → recordsOf s t ≡ es → Carries s o es
+abbrev pub carry : (s : List ℕ) (o : Order) (es : List Event) (t : Trailer) → openTape s ≡ Tape t → orderIn s t ≡ GotOrder o → recordsOf s t ≡ es → Carries s o es
 carry s o es t p q r = record { trailer = t; opened = ap openedIs p; order = ap orderIs q; records = r }

@@ -289,7 +289,7 @@ module _ (o : Order) (es : List Event) (h : acceptOf o .answer ≡ Accepted) whe
           ∙ ap (λ (b : Bool). noNumber (cond (b && better (isSell o) (initiatingPrice o) (newPriceOf g)) 36 37)) (sym (eq-eqb (g .kind) 6 k))
 
 -- sent, they bear the sequences that they have
-distinct-sent : (sell : Bool) (rs : List Response) → Distinct rs → Distinct (map (sent sell) rs)
+pub distinct-sent : (sell : Bool) (rs : List Response) → Distinct rs → Distinct (map (sent sell) rs)
 distinct-sent sell [] d = tt
 distinct-sent sell (r ∷ rs) d = (every-sent (λ x. x .sequence ≢ r .sequence) sell rs (d .0), distinct-sent sell rs (d .1))
 

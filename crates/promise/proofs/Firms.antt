@@ -1,18 +1,19 @@
 -- Which firm stands behind a live response. Assumes nothing.
-use mathlib.Core.Path.{_≡_, refl, sym, ap, _∙_}
-use mathlib.Core.Bool.{Bool, true, cond}
+use mathlib.Core.Path.{_≡_, refl, sym, ap, subst, _∙_}
+use mathlib.Core.Bool.{Bool, true}
 use mathlib.Core.List.{List, [], _∷_, map}
 use mathlib.Core.Logic.{⊎-elim, inl, inr}
 use Prim.Native.Nat.{ℕ, _≤_, _<_}
 use native.Mathlib.Omega.{arith}
-use lib.Dec.{ltb}
-use borrow.Author.Tests.{lt-ltb, le-ltb}
-use Rattle.base.specs.Lists.{In, Every}
+use lib.Dec.{eqb}
+use borrow.Author.Tests.{lt-ltb, le-ltb, eq-eqb, ne-eqb}
+use Rattle.base.specs.Lists.{In, Every, keep, filter}
 use Rattle.base.proofs.ListLaws.{every-in, every-with}
-use Rattle.base.proofs.Numbers.{le-or-lt}
+use Rattle.base.proofs.Numbers.{le-or-lt, eq-or}
 use Rattle.board.specs.declared.Response.{Response}
-use Rattle.board.specs.rules.Board.{noResponse, responseAt, liveOf, findNamed}
+use Rattle.board.specs.rules.Board.{noResponse, responseAt, liveOf, findNamed, inSequence}
 use Rattle.board.specs.promises.Board.{NamedAt}
+use Rattle.board.proofs.Theorems.{ordering}
 use Rattle.board.proofs.LiveLaws.{live-every}
 use Rattle.board.proofs.BoardLaws.{find-named, named-found, no-named}
 use Rattle.tape.specs.declared.order.Order.{Order}
@@ -27,10 +28,12 @@ use Rattle.run.specs.promises.Demands.{Sound}
 use Rattle.run.proofs.SoundLaws.{sound-opened, sound-run}
 use Rattle.run.proofs.Amends.{live-at}
 use Rattle.promise.specs.rules.Answers.{firmIs}
-use Rattle.promise.specs.rules.Sides.{sent}
-use Rattle.promise.specs.promises.Parts.{Sends, places, amends, Told, Firms}
+use Rattle.promise.specs.rules.Sides.{sent, responses, atEnd}
+use Rattle.promise.specs.promises.Parts.{Sends, places, amends, auctionAfter, Told, Firms}
 use Rattle.promise.proofs.Carried.{accepted}
 use Rattle.promise.proofs.RealLaws.{in-sent, sound}
+use Rattle.promise.proofs.Standing.{by-records, stand}
+use Rattle.promise.proofs.Counted.{distinct-sent}
 
 -- the record that sent a response
 of-record : {o : Order} {es : List Event} {e : Event} {r : Response} → Sends o es e r → r .participant ≡ e .participant
@@ -79,18 +82,63 @@ module _ (a : Auction) (s : Sound a) where
   absent-sent k sell [] g = tt
   absent-sent k sell (r ∷ rs) g = (g .0, absent-sent k sell rs (g .1))
 
-  told : (o : Order) → Told o a
-  told o =
+  told : Told a
+  told =
       record {
         answers = λ r i. let x = in-sent (a .head .terms .sell) (liveOf (a .board)) r i in
             ap (λ (y : Response). firmIs (participantOf a (y .sequence))) (x .is) ∙ ap firmIs (found (x .response) (x .live)) ∙ ap (λ (y : Response). y .participant ∷ []) (sym (x .is));
         nobody = λ k g. ap firmIs (unfound k (absent-sent k (a .head .terms .sell) (liveOf (a .board)) g));
       }
 
+-- of responses whose sequences are apart, those with one sequence are one, or none
+data OneOrNone (k : ℕ) (rs : List Response) : Type 0 where
+  one : (r : Response) → In r rs → r .sequence ≡ k → filter (λ x. eqb (x .sequence) k) rs ≡ r ∷ [] → OneOrNone k rs
+  none : Absent k rs → filter (λ x. eqb (x .sequence) k) rs ≡ [] → OneOrNone k rs
+
+none-left : (k : ℕ) (rs : List Response) → Absent k rs → filter (λ x. eqb (x .sequence) k) rs ≡ []
+unfolding filter
+none-left k [] g = refl
+none-left k (r ∷ rs) g = ap (λ (b : Bool). keep b r (filter (λ x. eqb (x .sequence) k) rs)) (ne-eqb (r .sequence) k (g .0)) ∙ none-left k rs (g .1)
+
+one-or-none : (k : ℕ) (rs : List Response) → Distinct rs → OneOrNone k rs
+unfolding filter
+one-or-none k [] d = none tt refl
+one-or-none k (r ∷ rs) d = let rest = one-or-none k rs (d .1) in ⊎-elim here (λ n. there n rest) (eq-or (r .sequence) k)
+  where
+    here : r .sequence ≡ k → OneOrNone k (r ∷ rs)
+    here e =
+        one r (inl refl) e
+        (ap (λ (b : Bool). keep b r (filter (λ x. eqb (x .sequence) k) rs)) (eq-eqb (r .sequence) k e) ∙ ap (λ (xs : List Response). r ∷ xs) (none-left k rs (subst (λ (n : ℕ). Absent n rs) e (d .0))))
+
+    pass : (r .sequence ≡ k → ⊥) → filter (λ x. eqb (x .sequence) k) (r ∷ rs) ≡ filter (λ x. eqb (x .sequence) k) rs
+    pass n = ap (λ (b : Bool). keep b r (filter (λ x. eqb (x .sequence) k) rs)) (ne-eqb (r .sequence) k n)
+
+    there : (r .sequence ≡ k → ⊥) → OneOrNone k rs → OneOrNone k (r ∷ rs)
+    there n (one x i e f) = one x (inr i) e (pass n ∙ f)
+    there n (none g f) = none (n, g) (pass n ∙ f)
+
+by-responses : (a : Auction) (k : ℕ) → Told a → Distinct (responses a) → firmIs (participantOf a k) ≡ map (λ r. r .participant) (filter (λ r. eqb (r .sequence) k) (responses a))
+by-responses a k t d = go (one-or-none k (responses a) d)
+  where
+    go : OneOrNone k (responses a) → firmIs (participantOf a k) ≡ map (λ r. r .participant) (filter (λ r. eqb (r .sequence) k) (responses a))
+    go (one r i e f) = ap (λ (n : ℕ). firmIs (participantOf a n)) (sym e) ∙ t .answers r i ∙ sym (ap (map (λ r. r .participant)) f)
+    go (none g f) = t .nobody k g ∙ sym (ap (map (λ r. r .participant)) f)
+
+-- by sequence they are those that the records leave standing, and the order is of no matter
+by-standing : (a : Auction) (k : ℕ) (rs : List Response) → Sound a → inSequence (responses a) ≡ rs → firmIs (participantOf a k) ≡ map (λ r. r .participant) (filter (λ r. eqb (r .sequence) k) rs)
+by-standing a k rs s e =
+    by-responses a k (told a s) (distinct-sent (a .head .terms .sell) (liveOf (a .board)) (s .distinct))
+    ∙ ap (map (λ r. r .participant)) (sym (ordering .stable k (responses a)) ∙ ap (filter (λ r. eqb (r .sequence) k)) e)
+
 pub firms : (o : Order) → Firms o
 firms o =
     record {
       of-record = λ es e r. of-record;
-      told = λ es h. told _ (sound-run es (acceptOf o .auction) (sound-opened o (accepted o h))) o;
-      told-end = λ es h. told _ (sound o es (accepted o h)) o;
+      told = λ es h. told (auctionAfter o es) (after es (accepted o h));
+      told-end = λ es h. told (atEnd o es) (sound o es (accepted o h));
+      by-records = λ es k h. by-standing (auctionAfter o es) k _ (after es (accepted o h)) (by-records o es (accepted o h));
+      by-records-end = λ es k h. by-standing (atEnd o es) k _ (sound o es (accepted o h)) (stand o es (accepted o h));
     }
+  where
+    after : (es : List Event) → acceptOf o .answer ≡ Accepted → Sound (auctionAfter o es)
+    after es h = sound-run es (acceptOf o .auction) (sound-opened o h)

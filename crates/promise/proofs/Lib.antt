@@ -15,6 +15,7 @@ pub mod Standing
 pub mod Counted
 pub mod Offered
 pub mod Firms
+pub mod Unshown
 pub mod Moved
 pub mod MarketTrades
 pub mod InRealPrices

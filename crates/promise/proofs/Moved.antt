@@ -8,9 +8,9 @@ use Rattle.tape.specs.rules.Tape.{orderIn, recordsOf}
 use Rattle.moving.specs.declared.Moved.{Moved}
 use Rattle.moving.specs.declared.Moved.the-variants.{Length, Refused}
 use Rattle.moving.specs.rules.Moving.{movedTrailer, moveAnswer}
-use Rattle.moving.specs.promises.Moves.{movedTo, Done}
+use Rattle.moving.specs.promises.Moves.{movedTo, HasMoved}
 use Rattle.moving.proofs.Theorems.{all-moves}
-use Rattle.run.specs.rules.Run.{Run, runOf, runTape, runOrder}
+use Rattle.run.specs.rules.Run.{runOf, runTape, runOrder}
 use Rattle.listing.specs.rules.Listing.{linesOf, listingOf}
 use Rattle.promise.specs.rules.Answers.{no, yes, movedIs}
 use Rattle.promise.specs.promises.Parts.{MovedTape}
@@ -24,7 +24,7 @@ not-moved (Length k) n z = cc
 not-moved (Refused k) n z = let q : k ≡ n = cc in ap Refused q
 
 -- the run goes by the order and the events
-same-run : (wide : Bool) (s out : List ℕ) (n : ℕ) → Done wide s out n → runOf (movedTo wide s out n) ≡ runOf s
+same-run : (wide : Bool) (s out : List ℕ) (n : ℕ) → HasMoved wide s out n → runOf (movedTo wide s out n) ≡ runOf s
 unfolding runOf
 same-run wide s out n d =
     let m : List ℕ = movedTo wide s out n in
@@ -43,5 +43,5 @@ moved wide s out =
       back = λ n z b out′ room. let k = done n z .back b out′ room in (ap movedIs (k .0), k .1);
     }
   where
-    done : (n : ℕ) → movedIs (moveAnswer wide s out) ≡ yes n → Done wide s out n
+    done : (n : ℕ) → movedIs (moveAnswer wide s out) ≡ yes n → HasMoved wide s out n
     done n z = all-moves .done wide s out n (moved-is (moveAnswer wide s out) n z)

@@ -12,6 +12,7 @@ use Rattle.promise.proofs.Opening.{opens, some-range, no-range, only-13
 use Rattle.promise.proofs.InRealPrices.{trades}
 use Rattle.promise.proofs.Mirrored.{mirrors}
 use Rattle.promise.proofs.Firms.{firms}
+use Rattle.promise.proofs.Unshown.{unshown}
 use Rattle.promise.proofs.Moved.{moved}
 use Rattle.promise.proofs.Below.{below}
 
@@ -41,6 +42,7 @@ promise =
       mirrors = mirrors;
       mirrors-watch = λ o es h. mirrors-watch o es (accepted o h);
       firms = firms;
+      unshown = unshown;
       moved = moved;
       below = below;
     }

@@ -130,12 +130,13 @@ module _ (s : List ℕ) (t : Trailer) (h : openTape s ≡ Tape t) (order : List 
   remade-bytes : AllBytes s → AllBytes order → AllBytes remade
   remade-bytes b c = tape-bytes (t .wide) (ownBytes s t) order (st .records) (own-bytes s t b) c (st .bytes (records-bytes s t b))
 
-  remake : (o : Order) (fs : List Event) → AllBytes s → AllBytes order → readOrder order ≡ GotOrder o → es ≡ fs → SomeTape o fs
+  remake : (o : Order) (fs : List Event) → AllBytes s → AllBytes order → readOrder order ≡ GotOrder o → es ≡ fs → SomeTape (t .wide) o fs
   remake o fs b c eo ee =
       record {
         bytes = remade;
         all-bytes = remade-bytes b c;
         carries = carry remade o fs (trailerFor (t .wide) (ownBytes s t) (st .records)) (remade-any .opens) (remade-any .ordered ∙ eo) (remade-any .records ∙ st .stand ∙ ee);
+        form = refl;
       }
 
 -- ---- what is promised
@@ -153,7 +154,7 @@ module _ (s : List ℕ) (o : Order) (es : List Event) (b : AllBytes s) (c : Carr
   mirrors : Stand (c .trailer .wide) (recordsBytes s (c .trailer)) (mirroredRecords (map (recordAt (c .trailer .wide)) (recordsBytes s (c .trailer))))
   mirrors = mirroring (c .trailer .wide) (recordsBytes s (c .trailer)) (made .fitting .each-long) (records-bytes s (c .trailer) b)
 
-  pub can-lack : SomeTape o (notRefused (acceptOf o .auction) es)
+  pub can-lack : SomeTape (c .trailer .wide) o (notRefused (acceptOf o .auction) es)
   can-lack =
       remake s (c .trailer) (tape-at c) (orderBytes s (c .trailer)) (made .fitting .order-long) lacks o (notRefused (acceptOf o .auction) es)
       b (order-bytes s (c .trailer) b) (sym (made .ordered) ∙ order-at c) (ap (notRefused (acceptOf o .auction)) there)
@@ -161,7 +162,7 @@ module _ (s : List ℕ) (o : Order) (es : List Event) (b : AllBytes s) (c : Carr
   formed : orderFormed o ≡ true
   formed = order-formed (orderBytes s (c .trailer)) o (sym (made .ordered) ∙ order-at c)
 
-  pub can-mirror : SomeTape (mirroredOrder o) (mirroredRecords es)
+  pub can-mirror : SomeTape (c .trailer .wide) (mirroredOrder o) (mirroredRecords es)
   can-mirror =
       remake s (c .trailer) (tape-at c) (wordBytes (orderWords (mirroredOrder o))) (order-64 (mirroredOrder o)) mirrors (mirroredOrder o) (mirroredRecords es)
       b (bytes-words (orderWords (mirroredOrder o))) (order-stands (mirroredOrder o) (order-form o formed)) (ap mirroredRecords there)

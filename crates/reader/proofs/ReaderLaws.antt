@@ -13,7 +13,7 @@ use Rattle.tape.specs.declared.trailer.Trailer.{Trailer}
 use Rattle.tape.specs.declared.event.Event.{Event}
 use Rattle.tape.proofs.HoldsLaws.{records-none, records-more}
 use Rattle.reader.specs.rules.Reader.{currentOf, nextPlace, held, nextOf, standing}
-use Rattle.reader.specs.promises.Reading.{moved, andThen, gathered, Reading}
+use Rattle.reader.specs.promises.Reading.{advanced, andThen, gathered, Reading}
 use Rattle.reader.specs.declared.Current.{Current}
 use Rattle.reader.specs.declared.Current.the-variants.{Event as There, End}
 
@@ -35,7 +35,7 @@ next-min t k =
     (λ l. let e : min k (t .events) ≡ k = omega arith in ap (nextPlace t) e ∙ goes-on t k l ∙ omega arith)
     (le-or-lt (t .events) k)
 
-moves : (bytes : RefT (List ℕ)) (t : Trailer) (k : ℕ) → moved k (held bytes t 0) ≡ held bytes t (min k (t .events))
+moves : (bytes : RefT (List ℕ)) (t : Trailer) (k : ℕ) → advanced k (held bytes t 0) ≡ held bytes t (min k (t .events))
 moves bytes t zero = ap (held bytes t) (omega arith)
 moves bytes t (suc k) = ap nextOf (moves bytes t k) ∙ ap (held bytes t) (next-min t k)
 
@@ -54,7 +54,7 @@ pub not-end : (r : Event) → There r ≡ End → true ≡ false
 not-end r h = cc
 
 module _ (bytes : RefT (List ℕ)) (t : Trailer) where
-  stands : (k : ℕ) → standing (moved k (held bytes t 0)) ≡ currentOf (now bytes) t (min k (t .events))
+  stands : (k : ℕ) → standing (advanced k (held bytes t 0)) ≡ currentOf (now bytes) t (min k (t .events))
   stands k = ap standing (moves bytes t k)
 
   -- from place k on, with n records left and m moves at least
@@ -69,13 +69,13 @@ module _ (bytes : RefT (List ℕ)) (t : Trailer) where
       ∙ ap (λ (rs : List Event). recordIn (now bytes) t k ∷ rs) (rest n (k + 1) m (omega arith) (omega arith))
       ∙ sym (records-more (now bytes) t k n)
 
-  event : (k : ℕ) → k < t .events → standing (moved k (held bytes t 0)) ≡ There (recordIn (now bytes) t k)
+  event : (k : ℕ) → k < t .events → standing (advanced k (held bytes t 0)) ≡ There (recordIn (now bytes) t k)
   event k l = let e : min k (t .events) ≡ k = omega arith in stands k ∙ ap (currentOf (now bytes) t) e ∙ record-there (now bytes) t k l
 
-  end : (k : ℕ) → t .events ≤ k → standing (moved k (held bytes t 0)) ≡ End
+  end : (k : ℕ) → t .events ≤ k → standing (advanced k (held bytes t 0)) ≡ End
   end k l = stands k ∙ end-there (now bytes) t (min k (t .events)) (omega arith)
 
-  only : (k : ℕ) → standing (moved k (held bytes t 0)) ≡ End → t .events ≤ k
+  only : (k : ℕ) → standing (advanced k (held bytes t 0)) ≡ End → t .events ≤ k
   only k h = ⊎-elim (λ l. l) (λ l. absurd (true≢false (not-end (recordIn (now bytes) t k) (sym (event k l) ∙ h)))) (le-or-lt (t .events) k)
 
   all : (n : ℕ) → t .events ≤ n → gathered n (held bytes t 0) ≡ recordsOf (now bytes) t

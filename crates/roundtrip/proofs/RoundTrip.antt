@@ -19,7 +19,7 @@ use Rattle.tape.specs.declared.event.ReadEvent.the-variants.{Event as GotEvent}
 use Rattle.tape.specs.declared.trailer.ReadTrailer.the-variants.{Trailer as GotTrailer, Refused as NoTrailer}
 use Rattle.tape.specs.declared.Written.the-variants.{Done, Refused}
 use Rattle.tape.specs.rules.Form.{orderFormed, shapeOf, shapeTests, eventFormed}
-use Rattle.tape.specs.rules.Records.{withRecord, wroteBytes, orderWords, orderOf, orderSpare, readOrder, orderAnswer, orderWrote, widthOf, newWord, eventWords, eventOf, eventSpare, readEvent, eventHeld, eventAnswer, eventWrote, cubt, cub2, nameOf, trailerWords, trailerOf, readTrailer, trailerAnswer, trailerWrote}
+use Rattle.tape.specs.rules.Records.{withRecord, wroteBytes, orderWords, orderOf, orderSpare, readOrder, orderAnswer, orderWrote, widthOf, newWord, eventWords, eventOf, eventSpare, readEvent, eventHeld, eventAnswer, eventWrote, cubt, cub2, firstWord, trailerWords, trailerOf, readTrailer, trailerAnswer, trailerWrote}
 use Rattle.roundtrip.specs.promises.Demands.{Word, ValuesBack, BytesBack, RefusalsKeep}
 use Rattle.base.proofs.Bools.{and-left, and-right}
 use Rattle.tape.proofs.FormLaws.{each, within-le, OrderBounds, order-bounds, row-bounds}
@@ -65,11 +65,11 @@ pub wrote-is : {formed : Bool} (ws out : List ℕ) → formed ≡ true → lengt
 wrote-is ws out e h = simp (e, le-ltb (length out) (length ws * 4) h)
 
 -- a record that was written is as long as it was, or longer
-pub record-long : (ws l : List ℕ) (n : ℕ) → length ws * 4 ≡ n → n ≤ length (wordBytes ws ++ l)
+record-long : (ws l : List ℕ) (n : ℕ) → length ws * 4 ≡ n → n ≤ length (wordBytes ws ++ l)
 record-long ws l n e = omega (arith, length-append (wordBytes ws) l, length-wordBytes ws)
 
 -- the bytes of n words that were read
-pub record-back : (s : List ℕ) (n : ℕ) → AllBytes s → n * 4 ≤ length s → wordBytes (wordsFrom s 0 n) ≡ take (n * 4) s
+record-back : (s : List ℕ) (n : ℕ) → AllBytes s → n * 4 ≤ length s → wordBytes (wordsFrom s 0 n) ≡ take (n * 4) s
 record-back s n b h =
     let z : n * 4 ≡ 0 + n * 4 = omega arith in
     let same : wordBytes (wordsFrom s 0 n) ++ drop (n * 4) s ≡ s = ap (λ (k : ℕ). wordBytes (wordsFrom s 0 n) ++ drop k s) z ∙ row-back s n 0 b (omega arith) in
@@ -277,7 +277,7 @@ trailer-from s t n w =
     simp (le-ltb (length s) 16 n, told, known, at 1, at 2, at 3)
   where
     -- the form's word is one of the two, and tells the form
-    named : (wide : Bool) → ((eqb (nameOf wide) cubt || wide) ≡ true) × (eqb (nameOf wide) cub2 ≡ wide)
+    named : (wide : Bool) → ((eqb (firstWord wide) cubt || wide) ≡ true) × (eqb (firstWord wide) cub2 ≡ wide)
     named true = (refl, refl)
     named false = (refl, refl)
 
@@ -293,15 +293,15 @@ trailer-written t l ho he =
     let n : 16 ≤ length s = record-long (trailerWords t) l 16 refl in
     trailer-from s t n w
   where
-    name-fits : (wide : Bool) → Word (nameOf wide)
+    name-fits : (wide : Bool) → Word (firstWord wide)
     name-fits true = omega arith
     name-fits false = omega arith
 
 -- a word that is one of the two names is the one of the form that it tells
-name-back : (w : ℕ) → (eqb w cubt || eqb w cub2) ≡ true → nameOf (eqb w cub2) ≡ w
+name-back : (w : ℕ) → (eqb w cubt || eqb w cub2) ≡ true → firstWord (eqb w cub2) ≡ w
 name-back w h = go (eqb w cub2) refl h
   where
-    go : (b : Bool) → eqb w cub2 ≡ b → (eqb w cubt || b) ≡ true → nameOf b ≡ w
+    go : (b : Bool) → eqb w cub2 ≡ b → (eqb w cubt || b) ≡ true → firstWord b ≡ w
     go true e h = sym (eqb-true w cub2 e)
     go false e h = sym (eqb-true w cubt (sym (or-false (eqb w cubt)) ∙ h))
 
@@ -311,7 +311,7 @@ trailer-read s t b h =
     let name : Bool = eqb (wordAt s 0) cubt || eqb (wordAt s 0) cub2 in
     let k : (ltb (length s) 16 ≡ false) × ((name && eqb (wordAt s 12) 0) ≡ true) × (trailerOf s ≡ t) = took-trailer (ltb (length s) 16) (name && eqb (wordAt s 12) 0) (trailerOf s) t h in
     let n : 16 ≤ length s = ltb-false (length s) 16 (k .0) in
-    let w0 : nameOf (eqb (wordAt s 0) cub2) ≡ wordAt s 0 = name-back (wordAt s 0) (and-left name (eqb (wordAt s 12) 0) (k .1)) in
+    let w0 : firstWord (eqb (wordAt s 0) cub2) ≡ wordAt s 0 = name-back (wordAt s 0) (and-left name (eqb (wordAt s 12) 0) (k .1)) in
     let w3 : wordAt s 12 ≡ 0 = eqb-true (wordAt s 12) 0 (and-right name _ (k .1)) in
     let same : trailerWords (trailerOf s) ≡ wordsFrom s 0 4 = simp (w0, w3) in
     ap (λ (x : Trailer). wordBytes (trailerWords x)) (sym (k .2)) ∙ ap wordBytes same ∙ record-back s 4 b n

@@ -19,11 +19,11 @@ use Rattle.tape.specs.declared.trailer.Trailer.{Trailer}
 use Rattle.tape.specs.declared.order.ReadOrder.the-variants.{Order as GotOrder}
 use Rattle.tape.specs.declared.event.ReadEvent.the-variants.{Event as GotEvent, Refused as NoEvent}
 use Rattle.tape.specs.declared.trailer.Opened.the-variants.{Tape}
-use Rattle.tape.specs.rules.Form.{orderFormed, eventFormed}
+use Rattle.tape.specs.rules.Form.{orderFormed, shapeOf, shapeTests, eventFormed}
 use Rattle.tape.specs.rules.Records.{withRecord, widthOf, newWord, eventOf, eventSpare, ofNoKind, orderWords, eventWords, trailerWords, orderWrote, eventWrote, trailerWrote, readOrder, readEvent, recordAt}
 use Rattle.tape.specs.rules.Tape.{lengthOf, openTape, eventPlace, orderIn, recordIn, recordsFrom, recordsOf, trailerFor, eventsBytes, tapeOf, wroteEvents, wroteTape}
 use Rattle.tape.specs.rules.Whole.{together, tapeWith, ownBytes, orderBytes, recordsBytes}
-use Rattle.roundtrip.specs.promises.Demands.{Word, AllHeld, none, more, Tapeable, TapeBack, AnyRecords, MadeOf, Demands}
+use Rattle.roundtrip.specs.promises.Demands.{Word, AllHeld, none, more, InBytes, Tapeable, TapeBack, AnyRecords, MadeOf, Demands}
 use Rattle.tape.proofs.RecordLaws.{words-long}
 use Rattle.tape.proofs.HoldsLaws.{event-stands, held-formed, event-held, records-more, recorded, holds}
 use Rattle.roundtrip.proofs.RoundTrip.{wrote-is, order-length, order-written, order-formed, order-read, event-written, event-read, trailer-length, values-back, bytes-back, refusals-keep}
@@ -255,11 +255,18 @@ whole-written s room t o b h q f n =
     } in
     tape-back (t .wide) own o es fine .written room (omega (arith, n, long, ap length back)) ∙ back
 
+-- ---- the bytes themselves
+
+in-bytes : InBytes
+unfolding trailerWords eventWords readEvent widthOf eventOf eventSpare wordAt eventFormed shapeTests shapeOf
+in-bytes = record { old-trailer = refl; new-trailer = refl; old-record = refl; new-record = refl; new-read = refl }
+
 -- ---- all that is promised
 
 pub demands : Demands
 demands =
     record {
+      in-bytes = in-bytes;
       values-back = values-back;
       bytes-back = bytes-back;
       refusals-keep = refusals-keep;

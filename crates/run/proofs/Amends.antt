@@ -21,7 +21,7 @@ use Rattle.board.proofs.BoardLaws.{amending, seated-good, clearing, cleared-goo
 use Rattle.tape.specs.declared.event.Event.{Event}
 use Rattle.tape.specs.rules.Fields.{nameOf, newSizeOf}
 use Rattle.mirror.specs.rules.Mirror.{buyEvent}
-use Rattle.mirror.proofs.EventLaws.{buy-sequence, buy-kind, amend-size}
+use Rattle.mirror.proofs.EventLaws.{buy-sequence, buy-participant, buy-kind, amend-size}
 use Rattle.demand.specs.promises.Demands.{Absent, Distinct}
 use Rattle.auction.specs.declared.Auction.{Auction}
 use Rattle.auction.specs.rules.Offer.{onOffer, movedOffer}
@@ -219,7 +219,7 @@ does v a e s k6 sees =
     r = amendedBy (a .head .terms) (responseAt (a .board .places) (namedPlace a e)) (buyEvent sell e)
 
     made-for : NewFor (a .head .terms) (responseAt (a .board .places) (namedPlace a e)) e r
-    made-for = record { sequence = buy-sequence e sell; size = ap (λ (n : ℕ). min n (a .head .terms .size)) (amend-size e sell k6); price = refl; customer = refl; gtx = refl }
+    made-for = record { sequence = buy-sequence e sell; size = ap (λ (n : ℕ). min n (a .head .terms .size)) (amend-size e sell k6); price = refl; participant = buy-participant e sell; customer = refl; gtx = refl }
 
     amended : Ordinary (a .head) e → v .found < 64 → Amended a e (seatedOn (a .board) (carried (a .head) e (Does (Seat (v .found) (amendedBy (a .head .terms) (v .old) (buyEvent sell e)) (v .old .size)) Open)) .auction)
     amended o f =

@@ -1,4 +1,4 @@
--- Cases a to k of document 01, by computation. Assumes nothing.
+-- Cases a to k of document 01, and which firm stands behind a response, by computation. Assumes nothing.
 use mathlib.Core.Path.{_≡_, refl}
 use Rattle.words.specs.rules.Bits.{withBit, withoutBit, onesIn, clearIn}
 use Rattle.base.specs.Lists.{filter, sum}
@@ -13,9 +13,10 @@ use Rattle.mirror.specs.rules.Mirror.{mirroredMarks, mirroredSide, mirroredOrde
 use Rattle.auction.specs.rules.Accept.{countedOffer, initiatingOf, tickOf, boundOf, guaranteedOf, rangeRefusal, buyRefusal, orderRefusal, termsOf, quotesOf, openedBy, noAuction, acceptOf}
 use Rattle.events.specs.rules.Step.{eventRefusal, sightOf, endedByTime, headAfter, turnOf, closeTurn}
 use Rattle.decision.specs.rules.Decide.{gtxOutcome, cancelOutcome, amendOutcome, sellLimitOutcome, bidQuotes, buyLimitOutcome, limitOutcome, marketOutcome, newQuotes, quotesOutcome, outcomeOf}
+use Rattle.auction.specs.rules.Firm.{participantOf}
 use Rattle.auction.specs.rules.Range.{boundNow, rangeOf}
 use Rattle.fills.specs.rules.Fills.{dealOf}
-use Rattle.run.specs.promises.Figures.{cases, Figures}
+use Rattle.run.specs.promises.Figures.{cases, Figures, FirmFigures}
 
 -- all that an auction computes by, opened
 unfoldable pub Computed : {A : Type 0} → A → A → Type 0
@@ -25,3 +26,7 @@ Computed x y = x ≡ y
 pub figures : Figures
 unfolding cases Computed
 figures = refl
+
+pub firm-figures : FirmFigures
+unfolding Computed participantOf
+firm-figures = (refl, refl)

@@ -34,7 +34,7 @@ module _ (wide : Bool) (s : List ℕ) (e : Event) where
   unfolding readEvent
   event-took h = took (ltb (length s) (widthOf wide)) (eventSpare wide s && eventFormed (eventOf wide s)) (eventOf wide s) e h
 
-  pub event-formed : readEvent wide s ≡ GotEvent e → eventFormed e ≡ true
+  event-formed : readEvent wide s ≡ GotEvent e → eventFormed e ≡ true
   event-formed h = let t = event-took h in ap eventFormed (sym (t .2)) ∙ and-right (eventSpare wide s) (eventFormed (eventOf wide s)) (t .1)
 
   -- an event that is read stands there

@@ -9,10 +9,9 @@ use borrow.Author.Tests.{le-ltb, lt-ltb}
 use Rattle.words.specs.rules.Bytes.{joined, wordAt, withWords}
 use Rattle.words.proofs.ByteLaws.{row-front, word-alone}
 use Rattle.tape.specs.rules.Tape.{eventPlace, orderIn, recordIn}
-use Rattle.tape.specs.rules.Records.{wroteAnswer, wroteBytes, widthOf, newWord, eventWords, orderOf, orderSpare, readOrder, eventOf, eventSpare, readEvent, ofNoKind, recordAt}
+use Rattle.tape.specs.rules.Records.{wroteAnswer, wroteBytes, widthOf, newWord, eventWords, orderOf, orderSpare, readOrder, eventOf, eventSpare, ofNoKind, recordAt}
 use Rattle.tape.specs.declared.order.ReadOrder.{ReadOrder}
 use Rattle.tape.specs.declared.order.ReadOrder.the-variants.{Refused as NoOrder}
-use Rattle.tape.specs.declared.event.ReadEvent.the-variants.{Refused as NoEvent}
 use Rattle.tape.specs.declared.event.Event.{Event}
 use Rattle.tape.specs.declared.trailer.Trailer.{Trailer}
 use Rattle.tape.specs.declared.Written.the-variants.{Done, Refused}
@@ -79,10 +78,6 @@ wrote-done number ws out e h w = (simp (e, le-ltb _ _ h), w ∙ row-front out ws
 pub order-short : (s : List ℕ) → length s < 64 → readOrder s ≡ NoOrder 24
 unfolding readOrder
 order-short s h = simp (lt-ltb _ _ h)
-
-pub event-short : (wide : Bool) (s : List ℕ) → length s < widthOf wide → readEvent wide s ≡ NoEvent 24
-unfolding readEvent
-event-short wide s h = simp (lt-ltb _ _ h)
 
 -- fewer than n bytes from a place on
 pub few : (s : List ℕ) (at n : ℕ) → length s < at + n → 0 < n → length (drop at s) < n

@@ -3,6 +3,9 @@ use mathlib.Core.Path.{refl, sym, _∙_, ap}
 use Rattle.base.specs.Settled.{Settled}
 use Rattle.tape.proofs as contracts
 
+pub event-bytes : Settled contracts.event.event_bytes.ended contracts.event.event_bytes.Reads.Asked contracts.event.event_bytes.Reads.Learnt
+event-bytes κs a = (tt, λ y z v w p q. (p .0 ∙ sym (q .0), refl))
+
 pub record-at : Settled contracts.event.record_at.ended contracts.event.record_at.Reads.Asked contracts.event.record_at.Reads.Learnt
 record-at κs a = (tt, λ y z v w p q. (p ∙ sym q, refl))
 
@@ -11,9 +14,6 @@ read-event κs a = (tt, λ y z v w p q. (p ∙ sym q, refl))
 
 pub write-event : Settled contracts.event.write_event.ended contracts.event.write_event.Reads.Asked contracts.event.write_event.Reads.Learnt
 write-event κs a = (tt, λ y z v w p q. (p .0 ∙ sym (q .0), ap (λ x. (tt, (tt, (x, tt)))) (p .1 ∙ sym (q .1))))
-
-pub event-bytes : Settled contracts.event.event_bytes.ended contracts.event.event_bytes.Reads.Asked contracts.event.event_bytes.Reads.Learnt
-event-bytes κs a = (tt, λ y z v w p q. (p .0 ∙ sym (q .0), refl))
 
 pub order-form : Settled contracts.form.order_form.ended contracts.form.order_form.Reads.Asked contracts.form.order_form.Reads.Learnt
 order-form κs a = (tt, λ y z v w p q. (p ∙ sym q, refl))
@@ -39,11 +39,11 @@ read-trailer κs a = (tt, λ y z v w p q. (p ∙ sym q, refl))
 pub write-trailer : Settled contracts.trailer.write_trailer.ended contracts.trailer.write_trailer.Reads.Asked contracts.trailer.write_trailer.Reads.Learnt
 write-trailer κs a = (tt, λ y z v w p q. (p .0 ∙ sym (q .0), ap (λ x. (tt, (x, tt))) (p .1 ∙ sym (q .1))))
 
-pub open-tape : Settled contracts.trailer.open_tape.ended contracts.trailer.open_tape.Reads.Asked contracts.trailer.open_tape.Reads.Learnt
-open-tape κs a = (tt, λ y z v w p q. (p ∙ sym q, refl))
+pub length-of : Settled contracts.trailer.length_of.ended contracts.trailer.length_of.Reads.Asked contracts.trailer.length_of.Reads.Learnt
+length-of κs a = (tt, λ y z v w p q. (p ∙ sym q, refl))
 
 pub last-trailer : Settled contracts.trailer.last_trailer.ended contracts.trailer.last_trailer.Reads.Asked contracts.trailer.last_trailer.Reads.Learnt
 last-trailer κs a = (tt, λ y z v w p q. (p ∙ sym q, refl))
 
-pub length-of : Settled contracts.trailer.length_of.ended contracts.trailer.length_of.Reads.Asked contracts.trailer.length_of.Reads.Learnt
-length-of κs a = (tt, λ y z v w p q. (p ∙ sym q, refl))
+pub open-tape : Settled contracts.trailer.open_tape.ended contracts.trailer.open_tape.Reads.Asked contracts.trailer.open_tape.Reads.Learnt
+open-tape κs a = (tt, λ y z v w p q. (p ∙ sym q, refl))

@@ -1,4 +1,4 @@
--- The tape, as document 01 has it.
+-- The tape, as documents 01 and 02 have it.
 pub mod Form
 pub mod Fields
 pub mod Records

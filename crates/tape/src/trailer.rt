@@ -1,6 +1,6 @@
 // The trailer, 16 bytes, and a tape's opening by it.
 ghost use mathlib.Core.Path.{_≡_};
-ghost use Rattle.tape.specs.rules.Records.{nameOf, readTrailer, trailerAnswer, trailerWrote};
+ghost use Rattle.tape.specs.rules.Records.{firstWord, readTrailer, trailerAnswer, trailerWrote};
 ghost use Rattle.tape.specs.rules.Tape.{lengthOf, lastTrailer, openTape};
 use crate::Written;
 use crate::event::event_bytes;
@@ -51,8 +51,8 @@ pub fn read_trailer(s: &[u8]) -> ReadTrailer
 }
 
 // The word that tells the form.
-fn name_of(wide: bool) -> u32
-    ensures { λ r. ⌜ r ≡ nameOf wide ⌝ }
+fn first_word(wide: bool) -> u32
+    ensures { λ r. ⌜ r ≡ firstWord wide ⌝ }
 {
     if wide { CUB2 } else { CUBT }
 }
@@ -65,7 +65,7 @@ pub fn write_trailer(t: Trailer, out: &mut [u8]) -> Written
     if out.len() < 16 {
         return Written::Refused(24);
     }
-    let words = [name_of(t.wide), t.order, t.events, 0];
+    let words = [first_word(t.wide), t.order, t.events, 0];
     write_words(out, 0, &words);
     Written::Done
 }

@@ -2,8 +2,7 @@
 use mathlib.Core.Path.{_≡_, refl}
 use mathlib.Core.List.{List, [], _++_}
 use Prim.Native.Nat.{ℕ}
-use lib.ListN.{length, length-append}
-use lib.Seq.{sets}
+use lib.ListN.{length-append}
 use Rattle.base.proofs.SetsLaws.{sets-append}
 use Rattle.base.proofs.WriteLaws as Writers
 use Rattle.words.specs.inside.Writing.{WroteBytes, LeftBytes}

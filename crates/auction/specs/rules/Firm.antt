@@ -7,7 +7,7 @@ use Rattle.auction.specs.declared.Auction.{Auction}
 use Rattle.auction.specs.declared.firm.Firm.{Firm}
 use Rattle.auction.specs.declared.firm.Firm.the-variants.{Participant, Nobody}
 
--- that of the live response with this sequence, a GTX response or a limit order; nobody where there is none
+-- that of the live response with this sequence, a GTX response or a limit order (0 where its record was an old one); nobody where there is none
 unfoldable pub participantOf : Auction → ℕ → Firm
 participantOf a s =
     let place = findNamed true (a .board) s in

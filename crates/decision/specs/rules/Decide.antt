@@ -1,4 +1,4 @@
--- What is decided of an event (document 01, "What an event does", W-201 for amends, and W-202 for the size that goes), for a buy, on small values.
+-- What is decided of an event (document 01, "What an event does", W-201 for amends, W-202 for the size that goes, and W-206 for participants), for a buy, on small values.
 use mathlib.Core.Bool.{Bool, true, false, cond, not, _&&_, _||_}
 use Prim.Native.Nat.{ℕ, min, max}
 use lib.Dec.{leb, ltb, eqb}
@@ -52,7 +52,7 @@ gtxOutcome t s e =
 unfoldable pub cancelOutcome : Sight → Outcome
 cancelOutcome s = cond (ltb (s .found) 64) (Does (Free (s .found) (s .old .size)) Open) (Refuses 37)
 
--- the GTX response that an amend makes of an old one: the event's sequence, the new size, capped at the CUBE size, the new price; the Customer mark stays
+-- the GTX response that an amend makes of an old one: the event's sequence, the new size, capped at the CUBE size, the new price and the event's participant; the Customer mark stays
 abbrev pub amendedBy : Terms → Response → Event → Response
 amendedBy t old e = record { sequence = e .sequence; size = min (newSizeOf e) (t .size); price = newPriceOf e; participant = e .participant; customer = old .customer; gtx = true }
 

@@ -1,6 +1,6 @@
 -- What is promised of the listing, beyond the contract of `listing`.
 use mathlib.Core.Path.{_≡_}
-use mathlib.Core.Bool.{true, false}
+use mathlib.Core.Bool.{Bool, false}
 use mathlib.Core.List.{List, [], _∷_, _++_}
 use Prim.Native.Nat.{ℕ, _+_, _-_, _*_, _^_, _≤_, _<_}
 use lib.ListN.{length, drop}
@@ -50,7 +50,7 @@ exampleListing =
     ++ (text "FILL contra 109 4\n"
     ++ text "TOTAL 10\n"))))))
 
--- ---- a sell (case e), with a record out of form before its ending and one after it
+-- ---- a sell (case e), with a record out of form before its ending and one after it, after two bytes of the recorder's own: as an old tape, and as a new one, where the market order has a participant
 
 abbrev pub orderE : Order
 orderE =
@@ -80,8 +80,8 @@ noEvent k = record { sequence = k; time = 20; kind = 9; marks = 0; side = 0; f12
 abbrev pub marketE : Event
 marketE = record { sequence = 2; time = 20; kind = 4; marks = 0; side = 1; f12 = 4; f16 = 0; f20 = 0; f24 = 0; participant = 77 }
 
-abbrev pub tapeE : List ℕ
-tapeE = tapeOf true (7 ∷ 7 ∷ []) orderE (noEvent 1 ∷ marketE ∷ noEvent 3 ∷ [])
+abbrev pub tapeE : Bool → List ℕ
+tapeE wide = tapeOf wide (7 ∷ 7 ∷ []) orderE (noEvent 1 ∷ marketE ∷ noEvent 3 ∷ [])
 
 abbrev pub listingE : List ℕ
 listingE =
@@ -104,7 +104,7 @@ valueFrom m (d ∷ ds) = valueFrom (m * 10 + (d - 48)) ds
 pub record Demands : Type 0 where
   -- the listing of document 01, byte for byte; another; and that of no bytes
   pub case-c : listingOf exampleTape ≡ exampleListing
-  pub case-e : listingOf tapeE ≡ listingE
+  pub case-e : (wide : Bool) → listingOf (tapeE wide) ≡ listingE
   pub no-bytes : listingOf [] ≡ text "REFUSED 21\n"
   -- every tape's listing fits the room
   pub fits : (s : List ℕ) → length (listingOf s) ≤ roomOf

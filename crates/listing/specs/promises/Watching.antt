@@ -14,7 +14,6 @@ use Rattle.run.specs.promises.Figures.{event, gtx}
 use Rattle.listing.specs.rules.Text.{text}
 use Rattle.listing.specs.rules.Listing.{refusedLine, auctionLine, endLines}
 use Rattle.listing.specs.rules.Watch.{watchLine, watchLines, linesRoom, shownBytes, watchedOf}
-use Rattle.listing.specs.declared.watch.Watched.{Watched}
 use Rattle.listing.specs.promises.Demands.{exampleOrder, exampleResponse, orderE, noEvent, marketE}
 
 -- ---- examples

@@ -25,6 +25,8 @@ pub record RecordsMirror : Type 0 where
   -- what is in form stays so
   pub order-form : (o : Order) → orderFormed o ≡ true → orderFormed (mirroredOrder o) ≡ true
   pub event-form : (e : Event) → eventFormed e ≡ true → eventFormed (mirroredEvent e) ≡ true
+  -- the participant stays
+  pub participant : (e : Event) → mirroredEvent e .participant ≡ e .participant
   -- a collared order counts at the mirrored price: the displayed price is mirrored, and the collar, a difference, stays
   pub collared : (o : Order) → orderFormed o ≡ true → (o .displayed ≡ 0 → ⊥)
       → collarResult (mirroredOrder o .side) (mirroredOrder o .displayed) (mirroredOrder o .collar) ≡ mirrored (collarResult (o .side) (o .displayed) (o .collar))

@@ -1,16 +1,16 @@
 use mathlib.Core.Path.{_≡_, sym, ap, _∙_}
-use mathlib.Core.Bool.{Bool, true, false, cond, _&&_}
+use mathlib.Core.Bool.{Bool, true, cond, _&&_}
 use mathlib.Core.List.{List}
 use Prim.Native.Nat.{ℕ, _+_, _*_, _-_, _≤_}
 use native.Mathlib.Omega.{arith}
-use lib.ListN.{length, take, drop}
+use lib.ListN.{length, drop}
 use borrow.Author.Tests.{not-true, not-false}
 use denote.Ref.{now}
 use Rattle.tape.specs.declared.trailer.Trailer.{Trailer}
 use Rattle.tape.specs.rules.Records.{widthOf}
 use Rattle.tape.specs.rules.Tape.{lengthOf}
 use Rattle.tape.specs.rules.Whole.{parts, recordsBytes}
-use Rattle.moving.specs.rules.Moving.{isBare, allBare}
+use Rattle.moving.specs.rules.Moving.{allBare}
 use Rattle.moving.proofs.CodeLaws.{bare-turn}
 use borrow.Author.Needs.{needs}
 use Rattle.moving.proofs.all_bare.Statement.{statement}

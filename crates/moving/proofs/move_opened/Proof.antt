@@ -1,12 +1,9 @@
 use mathlib.Core.Path.{_≡_, refl, sym, ap, _∙_}
-use mathlib.Core.Bool.{Bool, true, false, not, _||_}
-use Prim.Native.Nat.{ℕ, _≤_}
+use mathlib.Core.Bool.{true, false, _||_}
 use native.Mathlib.Omega.{arith}
-use lib.Dec.{eqb}
 use lib.ListN.{length}
 use borrow.Author.Tests.{lt-ltb, le-ltb, eq-eqb, ne-eqb, not-true, not-false}
 use denote.Ref.{now}
-use Rattle.tape.specs.declared.trailer.Trailer.{Trailer}
 use Rattle.tape.specs.rules.Tape.{lengthOf}
 use Rattle.tape.specs.rules.Whole.{recordsBytes}
 use Rattle.moving.specs.rules.Moving.{hasForm, movedTrailer, allBare, moveOpened}

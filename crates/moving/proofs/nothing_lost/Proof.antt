@@ -1,9 +1,8 @@
 use mathlib.Core.Path.{_≡_, sym, ap, _∙_}
-use mathlib.Core.Bool.{Bool, true, false, cond, not}
+use mathlib.Core.Bool.{Bool, true, false}
 use borrow.Author.Tests.{not-false}
 use Rattle.tape.specs.declared.trailer.Trailer.{Trailer}
 use Rattle.moving.specs.rules.Moving.{hasForm}
-use borrow.Author.Needs.{needs}
 use Rattle.moving.proofs.nothing_lost.Statement.{statement}
 use Rattle.moving.proofs.nothing_lost.Tie as tie
 

@@ -1,12 +1,11 @@
-use mathlib.Core.Path.{_≡_, sym, _∙_, ap}
+use mathlib.Core.Path.{_≡_, sym, ap}
 use mathlib.Core.Bool.{Bool, true, false, cond}
 use mathlib.Core.List.{List, [], _∷_, _++_, append-nil}
-use Prim.Native.Nat.{ℕ, _≤_}
+use Prim.Native.Nat.{ℕ}
 use native.Mathlib.Omega.{arith}
-use lib.ListN.{length, take}
+use lib.ListN.{take}
 use lib.Seq.{length-take-le}
 use denote.Ref.{now}
-use Rattle.words.specs.rules.Bytes.{wordBytes}
 use Rattle.words.proofs.WroteLaws.{wrote-append, wrote-same}
 use Rattle.tape.specs.rules.Records.{widthOf}
 use Rattle.tape.proofs.RecordLaws.{width-ge}

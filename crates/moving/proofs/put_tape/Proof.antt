@@ -1,13 +1,13 @@
 use mathlib.Core.Path.{_≡_, sym, ap, _∙_}
-use mathlib.Core.List.{List, _++_, map}
-use Prim.Native.Nat.{ℕ, _+_, _*_, _-_, _≤_}
+use mathlib.Core.List.{List}
+use Prim.Native.Nat.{ℕ, _+_, _-_}
 use native.Mathlib.Omega.{arith}
 use lib.ListN.{length, take, drop, length-drop}
 use lib.Seq.{length-take-le}
 use denote.Ref.{now}
 use Rattle.words.specs.rules.Bytes.{wordBytes}
 use Rattle.tape.specs.declared.trailer.Trailer.{Trailer}
-use Rattle.tape.specs.rules.Records.{widthOf, trailerWords, trailerWrote}
+use Rattle.tape.specs.rules.Records.{trailerWords, trailerWrote}
 use Rattle.tape.specs.rules.Tape.{lengthOf}
 use Rattle.base.proofs.SetsLaws.{rest-is}
 use Rattle.moving.specs.rules.Moving.{movedTrailer}

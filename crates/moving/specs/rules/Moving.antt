@@ -46,7 +46,7 @@ unfoldable pub allBare : List (List ℕ) → Bool
 allBare [] = true
 allBare (r ∷ rs) = isBare r && allBare rs
 
--- after 21 and 22: a tape that has the wanted form already is 22; lengths that don't add up; moving back, an event that isn't bare; too long a tape; too short a room
+-- after 21 and 22: 22 for a tape that has the wanted form already; 23, lengths that don't add up; 25, moving back, an event that isn't bare; 26, too long a tape; 24, too short a room
 unfoldable pub moveOpened : Bool → List ℕ → Trailer → List ℕ → Moved
 moveOpened wide s t out =
     let long = lengthOf (movedTrailer wide t) in

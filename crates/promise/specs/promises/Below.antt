@@ -15,14 +15,14 @@ use Rattle.demand.specs.promises.Demands.{Demands as Demands3, Few}
 use Rattle.demand.specs.promises.Shares.{SharedOut}
 use Rattle.run.specs.promises.Demands.{Keeps, Resend, Amends, OnOffer, Demanded, Mirrors}
 use Rattle.run.specs.promises.InPlace.{InPlace}
-use Rattle.run.specs.promises.Figures.{Figures}
+use Rattle.run.specs.promises.Figures.{Figures, FirmFigures}
 use Rattle.listing.specs.promises.Demands.{Demands as Listings}
 use Rattle.listing.specs.promises.Watching.{Watching}
 
 pub record Below : Type 0 where
   -- bits of a word
   pub bits : BitsMean
-  -- a held tape, read from place to place; records read and written back
+  -- a held tape, read from place to place; records of both forms read and written back
   pub reading : (bytes : RefT (List ℕ)) (t : Trailer) → Reading bytes t
   pub round-trips : RoundTrips
   -- a tape moved from one form to the other
@@ -51,5 +51,6 @@ pub record Below : Type 0 where
   pub in-place : InPlace
   -- cases a to k with W-203's and W-205's, the listing of document 01, and the watch
   pub figures : Figures
+  pub firm-figures : FirmFigures
   pub listings : Listings
   pub watching : Watching

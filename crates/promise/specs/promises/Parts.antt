@@ -7,7 +7,7 @@ use Prim.Native.Nat.{ℕ, _+_, _*_, _≤_, _<_, min, max}
 use Prim.Native.String.{String}
 use lib.Dec.{ltb, eqb}
 use lib.ListN.{length, take, drop}
-use Rattle.base.specs.Lists.{In, Every, sum}
+use Rattle.base.specs.Lists.{In, Every, filter, sum}
 use Rattle.words.specs.rules.Bytes.{AllBytes, wordAt}
 use Rattle.board.specs.declared.Response.{Response}
 use Rattle.board.specs.rules.Board.{inSequence}
@@ -232,18 +232,33 @@ module _ (o : Order) where
 
 -- ---- 7. which firm stands behind a response
 
-module _ (o : Order) where
-  -- of an auction: the firm is answered for every live response, by its sequence, and for no other sequence
-  pub record Told (a : Auction) : Type 0 where
-    pub answers : (r : Response) → In r (responses a) → firmIs (participantOf a (r .sequence)) ≡ r .participant ∷ []
-    pub nobody : (k : ℕ) → Absent k (responses a) → firmIs (participantOf a k) ≡ []
+-- of an auction: the firm is answered for every live response, by its sequence, and for no other sequence
+pub record Told (a : Auction) : Type 0 where
+  pub answers : (r : Response) → In r (responses a) → firmIs (participantOf a (r .sequence)) ≡ r .participant ∷ []
+  pub nobody : (k : ℕ) → Absent k (responses a) → firmIs (participantOf a k) ≡ []
 
+module _ (o : Order) where
   pub record Firms : Type 0 where
     -- it is the participant of the record that sent the response; of an amended one that of the amend (which record that is: `one-record` of part 4)
     pub of-record : (es : List Event) (e : Event) (r : Response) → Sends o es e r → r .participant ≡ e .participant
     -- after any records, and at the end
     pub told : (es : List Event) → Accepts o → Told (auctionAfter o es)
     pub told-end : (es : List Event) → Accepts o → Told (atEnd o es)
+    -- so, of every sequence, it is that of the response with it that the records taken leave standing; nobody's where there is none: cancelled, amended away, never placed, a market order
+    pub by-records : (es : List Event) (k : ℕ) → Accepts o → firmIs (participantOf (auctionAfter o es) k) ≡ map (λ r. r .participant) (filter (λ r. eqb (r .sequence) k) (standingOf o (takenRecords o es)))
+    pub by-records-end : (es : List Event) (k : ℕ) → Accepts o → firmIs (participantOf (atEnd o es) k) ≡ map (λ r. r .participant) (filter (λ r. eqb (r .sequence) k) (standingOf o (takenRecords o es)))
+
+-- an event with participant 0, all else as it is
+abbrev pub unnamed : Event → Event
+unnamed e = record { sequence = e .sequence; time = e .time; kind = e .kind; marks = e .marks; side = e .side; f12 = e .f12; f16 = e .f16; f20 = e .f20; f24 = e .f24; participant = 0 }
+
+-- the participants of the records are free on every kind, and change no answer, no fill and no line
+pub record Unshown : Type 0 where
+  pub form : (e : Event) → eventFormed (unnamed e) ≡ eventFormed e
+  pub answers : (o : Order) (es : List Event) → heard (acceptOf o .auction) (map unnamed es) ≡ heard (acceptOf o .auction) es
+  pub fills : (o : Order) (es : List Event) → auctionFills (atEnd o (map unnamed es)) ≡ auctionFills (atEnd o es)
+  -- two tapes of one order, whose records differ in their participants alone, have the same listing
+  pub listed : (s t : List ℕ) (o : Order) (es fs : List Event) → Carries s o es → Carries t o fs → map unnamed fs ≡ map unnamed es → listingOf t ≡ listingOf s
 
 -- ---- 8. a tape in the other form
 

@@ -1,4 +1,4 @@
--- What document 01 has for each case of each answer: a number for "no", or what is answered.
+-- What documents 01 and 02 have for each case of each answer: a number for "no", or what is answered.
 use mathlib.Core.Path.{_≡_}
 use mathlib.Core.Bool.{Bool, true, false}
 use mathlib.Core.List.{List, [], _∷_}
@@ -100,7 +100,7 @@ abbrev pub movedIs : Moved → Paper ℕ
 movedIs (Length n) = yes n
 movedIs (NotMoved n) = no n
 
--- the firm behind a response: its participant, or none where no live response has the sequence; document 01 has no number for that
+-- the firm behind a response: its participant, or none where no live response has the sequence; neither document has a number for that
 abbrev pub firmIs : Firm → List ℕ
 firmIs (Participant n) = n ∷ []
 firmIs Nobody = []

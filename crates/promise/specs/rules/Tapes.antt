@@ -27,11 +27,12 @@ pub record Carries (s : List ℕ) (o : Order) (es : List Event) : Type 0 where
   pub order : orderIs (orderIn s trailer) ≡ yes o
   pub records : recordsOf s trailer ≡ es
 
--- there is a tape that carries an order and records
-pub record SomeTape (o : Order) (es : List Event) : Type 0 where
+-- there is a tape, of the new form where `wide`, that carries an order and records
+pub record SomeTape (wide : Bool) (o : Order) (es : List Event) : Type 0 where
   pub bytes : List ℕ
   pub all-bytes : AllBytes bytes
   pub carries : Carries bytes o es
+  pub form : carries .trailer .wide ≡ wide
 
 -- the END, FILL and TOTAL lines of a tape's listing; none where it is refused
 abbrev pub endIn : Run → List ℕ

@@ -1,13 +1,13 @@
 -- What is promised of the records of a tape, beyond each function's own contract: of both forms at once, `wide` being that of the event records.
 use mathlib.Core.Path.{_≡_}
-use mathlib.Core.Bool.{Bool, true}
+use mathlib.Core.Bool.{Bool, true, false}
 use mathlib.Core.List.{List, [], _∷_, _++_, map}
 use Prim.Native.Nat.{ℕ, _+_, _≤_, _<_, _^_}
 use lib.ListN.{length, take, drop}
 use Rattle.base.specs.Lists.{Every}
-use Rattle.words.specs.rules.Bytes.{AllBytes}
+use Rattle.words.specs.rules.Bytes.{AllBytes, wordBytes}
 use Rattle.tape.specs.rules.Form.{orderFormed, eventFormed}
-use Rattle.tape.specs.rules.Records.{readOrder, orderAnswer, orderWrote, widthOf, readEvent, recordAt, eventHeld, eventAnswer, eventWrote, readTrailer, trailerAnswer, trailerWrote}
+use Rattle.tape.specs.rules.Records.{readOrder, orderAnswer, orderWrote, widthOf, eventWords, readEvent, recordAt, eventHeld, eventAnswer, eventWrote, readTrailer, trailerWords, trailerAnswer, trailerWrote}
 use Rattle.tape.specs.rules.Tape.{lengthOf, openTape, eventPlace, orderIn, recordsOf, tapeOf, wroteTape, trailerFor}
 use Rattle.tape.specs.rules.Whole.{tapeWith, ownBytes, orderBytes, recordsBytes}
 use Rattle.tape.specs.promises.Holds.{Holds, Recorded}
@@ -41,6 +41,24 @@ pub record RefusalsKeep : Type 0 where
   pub order : (o : Order) (out : List ℕ) (n : ℕ) → orderAnswer o out ≡ Refused n → orderWrote o out ≡ out
   pub event : (wide : Bool) (e : Event) (out : List ℕ) (n : ℕ) → eventAnswer wide e out ≡ Refused n → eventWrote wide e out ≡ out
   pub trailer : (t : Trailer) (out : List ℕ) (n : ℕ) → trailerAnswer t out ≡ Refused n → trailerWrote t out ≡ out
+
+-- the bytes themselves, of one record of each form: a response of sequence 1 at 20 ms, on the sell side, a Customer's, 3 at 105, by participant 77
+abbrev pub exampleEvent : Event
+exampleEvent = record { sequence = 1; time = 20; kind = 1; marks = 1; side = 2; f12 = 3; f16 = 105; f20 = 0; f24 = 0; participant = 77 }
+
+abbrev pub exampleBytes : List ℕ
+exampleBytes =
+    1 ∷ 0 ∷ 0 ∷ 0 ∷ 20 ∷ 0 ∷ 0 ∷ 0 ∷ 1 ∷ 1 ∷ 2 ∷ 0 ∷ 3 ∷ 0 ∷ 0 ∷ 0
+    ∷ 105 ∷ 0 ∷ 0 ∷ 0 ∷ 0 ∷ 0 ∷ 0 ∷ 0 ∷ 0 ∷ 0 ∷ 0 ∷ 0 ∷ 0 ∷ 0 ∷ 0 ∷ 0 ∷ []
+
+pub record InBytes : Type 0 where
+  -- "CUBT" stands first in an old tape's trailer, "CUB2" in a new one's
+  pub old-trailer : wordBytes (trailerWords (record { order = 5; events = 6; wide = false })) ≡ 67 ∷ 85 ∷ 66 ∷ 84 ∷ 5 ∷ 0 ∷ 0 ∷ 0 ∷ 6 ∷ 0 ∷ 0 ∷ 0 ∷ 0 ∷ 0 ∷ 0 ∷ 0 ∷ []
+  pub new-trailer : wordBytes (trailerWords (record { order = 5; events = 6; wide = true })) ≡ 67 ∷ 85 ∷ 66 ∷ 50 ∷ 5 ∷ 0 ∷ 0 ∷ 0 ∷ 6 ∷ 0 ∷ 0 ∷ 0 ∷ 0 ∷ 0 ∷ 0 ∷ 0 ∷ []
+  -- a new record is the old one, its participant and a zero word
+  pub old-record : wordBytes (eventWords false exampleEvent) ≡ exampleBytes
+  pub new-record : wordBytes (eventWords true exampleEvent) ≡ exampleBytes ++ (77 ∷ 0 ∷ 0 ∷ 0 ∷ 0 ∷ 0 ∷ 0 ∷ 0 ∷ [])
+  pub new-read : readEvent true (exampleBytes ++ (77 ∷ 0 ∷ 0 ∷ 0 ∷ 0 ∷ 0 ∷ 0 ∷ 0 ∷ [])) ≡ GotEvent exampleEvent
 
 -- every event can be held by a record of its tape, and its sequence and its participant are words
 pub data AllHeld (wide : Bool) : List Event → Type 0 where
@@ -82,6 +100,7 @@ pub record MadeOf (s : List ℕ) (t : Trailer) : Type 0 where
   pub records : recordsOf s t ≡ map (recordAt (t .wide)) (recordsBytes s t)
 
 pub record Demands : Type 0 where
+  pub in-bytes : InBytes
   pub values-back : ValuesBack
   pub bytes-back : BytesBack
   pub refusals-keep : RefusalsKeep

@@ -185,11 +185,12 @@ pub record SeesNamed (s : Sight) (a : Auction) (e : Event) : Type 0 where
   pub found : s .found ≡ namedPlace a e
   pub old : s .old ≡ responseAt (a .board .places) (namedPlace a e)
 
--- the response r is what the amend e made of old, for the terms t: the event's sequence, the new size, capped at the CUBE size, the new price, the old Customer mark
+-- the response r is what the amend e made of old, for the terms t: the event's sequence and participant, the new size, capped at the CUBE size, the new price, the old Customer mark
 pub record NewFor (t : Terms) (old : Response) (e : Event) (r : Response) : Type 0 where
   pub sequence : r .sequence ≡ e .sequence
   pub size : r .size ≡ min (newSizeOf e) (t .size)
   pub price : r .price ≡ newPriceOf (buyEvent (t .sell) e)
+  pub participant : r .participant ≡ e .participant
   pub customer : r .customer ≡ old .customer
   pub gtx : r .gtx ≡ true
 

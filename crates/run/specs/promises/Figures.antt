@@ -6,6 +6,9 @@ use Prim.Native.Nat.{ℕ}
 use Rattle.share.specs.rules.Fills.{Fill, fill}
 use Rattle.tape.specs.declared.order.Order.{Order}
 use Rattle.tape.specs.declared.event.Event.{Event}
+use Rattle.auction.specs.declared.firm.Firm.{Firm}
+use Rattle.auction.specs.declared.firm.Firm.the-variants.{Participant, Nobody}
+use Rattle.auction.specs.rules.Firm.{participantOf}
 use Rattle.auction.specs.rules.Accept.{acceptOf}
 use Rattle.auction.specs.rules.Range.{rangeOf}
 use Rattle.auction.specs.promises.Collared.{recollared}
@@ -231,3 +234,24 @@ cases =
 -- the table is what the definitions that the contracts cite give
 abbrev pub Figures : Type 0
 Figures = map resultOf cases ≡ map (λ (c : Case). c .want) cases
+
+-- ---- which firm stands behind a response (W-206)
+
+-- an event by a participant
+abbrev pub by : ℕ → Event → Event
+by participant e = record { sequence = e .sequence; time = e .time; kind = e .kind; marks = e .marks; side = e .side; f12 = e .f12; f16 = e .f16; f20 = e .f20; f24 = e .f24; participant = participant }
+
+-- a cancel of a response by its name
+abbrev pub cancel : ℕ → ℕ → Event
+cancel sequence name = event 2 sequence 0 name 0
+
+-- of sequences 1 to 6 of an auction that has ended: 1 was amended by 2, 3 is a limit order, 4 was cancelled by 5, and 6 is the market order that ended it
+abbrev pub firmsAtEnd : Order → List Event → List Firm
+firmsAtEnd o es = map (participantOf (played o es)) (1 ∷ 2 ∷ 3 ∷ 4 ∷ 5 ∷ 6 ∷ [])
+
+abbrev pub FirmFigures : Type 0
+FirmFigures =
+    (firmsAtEnd (order 1 1 100 110 108) (by 7 (gtx 1 30 105) ∷ by 9 (amend 2 1 20 106) ∷ by 5 (offer 3 10 107) ∷ by 6 (gtx 4 10 107) ∷ by 8 (cancel 5 4) ∷ by 3 (market 6 2 4) ∷ [])
+    ≡ Nobody ∷ Participant 9 ∷ Participant 5 ∷ Nobody ∷ Nobody ∷ Nobody ∷ [])
+    × (firmsAtEnd (order 2 1 100 100 102) (by 7 (gtxBuy 1 30 105) ∷ by 9 (amend 2 1 20 104) ∷ by 5 (bid 3 10 103) ∷ by 6 (gtxBuy 4 10 103) ∷ by 8 (cancel 5 4) ∷ by 3 (market 6 1 4) ∷ [])
+    ≡ Nobody ∷ Participant 9 ∷ Participant 5 ∷ Nobody ∷ Nobody ∷ Nobody ∷ [])

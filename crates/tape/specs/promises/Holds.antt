@@ -1,4 +1,4 @@
--- What is promised of a tape that opens, and of its records.
+-- What is promised of a tape that opens, and of its records, old or new (`wide`).
 use mathlib.Core.Path.{_≡_}
 use mathlib.Core.Bool.{Bool, cond}
 use mathlib.Core.List.{List}

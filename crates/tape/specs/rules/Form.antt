@@ -1,4 +1,4 @@
--- The stated form of an order and of an event (document 01, "The tape", W-201 for amends and W-205 for collared orders).
+-- The stated form of an order and of an event (document 01, "The tape", W-201 for amends and W-205 for collared orders). The participant is free on every kind (W-206): no test reads it.
 use mathlib.Core.Bool.{Bool, true, false, cond, not, _&&_, _||_}
 use mathlib.Core.List.{List, [], _∷_}
 use Prim.Native.Nat.{ℕ, _+_, _-_}

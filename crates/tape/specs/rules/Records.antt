@@ -1,4 +1,4 @@
--- The records of a tape: which words they are, how they are read and written.
+-- The records of a tape: which words they are, how they are read and written (document 01, "The tape", and W-206 for those of the new form).
 use mathlib.Core.Bool.{Bool, true, cond, _&&_, _||_}
 use mathlib.Core.List.{List, [], _∷_, _++_}
 use Prim.Native.Nat.{ℕ, _*_}
@@ -131,7 +131,7 @@ recordAt wide s =
     (cond (eventSpare wide s) (eventOf wide s)
     (ofNoKind (wordAt s 0)))
 
--- an event that can be written: it is in form, and an old record holds no participant
+-- an event that can be written: it is in form, and an old record can hold participant 0 alone
 unfoldable pub eventHeld : Bool → Event → Bool
 eventHeld wide e = eventFormed e && (wide || eqb (e .participant) 0)
 
@@ -143,18 +143,18 @@ eventWrote wide e out = wroteBytes (eventHeld wide e) (eventWords wide e) out
 
 -- ---- the trailer, 16 bytes
 
--- its first word tells the form: "CUBT" an old tape, "CUB2" a new one
+-- the first word tells the form: "CUBT" an old tape, "CUB2" a new one
 abbrev pub cubt : ℕ
 cubt = 1413633347
 
 abbrev pub cub2 : ℕ
 cub2 = 843208003
 
-abbrev pub nameOf : Bool → ℕ
-nameOf wide = cond wide cub2 cubt
+abbrev pub firstWord : Bool → ℕ
+firstWord wide = cond wide cub2 cubt
 
 unfoldable pub trailerWords : Trailer → List ℕ
-trailerWords t = nameOf (t .wide) ∷ t .order ∷ t .events ∷ 0 ∷ []
+trailerWords t = firstWord (t .wide) ∷ t .order ∷ t .events ∷ 0 ∷ []
 
 unfoldable pub trailerOf : List ℕ → Trailer
 trailerOf s = record { order = wordAt s 4; events = wordAt s 8; wide = eqb (wordAt s 0) cub2 }

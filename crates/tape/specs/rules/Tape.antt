@@ -1,4 +1,4 @@
--- A tape: the recorder's own bytes, the order record, the event records, the trailer.
+-- A tape: the recorder's own bytes, the order record, the event records, the trailer. `wide` says that it is of the new form.
 use mathlib.Core.Bool.{Bool, cond, _||_}
 use mathlib.Core.List.{List, [], _∷_, _++_}
 use Prim.Native.Nat.{ℕ, zero, suc, _+_, _*_, _-_}

@@ -1,4 +1,4 @@
--- A whole tape by its bytes: put together of any records as they are, and taken apart where its trailer says.
+-- A whole tape by its bytes: put together of any records as they are, and taken apart where its trailer says. `wide` says that it is of the new form.
 use mathlib.Core.Bool.{Bool}
 use mathlib.Core.List.{List, [], _∷_, _++_}
 use Prim.Native.Nat.{ℕ, zero, suc, _+_}

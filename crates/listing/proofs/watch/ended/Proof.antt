@@ -3,7 +3,6 @@ use native.Mathlib.Omega.{arith}
 use denote.Ref.{now}
 use lib.ListN.{length}
 use Rattle.base.proofs.ListLaws.{length-mapped}
-use Rattle.auction.specs.declared.Auction.{Auction}
 use Rattle.events.specs.declared.Stepped.{Stepped}
 use Rattle.fills.specs.rules.Fills.{hasEnded}
 use Rattle.run.specs.rules.Run.{closed}

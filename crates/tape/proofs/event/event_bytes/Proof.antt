@@ -2,8 +2,6 @@ use native.Mathlib.Omega.{arith}
 use Rattle.tape.specs.rules.Records.{widthOf}
 use Rattle.tape.proofs.event.event_bytes.Statement.{statement}
 use Rattle.tape.proofs.event.event_bytes.Tie as tie
-use Rattle.tape.proofs.event.event_bytes.Reads as reads
-use Rattle.tape.proofs.event.event_bytes.Lts as lts
 
 returns : tie.Need-returns
 unfolding widthOf

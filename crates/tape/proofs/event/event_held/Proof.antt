@@ -2,9 +2,6 @@ use Rattle.tape.specs.rules.Records.{eventHeld}
 use borrow.Author.Needs.{needs}
 use Rattle.tape.proofs.event.event_held.Statement.{statement}
 use Rattle.tape.proofs.event.event_held.Tie as tie
-use Rattle.tape.proofs.event.event_held.Reads as reads
-use Rattle.tape.proofs.event.event_held.Lts as lts
-use Rattle.tape.proofs.form.event_form.Reads as event-form-reads
 
 event-form-requires : tie.Need-event-form-requires
 event-form-requires c κs = search needs

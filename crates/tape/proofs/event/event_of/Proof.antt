@@ -2,10 +2,6 @@ use Rattle.tape.specs.rules.Records.{eventOf}
 use borrow.Author.Needs.{needs}
 use Rattle.tape.proofs.event.event_of.Statement.{statement}
 use Rattle.tape.proofs.event.event_of.Tie as tie
-use Rattle.tape.proofs.event.event_of.Reads as reads
-use Rattle.tape.proofs.event.event_of.Lts as lts
-use Rattle.tape.proofs.event.new_word.Reads as new-word-reads
-use Rattle.words.proofs.bytes.read_word.Reads as read-word-reads
 
 read-word-requires : tie.Need-read-word-requires
 read-word-requires c κs = search needs

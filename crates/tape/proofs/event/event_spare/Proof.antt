@@ -2,10 +2,6 @@ use Rattle.tape.specs.rules.Records.{eventSpare}
 use borrow.Author.Needs.{needs}
 use Rattle.tape.proofs.event.event_spare.Statement.{statement}
 use Rattle.tape.proofs.event.event_spare.Tie as tie
-use Rattle.tape.proofs.event.event_spare.Reads as reads
-use Rattle.tape.proofs.event.event_spare.Lts as lts
-use Rattle.tape.proofs.event.new_word.Reads as new-word-reads
-use Rattle.words.proofs.bytes.read_word.Reads as read-word-reads
 
 shared-slice-read-result : tie.Need-shared-slice-read-result
 shared-slice-read-result c = search needs

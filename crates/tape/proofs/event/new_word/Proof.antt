@@ -1,9 +1,6 @@
 use borrow.Author.Needs.{needs}
 use Rattle.tape.proofs.event.new_word.Statement.{statement}
 use Rattle.tape.proofs.event.new_word.Tie as tie
-use Rattle.tape.proofs.event.new_word.Reads as reads
-use Rattle.tape.proofs.event.new_word.Lts as lts
-use Rattle.words.proofs.bytes.read_word.Reads as read-word-reads
 
 read-word-requires : tie.Need-read-word-requires
 read-word-requires c κs = search needs

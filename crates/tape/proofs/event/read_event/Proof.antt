@@ -7,12 +7,6 @@ use Rattle.tape.specs.rules.Records.{readEvent, eventOf, eventSpare}
 use borrow.Author.Needs.{needs}
 use Rattle.tape.proofs.event.read_event.Statement.{statement}
 use Rattle.tape.proofs.event.read_event.Tie as tie
-use Rattle.tape.proofs.event.read_event.Reads as reads
-use Rattle.tape.proofs.event.read_event.Lts as lts
-use Rattle.tape.proofs.event.event_bytes.Reads as event-bytes-reads
-use Rattle.tape.proofs.event.event_of.Reads as event-of-reads
-use Rattle.tape.proofs.event.event_spare.Reads as event-spare-reads
-use Rattle.tape.proofs.form.event_form.Reads as event-form-reads
 
 event-bytes-requires : tie.Need-event-bytes-requires
 event-bytes-requires c κs = search needs

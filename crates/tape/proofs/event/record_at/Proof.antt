@@ -3,13 +3,6 @@ use Rattle.tape.specs.rules.Records.{recordAt}
 use borrow.Author.Needs.{needs}
 use Rattle.tape.proofs.event.record_at.Statement.{statement}
 use Rattle.tape.proofs.event.record_at.Tie as tie
-use Rattle.tape.proofs.event.record_at.Reads as reads
-use Rattle.tape.proofs.event.record_at.Lts as lts
-use Rattle.tape.proofs.event.event_bytes.Reads as event-bytes-reads
-use Rattle.tape.proofs.event.event_of.Reads as event-of-reads
-use Rattle.tape.proofs.event.event_spare.Reads as event-spare-reads
-use Rattle.tape.proofs.event.of_no_kind.Reads as of-no-kind-reads
-use Rattle.words.proofs.bytes.read_word.Reads as read-word-reads
 
 event-bytes-requires : tie.Need-event-bytes-requires
 event-bytes-requires c κs = search needs

@@ -9,12 +9,6 @@ use Rattle.tape.proofs.RecordLaws.{wrote-formless, wrote-short, wrote-d
 use borrow.Author.Needs.{needs}
 use Rattle.tape.proofs.event.write_event.Statement.{statement}
 use Rattle.tape.proofs.event.write_event.Tie as tie
-use Rattle.tape.proofs.event.write_event.Reads as reads
-use Rattle.tape.proofs.event.write_event.Lts as lts
-use Rattle.tape.proofs.event.event_bytes.Reads as event-bytes-reads
-use Rattle.tape.proofs.event.event_held.Reads as event-held-reads
-use Rattle.words.proofs.bytes.join.Reads as join-reads
-use Rattle.words.proofs.bytes.write_words.Reads as write-words-reads
 
 event-held-requires : tie.Need-event-held-requires
 event-held-requires c κs = search needs

@@ -1,5 +1,5 @@
-use mathlib.Core.Path.{_∙_, ap, subst}
-use Prim.Native.Nat.{ℕ, _*_, _-_, _+_, _≤_}
+use mathlib.Core.Path.{_∙_}
+use Prim.Native.Nat.{_*_, _-_, _+_, _≤_}
 use native.Mathlib.Omega.{arith}
 use lib.ListN.{length}
 use denote.Ref.{now}
@@ -7,12 +7,6 @@ use Rattle.tape.proofs.RecordLaws.{records-fit, records-over, record-pa
 use borrow.Author.Needs.{needs}
 use Rattle.tape.proofs.records.record_in.Statement.{statement}
 use Rattle.tape.proofs.records.record_in.Tie as tie
-use Rattle.tape.proofs.records.record_in.Reads as reads
-use Rattle.tape.proofs.records.record_in.Lts as lts
-use Rattle.tape.proofs.event.event_bytes.Reads as event-bytes-reads
-use Rattle.tape.proofs.event.of_no_kind.Reads as of-no-kind-reads
-use Rattle.tape.proofs.event.record_at.Reads as record-at-reads
-use Rattle.tape.proofs.records.whole_records.Reads as whole-records-reads
 
 -- the record begins before the bytes end
 fits : (c : tie.After-event-bytes) → c .before .before .before .before .before .before .args .k * c .event-bytes .result ≤ length (now (c .before .before .before .before .before .before .args .s)) - (c .before .before .before .before .before .before .args .t .order + 64)

@@ -1,8 +1,6 @@
 use Rattle.tape.specs.rules.Records.{widthOf}
 use Rattle.tape.proofs.records.whole_records.Statement.{statement}
 use Rattle.tape.proofs.records.whole_records.Tie as tie
-use Rattle.tape.proofs.records.whole_records.Reads as reads
-use Rattle.tape.proofs.records.whole_records.Lts as lts
 
 returns : tie.Need-returns
 unfolding widthOf

@@ -10,9 +10,6 @@ use Rattle.tape.specs.rules.Tape.{lastTrailer}
 use borrow.Author.Needs.{needs}
 use Rattle.tape.proofs.trailer.last_trailer.Statement.{statement}
 use Rattle.tape.proofs.trailer.last_trailer.Tie as tie
-use Rattle.tape.proofs.trailer.last_trailer.Reads as reads
-use Rattle.tape.proofs.trailer.last_trailer.Lts as lts
-use Rattle.tape.proofs.trailer.read_trailer.Reads as read-trailer-reads
 
 returns : tie.Need-returns
 unfolding lastTrailer

@@ -5,9 +5,6 @@ use native.Mathlib.Omega.{arith}
 use borrow.Author.Needs.{needs}
 use Rattle.tape.proofs.trailer.length_of.Statement.{statement}
 use Rattle.tape.proofs.trailer.length_of.Tie as tie
-use Rattle.tape.proofs.trailer.length_of.Reads as reads
-use Rattle.tape.proofs.trailer.length_of.Lts as lts
-use Rattle.tape.proofs.event.event_bytes.Reads as event-bytes-reads
 
 few : (n w : ℕ) → w ≤ 40 → n * w ≤ n * 40
 few n w h = mul-le-mul-left n h

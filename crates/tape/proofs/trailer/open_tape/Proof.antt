@@ -3,10 +3,6 @@ use Rattle.tape.specs.rules.Tape.{openTape}
 use borrow.Author.Needs.{needs}
 use Rattle.tape.proofs.trailer.open_tape.Statement.{statement}
 use Rattle.tape.proofs.trailer.open_tape.Tie as tie
-use Rattle.tape.proofs.trailer.open_tape.Reads as reads
-use Rattle.tape.proofs.trailer.open_tape.Lts as lts
-use Rattle.tape.proofs.trailer.last_trailer.Reads as last-trailer-reads
-use Rattle.tape.proofs.trailer.length_of.Reads as length-of-reads
 
 last-trailer-requires : tie.Need-last-trailer-requires
 last-trailer-requires c κs = search needs

@@ -8,9 +8,6 @@ use Rattle.tape.specs.rules.Records.{cubt, cub2, trailerOf, readTrailer}
 use borrow.Author.Needs.{needs}
 use Rattle.tape.proofs.trailer.read_trailer.Statement.{statement}
 use Rattle.tape.proofs.trailer.read_trailer.Tie as tie
-use Rattle.tape.proofs.trailer.read_trailer.Reads as reads
-use Rattle.tape.proofs.trailer.read_trailer.Lts as lts
-use Rattle.words.proofs.bytes.read_word.Reads as read-word-reads
 
 returns : tie.Need-returns
 unfolding readTrailer

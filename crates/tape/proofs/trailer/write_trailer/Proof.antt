@@ -13,8 +13,8 @@ returns c =
     let a = c .before .before .args in
     wrote-short 24 (trailerWords (a .t)) (now (a .out)) refl (omega arith)
 
-name-of-requires : tie.Need-name-of-requires
-name-of-requires c κs = search needs
+first-word-requires : tie.Need-first-word-requires
+first-word-requires c κs = search needs
 
 slice-aggregate-write-words : tie.Need-slice-aggregate-write-words
 slice-aggregate-write-words c = search needs
@@ -36,7 +36,7 @@ write-trailer-spec =
     tie.close
     (tie.spec
     returns
-    name-of-requires
+    first-word-requires
     slice-aggregate-write-words
     write-words-requires
     same-length
