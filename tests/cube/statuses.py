@@ -78,7 +78,7 @@ class Statuses(Case):
                 text = made.stdout.decode()
                 self.assertIn("usage: cube", text)
                 self.assertIn("example", text)
-                for status in ("  0  all was listed", "  1  something could not be read or written", "  2  the command line is wrong"):
+                for status in ("  0  all was listed", "  1  something could not be read, written or moved", "  2  the command line is wrong"):
                     self.assertIn(status, text)
 
     def test_on_a_terminal_without_words(self):

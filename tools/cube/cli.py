@@ -13,7 +13,7 @@ USAGE_LINES = ["cube [list] [OPTIONS] TAPE..", "cube < TAPE", "cube COMMAND [OPT
 ABOUT = """Listings of CUBE auction tapes by a proved engine, and what a desk asks about them. The engine is built from the sources on first use and whenever
 they have changed, which takes some minutes and needs the Rattle kit's command rt; while it is current, rt is not needed. What is listed comes
 from the proved programs runner, evening and desk; tapes as text, tables and pictures are made around them."""
-STATUSES = ["0  all was listed; a refused tape is listed", "1  something could not be read or written, or the engine not built", "2  the command line is wrong"]
+STATUSES = ["0  all was listed; a refused tape is listed", "1  something could not be read, written or moved, or the engine not built", "2  the command line is wrong"]
 
 
 def filled(text, width=79):
