@@ -1,6 +1,7 @@
 /* bench.c: the engine and the peer on the same tapes.
  *
- *   bench check CASE..     compares the two listings of each case; 1 if any differs, or there is no such case
+ *   bench check            compares the two listings of every case; 1 if any differs
+ *   bench cases            a line for each case: its name and how many tapes it has
  *   bench run CASE WHO N   lists the case's tapes N times; WHO is engine or peer
  *   bench time CASE WHO    nanoseconds for the case's tapes, the least of many tries
  *   bench stack CASE WHO   the deepest stack, in bytes, of the case's tapes
@@ -25,7 +26,7 @@ extern size_t cube_listing(const unsigned char *tape, size_t n, unsigned char *o
 #define BATCH  500
 
 #define FIRST  1000             /* sequences have four digits */
-#define EVENTS 2000             /* of the longest mixed tape */
+#define EVENTS 2000
 
 static unsigned char tapes[BATCH][PEER_TAPE_MAX];
 static size_t length[BATCH];
@@ -67,11 +68,9 @@ static void add(struct peer_event e) { event[n_events++] = e; }
 
 static void respond(uint32_t size, uint32_t price) { add(build_gtx(++sequence, 1, PEER_SELL, size, price, 0)); }
 
-static void cancel(uint32_t which) { add(build_cancel(++sequence, 1, which)); }
-
 static void quote(void) { add(build_quotes(++sequence, 1, 900, 1100, 900, 1100, 0)); }
 
-/* n responses, at one price or each at its own; together they are more than the order, or less. The one at place i has sequence `named(i)`. */
+/* n responses, at one price or each at its own; together they are more than the order, or less. */
 static void responses(int n, int prices, uint32_t size)
 {
     int i;
@@ -80,36 +79,10 @@ static void responses(int n, int prices, uint32_t size)
         respond(size + (uint32_t)i % 7, prices ? 910 + (uint32_t)i : 950);
 }
 
-static uint32_t named(int i) { return FIRST + 1 + (uint32_t)i; }
-
-/* Every other one of n responses is cancelled; the first and the last stay. The peer moves its last response to where the cancelled one stood: as the middle one is
- * cancelled first, the last place stands last in the peer's list too, and both look at as many to find it. */
-static void every_other_cancelled(int n)
-{
-    int i;
-
-    cancel(named(n / 2));
-    for (i = 1; i < n; i += 2)
-        if (i != n / 2)
-            cancel(named(i));
-}
-
-/* The response at place i, one of `responses(.., 0, 100)`, is amended a thousand times: as it was but for its sequence. */
-static void amends(int i)
-{
-    uint32_t which = named(i), size = 100 + (uint32_t)i % 7;
-    int k;
-
-    for (k = 0; k < 1000; k++) {
-        add(build_amend(++sequence, 1, which, size, 950));
-        which = sequence;
-    }
-}
-
 /* The first response is cancelled and comes again: it takes the first place with the last sequence. */
 static void out_of_order(uint32_t size)
 {
-    cancel(named(0));
+    add(build_cancel(++sequence, 1, FIRST + 1));
     respond(size, 950);
 }
 
@@ -137,12 +110,12 @@ static struct peer_order collared(void)
 /* The market order that takes all that the order buys. */
 static void all_to_market(void) { add(build_market(++sequence, 1, PEER_SELL, 10000, 0)); }
 
-static void mixed(int events)
+static void mixed(void)
 {
     uint32_t state = 1, live[PEER_PLACES];
     int n = 0;
 
-    while (n_events < events) {
+    while (n_events < EVENTS) {
         state = state * 1664525u + 1013904223u;
         switch (state >> 24 & 7) {
         case 0: case 1: case 2:
@@ -155,7 +128,8 @@ static void mixed(int events)
             break;
         case 3: case 4:
             if (n > 0) {
-                cancel(live[--n]);
+                n--;
+                add(build_cancel(++sequence, 1, live[n]));
             } else {
                 quote();
             }
@@ -209,8 +183,7 @@ static void shared_out(int market)
     tape(PEER_MATCH);
 }
 
-/* Cases by name: KIND-COUNT, where COUNT is how many responses stand (of lone the place of the one, of gapped the places taken before every other one is free, of
- * mixed the events); new_KIND-COUNT is the same on a tape of the new form. */
+/* Cases by name: KIND-COUNT, where COUNT is how many responses stand; new_KIND-COUNT is the same on a tape of the new form. */
 static int make(const char *name)
 {
     char kind[32];
@@ -238,30 +211,14 @@ static int make(const char *name)
         responses(n, 0, 100);
         for (i = 0; i < 500; i++) {
             respond(100, 950);
-            cancel(sequence);
+            add(build_cancel(sequence + 1, 1, sequence));
+            sequence++;
         }
         tape(PEER_STOP);
-    } else if (IS("amended") || IS("amended_first")) {
+    } else if (IS("amended")) {                             /* the last of them, again and again: as it was but for its sequence */
         responses(n, 0, 100);
-        amends(IS("amended") ? n - 1 : 0);
-        tape(PEER_STOP);
-    } else if (IS("amended_nobody")) {                      /* refused by 37 */
-        responses(n, 0, 100);
-        for (i = 0; i < 1000; i++)
-            add(build_amend(++sequence, 1, 1, 100, 950));
-        tape(PEER_STOP);
-    } else if (IS("lone") || IS("lone_amended")) {          /* one response, at place n: those before it are cancelled */
-        responses(n + 1, 0, 100);
-        for (i = 0; i < n; i++)
-            cancel(named(i));
-        if (IS("lone_amended"))
-            amends(n);
-        tape(PEER_STOP);
-    } else if (IS("gapped") || IS("gapped_amended")) {
-        responses(n, 0, 100);
-        every_other_cancelled(n);
-        if (IS("gapped_amended"))
-            amends(n - 1);
+        for (i = 0; i < 1000; i++, sequence++)
+            add(build_amend(sequence + 1, 1, sequence, 100 + (uint32_t)(n - 1) % 7, 950));
         tape(PEER_STOP);
     } else if (IS("limits")) {
         responses(n, 0, 100);
@@ -300,7 +257,7 @@ static int make(const char *name)
     } else if (IS("no_responses")) {
         tape(PEER_MATCH);
     } else if (IS("mixed")) {
-        mixed(n);
+        mixed();
         tape(PEER_MATCH);
     } else if (IS("batch")) {
         batch();
@@ -309,6 +266,18 @@ static int make(const char *name)
     }
     return 1;
 }
+
+static const char *const cases[] = {
+    "refused", "order", "collared", "standing-0", "standing-1", "standing-8", "standing-63", "quotes-0", "quotes-8", "quotes-63", "pairs-0", "pairs-8", "pairs-63",
+    "amended-1", "amended-8", "amended-63",
+    "new_order", "new_standing-8", "new_quotes-8", "new_pairs-8",
+    "limits-8", "resent-8", "shared-1", "shared-8", "shared-40", "shared-64", "shared_market-0", "shared_market-1", "shared_market-8", "shared_market-40",
+    "shared_market-64", "whole-40", "whole-64", "whole_market-0", "whole_market-40", "whole_market-64", "apart-40", "apart-64", "apart_market-0",
+    "apart_market-40", "apart_market-64", "short-40", "short-64", "short_market-0", "short_market-40", "short_market-64",
+    "crossed-8", "crossed-64", "crossed_market-0", "crossed_market-8", "crossed_market-64",
+    "priced-1", "priced-8", "priced-64", "priced_market-0", "priced_market-1", "priced_market-8", "priced_market-64", "no_responses", "mixed", "batch",
+};
+#define N_CASES (sizeof cases / sizeof cases[0])
 
 /* ------------------------------------------------------------------ */
 /* What is done with a case                                           */
@@ -321,11 +290,12 @@ static void list_all(size_t (*who)(int))
         who(i);
 }
 
-static int check(char **cases, int n_cases)
+static int check(void)
 {
-    int k, i, wrong = 0;
+    size_t k;
+    int i, wrong = 0;
 
-    for (k = 0; k < n_cases; k++) {
+    for (k = 0; k < N_CASES; k++) {
         if (!make(cases[k])) {
             printf("%s: no such case\n", cases[k]);
             return 1;
@@ -395,12 +365,20 @@ int main(int argc, char **argv)
 {
     const char *verb = argc > 1 ? argv[1] : "";
     size_t (*who)(int);
+    size_t k;
     long i;
 
     if (strcmp(verb, "check") == 0)
-        return check(argv + 2, argc - 2);
+        return check();
+    if (strcmp(verb, "cases") == 0) {
+        for (k = 0; k < N_CASES; k++) {
+            make(cases[k]);
+            printf("%s %d\n", cases[k], n_tapes);
+        }
+        return 0;
+    }
     if (argc < 4 || !make(argv[2])) {
-        fprintf(stderr, "bench: check with cases, or run, time or stack with a case and engine or peer\n");
+        fprintf(stderr, "bench: check, cases, or run, time or stack with a case and engine or peer\n");
         return 2;
     }
     who = strcmp(argv[3], "engine") == 0 ? by_engine : by_peer;

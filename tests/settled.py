@@ -20,8 +20,7 @@ BY_HAND = {"crates/steps": ["lent.apply", "lent.cancel"], "crates/reader": ["hol
 OUTSIDE = {"crates/input": ["last_error", "read_tape"]}
 
 
-# What a program's function promises: `runner` writes what `listing` wrote, `evening` writes it whole and in order and counts
-# what came of each tape, `desk` plays the run of the records.
+# What a program's function promises: `runner` writes what `listing` wrote, `evening` counts what came of each tape.
 LISTS = ["r ≡ lengthIn (listedOf (now (tape .entry)) (now (out .entry)))", "now (out .exit) ≡ bytesOf (now (tape .entry)) (now (out .entry))"]
 PROGRAMS = {
     "crates/runner": {"answer": LISTS},
@@ -32,21 +31,7 @@ PROGRAMS = {
         "count_unreadable": ["r ≡ countedUnreadable t"],
         "count_ending": ["r ≡ countedEnding t g"],
         "count_listed": ["r ≡ countedListed t l"],
-        "stopped": ["r ≡ stoppedTally t"],
-        "hand_on": ["r ≡ handedOn (r .failed) handed (length (now (s .entry)))"],
-        "flush": ["r ≡ flushed (r .failed) w"],
-        "put": ["now (wait .exit) ≡ sets (now (wait .entry)) at (now (s .entry))"],
-        "add": ["Puts w (now (wait .entry)) (now (s .entry) ∷ []) r (now (wait .exit))"],
-        "show": ["r .tally ≡ countedListed t (listedOf (now (tape .entry)) (now (out .entry)))",
-                 "Puts w (now (wait .entry)) (listedText (now (tape .entry)) (now (out .entry)) ∷ []) (r .waiting) (now (wait .exit))"],
-        "serve": ["Serves t w (now (wait .entry)) (now (name .entry)) (now (tape .exit)) (now (out .entry)) (r .tally) (r .waiting) (now (wait .exit))"],
-        "flush_to_read": ["Rests w r"],
-        "serve_next": ["Goes t w (now (wait .entry)) (r .more) (r .tally) (r .waiting) (now (wait .exit))"],
-        "turns_left": ["(more ≡ false → r ≡ 0)"],
-        "ended": ["Ends t w r"],
-        "serve_all": ["Ran r"],
     },
-    "crates/desk": {"play": ["(r .well ≡ true → r .auction ≡ run opened (recordsOf (now (tape .entry)) t))"]},
 }
 
 

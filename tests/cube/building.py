@@ -6,9 +6,8 @@ import unittest
 
 from support import CUBE, LISTING, ROOT, Case, cube, programs
 
-# names the kit's guide, by which the emulator is found on Arm; says what else it was asked; copies the programs; may wait, fail or change a source first
+# says what it was asked; copies the programs; may wait, fail or change a source first
 STAND_IN = """#!/bin/sh
-if [ "$1" = doc ]; then cat "$STAND_IN/guide"; exit; fi
 echo "$@" >>"$STAND_IN/asked"
 [ "$1" = check ] || exit 2
 sleep "${STAND_IN_WAIT:-0}"
@@ -36,8 +35,6 @@ class Building(Case):
         with open(self.rt, "w") as f:
             f.write(STAND_IN)
         os.chmod(self.rt, 0o755)
-        with open(os.path.join(self.kit, "guide"), "wb") as f:
-            f.write(subprocess.run(["rt", "doc"], stdout=subprocess.PIPE, check=True).stdout)
         self.env = {"PATH": os.path.join(self.kit, "bin"), "STAND_IN": self.kit}
 
     def change(self, name, text):
@@ -180,8 +177,6 @@ class Building(Case):
         built = os.path.join(self.root, "target", "cube")
         folder = next(f for f in os.listdir(built) if os.path.isdir(os.path.join(built, f)))
         os.symlink(shutil.which("env"), os.path.join(self.kit, "bin", "env"))
-        with open(os.path.join(built, folder, "prefix"), "r+") as f:
-            words = f.read()
-            f.seek(0)
-            f.write(os.path.join(self.kit, "bin", "env") + "\nNAME=with space\n" + words)
+        with open(os.path.join(built, folder, "prefix"), "w") as f:
+            f.write(os.path.join(self.kit, "bin", "env") + "\nNAME=with space\n")
         self.ends(self.run_cube(), 0, LISTING, "")

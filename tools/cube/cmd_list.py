@@ -4,7 +4,7 @@ import itertools
 import os
 import time
 
-from . import files, listing, names, pool, rows, runs
+from . import files, listing, names, pool, runs
 from .engine import Engine
 from .trouble import FINE, TROUBLE, put_error, say
 
@@ -21,7 +21,6 @@ EXAMPLES = [
 ]
 # with --firms each tape is a run by itself: smaller blocks, so that all jobs have work
 FIRMS_BLOCK = 32
-FORMS = {"csv": rows.Csv, "json": rows.Json}
 
 
 def add(parser):
@@ -78,20 +77,28 @@ def text_of(listed, headed, why):
     return head + listing.encoded(listing.with_reasons(lines, min(max(map(len, lines)), 40)))
 
 
+def keys_of(args):
+    return listing.KEYS + ["firms"] * args.firms
+
+
+def row_of(listed, args):
+    found = listing.row(listed)
+    line = listing.csv_row(found, keys_of(args)) if args.format == "csv" else listing.json_row(found, keys_of(args), lines=listed.lines())
+    return line.encode("utf-8", "surrogateescape")
+
+
 def present(engine, block, headed, args):
     """One block: what is printed of it, its counts, and a word on what can't be read where no summary says it."""
     run = runs.run_block(engine, block, args.firms)
     missing = []
     if args.format == "text" and headed and not args.why and run.is_plain():
         return run.text, run.counts, missing
-    listed = list(run)
-    if args.format == "text":
-        text = b"".join(text_of(one, headed, args.why) for one in listed)
-    else:
-        text = "".join(rows.printed(FORMS[args.format], listed, args.firms)).encode("utf-8", "surrogateescape")
-    if not headed:
-        missing = ["%s: %s" % (files.shown(one.name), one.why) for one in listed if isinstance(one, listing.Unreadable)]
-    return text, run.counts, missing
+    parts = []
+    for listed in run:
+        parts.append(text_of(listed, headed, args.why) if args.format == "text" else row_of(listed, args))
+        if isinstance(listed, listing.Unreadable) and not headed:
+            missing.append("%s: %s" % (files.shown(listed.name), listed.why))
+    return b"".join(parts), run.counts, missing
 
 
 class Progress:
@@ -118,7 +125,7 @@ def list_all(blocks, headed, args):
     engine, progress = Engine(), Progress()
     counts = [0] * len(runs.COUNTS)
     if args.format == "csv":
-        files.put_text(rows.header(rows.KEYS + ("firms",) * args.firms))
+        files.put_text(listing.csv_line(keys_of(args)))
     try:
         for text, part, missing in pool.in_order((functools.partial(present, engine, b, headed, args) for b in blocks), args.jobs):
             files.put(text)

@@ -4,7 +4,7 @@ import os
 import struct
 import tempfile
 
-from . import files, form, listing, reasons, rows, runs
+from . import files, form, listing, reasons, runs
 from .engine import Engine
 from .trouble import FINE, Trouble, reason
 
@@ -113,7 +113,7 @@ def place_of_order(tape, name):
 
 
 def row(value, swept, result, order):
-    found = rows.row(result)
+    found = listing.row(result)
     found["value"] = form.name_of(form.MODES, value) if swept == "mode" else value
     found["improvement"] = None
     if found["average"] is not None:
@@ -122,17 +122,17 @@ def row(value, swept, result, order):
     return found
 
 
-def table(found, swept):
+def table(rows, swept):
     """An aligned table: the best rows marked, the refusals in words below it."""
-    best = max((r["improvement"] for r in found if r["improvement"] is not None), default=None)
+    best = max((r["improvement"] for r in rows if r["improvement"] is not None), default=None)
     heads = [swept] + KEYS[1:]
-    cells = [heads] + [[rows.cell(rows.Csv, r, k) for k in KEYS] for r in found]
+    cells = [heads] + [[listing.cell(r, k) for k in KEYS] for r in rows]
     widths = [max(len(c[i]) for c in cells) for i in range(len(heads))]
-    stars = [" "] + ["*" if best is not None and r["improvement"] == best else " " for r in found]
+    stars = [" "] + ["*" if best is not None and r["improvement"] == best else " " for r in rows]
     for star, line in zip(stars, cells):
         words = [c.ljust(w) if heads[i] == "ending" or swept == "mode" and i == 0 else c.rjust(w) for i, (c, w) in enumerate(zip(line, widths))]
         yield (star + " " + "  ".join(words)).rstrip() + "\n"
-    for number in sorted({r["refused"] for r in found if r["refused"] is not None}):
+    for number in sorted({r["refused"] for r in rows if r["refused"] is not None}):
         yield "refused by %s: %s\n" % (number, reasons.condition(number))
 
 
@@ -144,11 +144,11 @@ def run(args, parser):
     for r in results:
         if isinstance(r, listing.Unreadable):
             raise Trouble("a changed tape can't be read again: " + r.why)
-    found = [row(v, swept, r, order) for v, r in zip(values, results)]
+    rows = [row(v, swept, r, order) for v, r in zip(values, results)]
     if args.format == "csv":
-        files.put_text(rows.header(KEYS) + "".join(rows.reckoned(rows.Csv, r, KEYS) for r in found))
+        files.put_text(listing.csv_line(KEYS) + "".join(listing.csv_row(r, KEYS) for r in rows))
     elif args.format == "json":
-        files.put_text("".join(rows.reckoned(rows.Json, r, KEYS) for r in found))
+        files.put_text("".join(listing.json_row(r, KEYS) for r in rows))
     else:
-        files.put_text("".join(table(found, swept)))
+        files.put_text("".join(table(rows, swept)))
     return FINE

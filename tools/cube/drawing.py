@@ -1,6 +1,6 @@
 """The picture of an auction: where each thing stands, and how it looks. It is to be read in print, so shapes differ and not colours alone."""
 from . import form, reasons
-from .rows import decimals
+from .listing import decimals
 from .svg import Canvas, spread, ticks
 
 WIDTH, HEIGHT = 1040, 640

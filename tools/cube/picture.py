@@ -1,6 +1,6 @@
 """What a picture of an auction shows, put together from three sources: the tape's own records, the listing's answers and fills, and the trace of
 the range and of what stands. Nothing here says what an event does: it is seen in the trace."""
-from . import form, listing, rows
+from . import form, listing
 
 
 class Span:
@@ -43,7 +43,7 @@ class Picture:
         self.order = form.order_fields(order)
         self.records = [form.event_fields(e) for e in events]
         answers = [w.split(" ")[2:] for w in lines if w.startswith("EVENT ")]
-        self.row = rows.row(listing.Listing(name, "\n".join(lines).encode() + b"\n"))
+        self.row = listing.row(listing.Listing(name, "\n".join(lines).encode() + b"\n"))
         self.fills = [(w[1], int(w[2]), int(w[3])) for w in (x.split(" ") for x in lines) if w[0] == "FILL"]
         self.length = self.order["interval"]
         self.end = next((r["time"] for r, a in zip(self.records, answers) if a[0] == "ended"), self.length)

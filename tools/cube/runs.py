@@ -118,18 +118,19 @@ class Evening:
 
     def __iter__(self):
         """What is listed of each name, in order. A name may hold anything, so each is stepped over by its own length."""
-        text, at = self.text, 0
+        at = 0
         for name, sent in zip(self.names, self.sent):
-            at += len(b"TAPE \n") + len(sent)
-            if text.startswith(b"UNREADABLE ", at):
-                number = text[at + 11:text.index(b" ", at + 11)]
-                at += len(b"UNREADABLE  \n") + len(number) + len(sent)
-                yield Unreadable.by_number(os.fsdecode(name), fault(name) or int(number))
+            at += len(b"TAPE " + sent + b"\n")
+            printed = os.fsdecode(name)
+            if self.text.startswith(b"UNREADABLE ", at):
+                number = self.text[at + 11:self.text.index(b" ", at + 11)]
+                end = at + len(b"UNREADABLE " + number + b" " + sent + b"\n")
+                yield Unreadable.by_number(printed, fault(name) or int(number))
             else:
-                last = at if text.startswith(b"REFUSED ", at) else text.index(b"\nTOTAL ", at) + 1
-                end = text.index(b"\n", last) + 1
-                yield Listing(os.fsdecode(name), text[at:end])
-                at = end
+                last = at if self.text.startswith(b"REFUSED ", at) else self.text.index(b"\nTOTAL ", at) + 1
+                end = self.text.index(b"\n", last) + 1
+                yield Listing(printed, self.text[at:end])
+            at = end
 
 
 def counts_of(listed):

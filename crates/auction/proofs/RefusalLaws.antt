@@ -6,39 +6,39 @@ use lib.Dec.{ltb, eqb}
 use borrow.Author.Tests.{lt-ltb, le-ltb, not-true, not-false}
 use Rattle.base.proofs.Bools.{no}
 use Rattle.tape.specs.declared.order.Order.{Order}
-use Rattle.auction.specs.rules.Accept.{countedOffer, initiatingOf, firstBound, guaranteedOf, rangeRefusal}
+use Rattle.auction.specs.rules.Accept.{counted_offer, initiating_of, first_bound, guaranteed_of, range_refusal}
 
 -- what counts as BO, where it is asked for and there is a collared order; else BO
 module _ (o : Order) where
-  pub offer-collared : (counted : Bool) → (counted && not (eqb o.displayed 0)) ≡ true → o.displayed - o.collar ≡ cond counted (countedOffer o) o.bo
-  unfolding countedOffer
+  pub offer-collared : (counted : Bool) → (counted && not (eqb o.displayed 0)) ≡ true → o.displayed - o.collar ≡ cond counted (counted_offer o) o.bo
+  unfolding counted_offer
   offer-collared true h = simp (not-true (eqb o.displayed 0) h)
   offer-collared false h = no (sym h)
 
-  pub offer-quoted : (counted : Bool) → (counted && not (eqb o.displayed 0)) ≡ false → o.bo ≡ cond counted (countedOffer o) o.bo
-  unfolding countedOffer
+  pub offer-quoted : (counted : Bool) → (counted && not (eqb o.displayed 0)) ≡ false → o.bo ≡ cond counted (counted_offer o) o.bo
+  unfolding counted_offer
   offer-quoted true h = simp (not-false (eqb o.displayed 0) h)
   offer-quoted false h = refl
 
-module _ (o : Order) {low high limit stop : ℕ} (b : low ≡ firstBound o) (p : high ≡ initiatingOf o) (l : limit ≡ o.limit) (s : stop ≡ o.stop) where
-  pub number-10 : limit < low → 10 ≡ rangeRefusal o
-  unfolding rangeRefusal
+module _ (o : Order) {low high limit stop : ℕ} (b : low ≡ first_bound o) (p : high ≡ initiating_of o) (l : limit ≡ o.limit) (s : stop ≡ o.stop) where
+  pub number-10 : limit < low → 10 ≡ range_refusal o
+  unfolding range_refusal
   number-10 t = simp (rw (l, b) at (lt-ltb limit low t))
 
-  pub number-13 : low ≤ limit → high < low → 13 ≡ rangeRefusal o
-  unfolding rangeRefusal
+  pub number-13 : low ≤ limit → high < low → 13 ≡ range_refusal o
+  unfolding range_refusal
   number-13 t u = simp (rw (l, b) at (le-ltb limit low t), rw (p, b) at (lt-ltb high low u))
 
-  pub number-11 : low ≤ limit → low ≤ high → high < stop → 11 ≡ rangeRefusal o
-  unfolding rangeRefusal
+  pub number-11 : low ≤ limit → low ≤ high → high < stop → 11 ≡ range_refusal o
+  unfolding range_refusal
   number-11 t u v = simp (rw (l, b) at (le-ltb limit low t), rw (p, b) at (le-ltb high low u), rw (p, s) at (lt-ltb high stop v))
 
   -- the NBBO is one cent wide, and the guaranteed price one cent below NBO
-  module _ (t : low ≤ limit) (u : low ≤ high) (v : stop ≤ high) {cent good : Bool} (n : cent ≡ eqb o.nbo (o.nbb + 1)) (g : good ≡ eqb o.nbo (guaranteedOf o + 1)) where
-    pub number-12 : (ltb o.size 50 && cent && not good) ≡ true → 12 ≡ rangeRefusal o
-    unfolding rangeRefusal
+  module _ (t : low ≤ limit) (u : low ≤ high) (v : stop ≤ high) {cent good : Bool} (n : cent ≡ eqb o.nbo (o.nbb + 1)) (g : good ≡ eqb o.nbo (guaranteed_of o + 1)) where
+    pub number-12 : (ltb o.size 50 && cent && not good) ≡ true → 12 ≡ range_refusal o
+    unfolding range_refusal
     number-12 w = simp (rw (l, b) at (le-ltb limit low t), rw (p, b) at (le-ltb high low u), rw (p, s) at (le-ltb high stop v), rw (n, g) at w)
 
-    pub number-0 : (ltb o.size 50 && cent && not good) ≡ false → 0 ≡ rangeRefusal o
-    unfolding rangeRefusal
+    pub number-0 : (ltb o.size 50 && cent && not good) ≡ false → 0 ≡ range_refusal o
+    unfolding range_refusal
     number-0 w = simp (rw (l, b) at (le-ltb limit low t), rw (p, b) at (le-ltb high low u), rw (p, s) at (le-ltb high stop v), rw (n, g) at w)

@@ -1,13 +1,13 @@
 // The range that holds in an auction, and whether it is open.
 ghost use Rattle.std.specs.Prelude.{◌≡◌, ◌≤◌};
-ghost use Rattle.auction.specs.rules.Range.{isOpen, word, boundBy, boundNow, range_of};
+ghost use Rattle.auction.specs.rules.Range.{is_open, word, bound_by, bound_now, range_of};
 
 use crate::orders::bound;
 use crate::{Ending, Head, Quotes, Range, Terms};
 use base::mirror;
 
 pub fn is_open(g: Ending) -> bool
-    ensures { result ≡ isOpen g }
+    ensures { result ≡ is_open g }
 {
     match g {
         Ending::Open => true,
@@ -20,7 +20,7 @@ pub fn is_open(g: Ending) -> bool
 
 // The lower bound that quotes make.
 pub fn bound_by(t: Terms, q: Quotes) -> u64
-    ensures { (result ≡ boundBy t q) × (result ≤ 4294967296) }
+    ensures { (result ≡ bound_by t q) × (result ≤ 4294967296) }
 {
     bound(t.size, t.floor, q.bb, q.bidmark)
 }
@@ -33,7 +33,7 @@ pub(crate) fn to_word(x: u64) -> u32
 
 // The lower bound as it stands.
 pub fn bound_now(h: Head) -> u32
-    ensures { result ≡ boundNow h }
+    ensures { result ≡ bound_now h }
 {
     to_word(bound_by(h.terms, h.quotes))
 }

@@ -1,6 +1,6 @@
 // The firm behind a response that stands on the board.
 ghost use Rattle.std.specs.Prelude.{◌≡◌};
-ghost use Rattle.auction.specs.rules.Firm.{participantOf};
+ghost use Rattle.auction.specs.rules.Firm.{participant_of};
 
 use crate::Auction;
 
@@ -13,7 +13,7 @@ pub enum Firm {
 
 // Which firm stands behind the live response with this sequence; after the ending, which stood.
 pub fn participant_of(a: Auction, sequence: u32) -> Firm
-    ensures { result ≡ participantOf a sequence }
+    ensures { result ≡ participant_of a sequence }
 {
     let named = board::find(a.board, sequence, true);
     if named.place < 64 {

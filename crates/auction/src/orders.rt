@@ -1,6 +1,6 @@
 // Acceptance: the numbers 1 to 13, and the auction that an accepted order opens.
 ghost use Rattle.std.specs.Prelude.{◌≡◌, cond, ◌+◌, ◌≤◌, eqb};
-ghost use Rattle.auction.specs.rules.Accept.{countedOffer, initiatingOf, tickOf, boundOf, firstBound, guaranteedOf, rangeRefusal, buyRefusal, orderRefusal, termsOf, quotesOf, openedBy, noAuction, acceptOf};
+ghost use Rattle.auction.specs.rules.Accept.{counted_offer, initiating_of, tick_of, bound_of, first_bound, guaranteed_of, range_refusal, buy_refusal, order_refusal, terms_of, quotes_of, opened_by, no_auction, accept_of};
 
 use crate::{Auction, Ending, Entry, Head, Market, Opening, Quotes, Terms};
 use base::{greater, less, lower, wide};
@@ -10,7 +10,7 @@ use words::bits::mark;
 
 // BO as it is quoted, or what counts as BO in the initiating price: BO, or the displayed price minus the collar of a collared order on the other side.
 fn offer(o: Order, counted: bool) -> u32
-    ensures { result ≡ cond counted (countedOffer o) o.bo }
+    ensures { result ≡ cond counted (counted_offer o) o.bo }
 {
     if counted & (o.displayed != 0) {
         return less(o.displayed, o.collar);
@@ -19,7 +19,7 @@ fn offer(o: Order, counted: bool) -> u32
 }
 
 fn initiating(o: Order) -> u32
-    ensures { result ≡ initiatingOf o }
+    ensures { result ≡ initiating_of o }
 {
     if o.size < 50 {
         return lower(lower(o.limit, o.nbo), less(offer(o, true), 1));
@@ -29,14 +29,14 @@ fn initiating(o: Order) -> u32
 
 // The added cent.
 fn tick(size: u32, bidmark: bool) -> u64
-    ensures { (result ≡ tickOf size bidmark) × (result ≤ 1) }
+    ensures { (result ≡ tick_of size bidmark) × (result ≤ 1) }
 {
     if (size < 50) | bidmark { 1 } else { 0 }
 }
 
 // The lower bound of the range.
 pub(crate) fn bound(size: u32, floor: u32, bb: u32, bidmark: bool) -> u64
-    ensures { (result ≡ boundOf size floor bb bidmark) × (result ≤ 4294967296) }
+    ensures { (result ≡ bound_of size floor bb bidmark) × (result ≤ 4294967296) }
 {
     let f = wide(floor);
     let b = wide(bb) + tick(size, bidmark);
@@ -44,13 +44,13 @@ pub(crate) fn bound(size: u32, floor: u32, bb: u32, bidmark: bool) -> u64
 }
 
 fn first_bound(o: Order) -> u64
-    ensures { (result ≡ firstBound o) × (result ≤ 4294967296) }
+    ensures { (result ≡ first_bound o) × (result ≤ 4294967296) }
 {
     bound(o.size, o.nbb, o.bb, mark(o.marks, 2))
 }
 
 fn guaranteed(o: Order) -> u64
-    ensures { (result ≡ guaranteedOf o) × (result ≤ 4294967296) }
+    ensures { (result ≡ guaranteed_of o) × (result ≤ 4294967296) }
 {
     if o.mode == 2 {
         return wide(initiating(o));
@@ -68,7 +68,7 @@ fn is_next(x: u64, y: u32) -> bool
 
 // 10, 13, 11 and 12.
 fn range_refusal(o: Order) -> u32
-    ensures { result ≡ rangeRefusal o }
+    ensures { result ≡ range_refusal o }
 {
     let low = first_bound(o);
     let high = wide(initiating(o));
@@ -91,7 +91,7 @@ fn range_refusal(o: Order) -> u32
 
 // 2 to 13, of a buy in form.
 fn buy_refusal(o: Order) -> u32
-    ensures { result ≡ buyRefusal o }
+    ensures { result ≡ buy_refusal o }
 {
     if (o.nbb < o.bb) | (o.bo < o.nbo) {
         return 2;
@@ -122,7 +122,7 @@ fn buy_refusal(o: Order) -> u32
 
 // The number that refuses an order; 0 where none does.
 fn order_refusal(o: Order) -> u32
-    ensures { result ≡ orderRefusal o }
+    ensures { result ≡ order_refusal o }
 {
     if !tape::order_form(o) {
         return 1;
@@ -131,7 +131,7 @@ fn order_refusal(o: Order) -> u32
 }
 
 fn terms_of(sell: bool, b: Order) -> Terms
-    ensures { result ≡ termsOf sell b }
+    ensures { result ≡ terms_of sell b }
 {
     Terms {
         sell,
@@ -145,7 +145,7 @@ fn terms_of(sell: bool, b: Order) -> Terms
 }
 
 fn quotes_of(b: Order) -> Quotes
-    ensures { result ≡ quotesOf b }
+    ensures { result ≡ quotes_of b }
 {
     Quotes {
         nbb: b.nbb,
@@ -159,7 +159,7 @@ fn quotes_of(b: Order) -> Quotes
 
 // The open auction of a buy.
 fn opened_by(sell: bool, b: Order) -> Auction
-    ensures { result ≡ openedBy sell b }
+    ensures { result ≡ opened_by sell b }
 {
     let terms = terms_of(sell, b);
     let quotes = quotes_of(b);
@@ -183,7 +183,7 @@ fn opened_by(sell: bool, b: Order) -> Auction
 
 // What stands beside a refusal.
 fn no_auction() -> Auction
-    ensures { result ≡ noAuction }
+    ensures { result ≡ no_auction }
 {
     let board = board::empty();
     Auction {
@@ -220,7 +220,7 @@ fn no_auction() -> Auction
 
 // An order's refusal, or the auction that it opens.
 pub fn accept(o: Order) -> Opening
-    ensures { result ≡ acceptOf o }
+    ensures { result ≡ accept_of o }
 {
     let number = order_refusal(o);
     if number == 0 {

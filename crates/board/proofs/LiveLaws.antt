@@ -10,7 +10,7 @@ use lib.Dec.{eqb}
 use lib.ListN.{length, get_or, set}
 use lib.Pow.{pow_pos}
 use borrow.Author.Tests.{eq-eqb, ne_eqb}
-use Rattle.words.specs.rules.Bits.{bit_at, withBit, withoutBit, ones_in}
+use Rattle.words.specs.rules.Bits.{bit_at, with_bit, without_bit, ones_in}
 use Rattle.words.proofs.BitLaws.{bit-or, bit-zero, bit-half, bit-low, no-bit, add_half, add-odd, cut-same, cut-back, with-clear, with-other, without-set, without_not, without_in, without_other, LowestBit}
 use Rattle.base.specs.Lists.{keep, filter, Every, Inserts}
 use Rattle.base.specs.Lists.Inserts.{here, there}
@@ -85,7 +85,7 @@ module _ {A : Type 0} where
       (λ e. rw (live-step w p ps e, live-step _ p ps (add-odd w i ∙ e), add_half) (there ih))
       (bit-or w)
 
-  pub less-live : (w i : ℕ) (ps : List A) (d : A) → i < length ps → bit_at w i ≡ true → Inserts (get_or ps i d) (live_in (withoutBit w i) ps) (live_in w ps)
+  pub less-live : (w i : ℕ) (ps : List A) (d : A) → i < length ps → bit_at w i ≡ true → Inserts (get_or ps i d) (live_in (without_bit w i) ps) (live_in w ps)
   less-live w i ps d l t =
       rw (without-set w i t) (rw (cut-back w i t) at (more-live (w - 2 ^ i) i ps d l (cut-same w i t)))
 
@@ -104,7 +104,7 @@ module _ {A : Type 0} where
       let ih = first_more (w / 2) i ps d (le_of_suc-le-suc l) (bit-half w i ∙ h) (λ j m. bit-half w j ∙ none (suc j) (omega arith)) in
       rw (dead-step w p ps z, dead-step (w + 2 ^ suc i) p ps (add-odd w i ∙ z), add_half) ih
 
-  pub first_live : (w i : ℕ) (ps : List A) (d : A) → i < length ps → LowestBit w i → live_in w ps ≡ get_or ps i d ∷ live_in (withoutBit w i) ps
+  pub first_live : (w i : ℕ) (ps : List A) (d : A) → i < length ps → LowestBit w i → live_in w ps ≡ get_or ps i d ∷ live_in (without_bit w i) ps
   first_live w i ps d l low =
       let t = low.set in
       let f = first_more (w - 2 ^ i) i ps d l (cut-same w i t) none in
@@ -173,16 +173,16 @@ module _ {A : Type 0} (t : A → Bool) where
 
   -- a turn: place i of rest is kept where it passes
   pub sift-step : (ps : List A) (w kept rest i : ℕ) (d : A) → i < length ps → i < 64 → bit_at rest i ≡ true → Sifted ps w kept rest
-      → Sifted ps w (cond (t (get_or ps i d)) (withBit kept i) kept) (withoutBit rest i)
+      → Sifted ps w (cond (t (get_or ps i d)) (with_bit kept i) kept) (without_bit rest i)
   sift-step ps w kept rest i d l m b s = go (t (get_or ps i d)) refl
     where
-      left : word_of t rest ps ≡ cond (t (get_or ps i d)) (2 ^ i) 0 + word_of t (withoutBit rest i) ps
+      left : word_of t rest ps ≡ cond (t (get_or ps i d)) (2 ^ i) 0 + word_of t (without_bit rest i) ps
       left = rw (without-set rest i b) (rw (cut-back rest i b) at (more-word (rest - 2 ^ i) i ps d l (cut-same rest i b)))
 
-      clear : (j : ℕ) → bit_at (withoutBit rest i) j ≡ true → bit_at kept j ≡ false
+      clear : (j : ℕ) → bit_at (without_bit rest i) j ≡ true → bit_at kept j ≡ false
       clear j h = s.apart j (without_in rest i j h)
 
-      go : (c : Bool) → t (get_or ps i d) ≡ c → Sifted ps w (cond c (withBit kept i) kept) (withoutBit rest i)
+      go : (c : Bool) → t (get_or ps i d) ≡ c → Sifted ps w (cond c (with_bit kept i) kept) (without_bit rest i)
       go true e = record {
         total = omega (arith, s.total, rw e at left, with-clear kept i m (s.apart i b));
         apart = λ j h. with-other kept i j (without_not rest i j h) ∙ clear j h;

@@ -11,7 +11,7 @@ use Rattle.base.proofs.Numbers.{le-or-lt}
 use Rattle.base.specs.Lists.{filter, Every, Inserts, Shuffles}
 use Rattle.base.specs.Lists.Inserts.{here, there}
 use Rattle.base.specs.Lists.Shuffles.{none, more}
-use Rattle.board.specs.rules.Board.{inserted, inSequence}
+use Rattle.board.specs.rules.Board.{inserted, in_sequence}
 use Rattle.board.specs.inside.Places.{bears}
 use Rattle.board.specs.promises.Board.{RisingFrom}
 use Rattle.board.specs.declared.Response.{Response}
@@ -74,20 +74,20 @@ inserted_rising r m (x ∷ xs) h s =
 
 -- ---- the list in rising order of sequence
 -- it rises
-pub sequence-rises : (xs : List Response) → RisingFrom 0 (inSequence xs)
-unfolding inSequence
+pub sequence-rises : (xs : List Response) → RisingFrom 0 (in_sequence xs)
+unfolding in_sequence
 sequence-rises [] = tt
-sequence-rises (x ∷ xs) = inserted_rising x 0 (inSequence xs) (omega arith) (sequence-rises xs)
+sequence-rises (x ∷ xs) = inserted_rising x 0 (in_sequence xs) (omega arith) (sequence-rises xs)
 
 -- it has the same responses
-pub sequence-shuffles : (xs : List Response) → Shuffles xs (inSequence xs)
-unfolding inSequence
+pub sequence-shuffles : (xs : List Response) → Shuffles xs (in_sequence xs)
+unfolding in_sequence
 sequence-shuffles [] = none
-sequence-shuffles (x ∷ xs) = more (sequence-shuffles xs) (inserted-is x (inSequence xs))
+sequence-shuffles (x ∷ xs) = more (sequence-shuffles xs) (inserted-is x (in_sequence xs))
 
 -- a list that rises stays
-rising_stays : (m : ℕ) (xs : List Response) → RisingFrom m xs → inSequence xs ≡ xs
-unfolding inSequence
+rising_stays : (m : ℕ) (xs : List Response) → RisingFrom m xs → in_sequence xs ≡ xs
+unfolding in_sequence
 rising_stays m [] r = refl
 rising_stays m (x ∷ xs) r =
     ap (inserted x) (rising_stays x.sequence xs r.1) ∙ inserted-front x xs (rising-from x.sequence xs r.1)
@@ -111,14 +111,14 @@ inserted-pass t r m (x ∷ xs) s e =
     (bool-or (t x))))
     (le-or-lt r.sequence x.sequence)
 
-pub sequence-filter : (t : Response → Bool) (xs : List Response) → filter t (inSequence xs) ≡ inSequence (filter t xs)
-unfolding inSequence filter
+pub sequence-filter : (t : Response → Bool) (xs : List Response) → filter t (in_sequence xs) ≡ in_sequence (filter t xs)
+unfolding in_sequence filter
 sequence-filter t [] = refl
 sequence-filter t (x ∷ xs) =
     let ih = sequence-filter t xs in
     ⊎_elim
-    (λ e. inserted-pass t x 0 (inSequence xs) (sequence-rises xs) e ∙ rw (filter-pass t x xs e, ih))
-    (λ e. inserts-fail t e (inserted-is x (inSequence xs)) ∙ rw (filter-fail t x xs e) ih)
+    (λ e. inserted-pass t x 0 (in_sequence xs) (sequence-rises xs) e ∙ rw (filter-pass t x xs e, ih))
+    (λ e. inserts-fail t e (inserted-is x (in_sequence xs)) ∙ rw (filter-fail t x xs e) ih)
     (bool-or (t x))
 
 -- one of a higher sequence than all others comes last
@@ -136,13 +136,13 @@ inserted-before x r (y ∷ xs) h =
     (λ l. inserted-high x y (xs ++ (r ∷ [])) l ∙ ap (λ (ys : List Response). y ∷ ys) (inserted-before x r xs h) ∙ sym (ap (λ (ys : List Response). ys ++ (r ∷ [])) (inserted-high x y xs l)))
     (le-or-lt x.sequence y.sequence)
 
-pub sequence-last : {r : Response} {xs ys : List Response} → Inserts r xs ys → Every (λ (x : Response). x.sequence < r.sequence) xs → inSequence ys ≡ inSequence xs ++ (r ∷ [])
-unfolding inSequence
-sequence-last {r} {xs} here h = inserted-last r (inSequence xs) (shuffles-every (λ (x : Response). x.sequence < r.sequence) (sequence-shuffles xs) h)
-sequence-last {r} (there {x} {xs} i) h = ap (inserted x) (sequence-last i h.1) ∙ inserted-before x r (inSequence xs) h.0
+pub sequence-last : {r : Response} {xs ys : List Response} → Inserts r xs ys → Every (λ (x : Response). x.sequence < r.sequence) xs → in_sequence ys ≡ in_sequence xs ++ (r ∷ [])
+unfolding in_sequence
+sequence-last {r} {xs} here h = inserted-last r (in_sequence xs) (shuffles-every (λ (x : Response). x.sequence < r.sequence) (sequence-shuffles xs) h)
+sequence-last {r} (there {x} {xs} i) h = ap (inserted x) (sequence-last i h.1) ∙ inserted-before x r (in_sequence xs) h.0
 
 -- responses of one sequence stay in their order
-pub sequence-stable : (s : ℕ) (xs : List Response) → filter (bears s) (inSequence xs) ≡ filter (bears s) xs
+pub sequence-stable : (s : ℕ) (xs : List Response) → filter (bears s) (in_sequence xs) ≡ filter (bears s) xs
 unfolding filter
 sequence-stable s xs = sequence-filter (bears s) xs ∙ rising_stays s (filter (bears s) xs) (same xs)
   where
@@ -159,8 +159,8 @@ pub data Leads (m : Response) : List Response → List Response → Type 0 where
   first : {xs : List Response} → From m.sequence xs → Leads m xs (m ∷ xs)
   later : {x : Response} {xs ys : List Response} → m.sequence < x.sequence → Leads m xs ys → Leads m (x ∷ xs) (x ∷ ys)
 
-pub leads-sequence : {m : Response} {xs ys : List Response} → Leads m xs ys → inSequence ys ≡ m ∷ inSequence xs
-unfolding inSequence
+pub leads-sequence : {m : Response} {xs ys : List Response} → Leads m xs ys → in_sequence ys ≡ m ∷ in_sequence xs
+unfolding in_sequence
 leads-sequence {m} {xs} (first e) =
-    inserted-front m (inSequence xs) (shuffles-every (λ (x : Response). m.sequence ≤ x.sequence) (sequence-shuffles xs) e)
-leads-sequence {m} (later {x = x} {xs = xs} h l) = ap (inserted x) (leads-sequence l) ∙ inserted-high x m (inSequence xs) h
+    inserted-front m (in_sequence xs) (shuffles-every (λ (x : Response). m.sequence ≤ x.sequence) (sequence-shuffles xs) e)
+leads-sequence {m} (later {x = x} {xs = xs} h l) = ap (inserted x) (leads-sequence l) ∙ inserted-high x m (in_sequence xs) h

@@ -12,6 +12,9 @@ is_live κs a = (tt, λ y z v w p q. (p ∙ sym q, refl))
 pub live-count : Settled contracts.live_count.ended contracts.live_count.Reads.Asked contracts.live_count.Reads.Learnt
 live-count κs a = (tt, λ y z v w p q. (p ∙ sym q, refl))
 
+pub first-free : Settled contracts.first_free.ended contracts.first_free.Reads.Asked contracts.first_free.Reads.Learnt
+first-free κs a = (tt, λ y z v w p q. (p ∙ sym q, refl))
+
 pub seated : Settled contracts.seated.ended contracts.seated.Reads.Asked contracts.seated.Reads.Learnt
 seated κs a = (tt, λ y z v w p q. (p ∙ sym q, refl))
 

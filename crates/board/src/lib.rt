@@ -1,6 +1,6 @@
 // The board: 64 places for responses, and the word that tells which of them are live.
 ghost use Rattle.std.specs.Prelude.{◌≡◌};
-ghost use Rattle.board.specs.rules.Board.{noResponse, responseAt, emptyBoard, isLive, liveCount, seatedAt, cleared, isNamed, found};
+ghost use Rattle.board.specs.rules.Board.{no_response, response_at, empty_board, is_live, live_count, first_free, seated_at, cleared, is_named, found};
 
 use words::bits;
 
@@ -31,7 +31,7 @@ pub struct Found {
 
 // What stands where no response was ever placed.
 fn no_response() -> Response
-    ensures { result ≡ noResponse }
+    ensures { result ≡ no_response }
 {
     Response {
         sequence: 0,
@@ -45,7 +45,7 @@ fn no_response() -> Response
 
 // The board with no live place.
 pub fn empty() -> Board
-    ensures { result ≡ emptyBoard }
+    ensures { result ≡ empty_board }
 {
     let places = [no_response(); 64];
     Board { places, live: 0 }
@@ -53,21 +53,28 @@ pub fn empty() -> Board
 
 // Whether place i is live.
 pub fn is_live(b: Board, i: usize) -> bool
-    ensures { result ≡ isLive b i }
+    ensures { result ≡ is_live b i }
 {
     bits::test(b.live, i)
 }
 
 // How many places are live.
 pub fn live_count(b: Board) -> u32
-    ensures { result ≡ liveCount b }
+    ensures { result ≡ live_count b }
 {
     bits::ones(b.live)
 }
 
+// The lowest free place, and 64 where none is free.
+pub fn first_free(b: Board) -> u32
+    ensures { result ≡ first_free b }
+{
+    bits::first_clear(b.live)
+}
+
 // A response at a place, live. Where there is no such place the board stays.
 pub fn seated(b: Board, at: usize, r: Response) -> Board
-    ensures { result ≡ seatedAt b at r }
+    ensures { result ≡ seated_at b at r }
 {
     if 64 <= at {
         return b;
@@ -89,7 +96,7 @@ pub fn clear(b: Board, i: usize) -> Board
 
 // Whether a response has this sequence: any, or a GTX response alone.
 pub fn is_named(r: Response, sequence: u32, any: bool) -> bool
-    ensures { result ≡ isNamed any sequence r }
+    ensures { result ≡ is_named any sequence r }
 {
     (any | r.gtx) & (r.sequence == sequence)
 }
@@ -118,7 +125,7 @@ pub fn find(b: Board, sequence: u32, any: bool) -> Found
 
 // What stands at place i; past the last place, what stands where no response was ever placed.
 pub fn response_at(b: Board, i: usize) -> Response
-    ensures { result ≡ responseAt b.places i }
+    ensures { result ≡ response_at b.places i }
 {
     if i < 64 {
         return b.places[i];

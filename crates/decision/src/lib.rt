@@ -1,7 +1,7 @@
 // What is decided of an event of a buy's auction, on small values.
 ghost use Rattle.std.specs.Prelude.{◌≡◌, cond, ltb};
-ghost use Rattle.decision.specs.rules.Decide.{seats, places, gtxOutcome, cancelOutcome, amendedBy, amendOutcome, sellLimitOutcome, bidQuotes, moves, buyLimitOutcome, limitOutcome, marketOutcome, newQuotes, quotesOutcome, outcomeOf, responseOf, isNonRoutable};
-ghost use Rattle.auction.specs.rules.Range.{boundBy};
+ghost use Rattle.decision.specs.rules.Decide.{seats, places, gtx_outcome, cancel_outcome, amended_by, amend_outcome, sell_limit_outcome, bid_quotes, moves, buy_limit_outcome, limit_outcome, market_outcome, new_quotes, quotes_outcome, outcome_of, response_of, is_non_routable};
+ghost use Rattle.auction.specs.rules.Range.{bound_by};
 
 use auction::{Ending, Market, Quotes, Terms, bound_by};
 use base::{higher, lower, wide};
@@ -21,8 +21,8 @@ pub struct Sight {
 #[derive(Drop)]
 pub enum Change {
     Nothing,
-    Seat(u32, Response, u32),
-    Free(u32, u32),
+    Seat(usize, Response, u32),
+    Free(usize, u32),
     Quote(Quotes),
     Sell(Market),
 }
@@ -36,7 +36,7 @@ pub enum Outcome {
 
 // A response of a size: a GTX one, or a limit order.
 fn response(gtx: bool, size: u32, e: Event) -> Response
-    ensures { result ≡ responseOf gtx size e }
+    ensures { result ≡ response_of gtx size e }
 {
     Response {
         sequence: e.sequence,
@@ -53,7 +53,7 @@ fn seat(place: usize, r: Response, gone: u32, ending: Ending, number: u32) -> Ou
     ensures { result ≡ seats place r gone ending number }
 {
     if place < 64 {
-        return Outcome::Does(Change::Seat(place as u32, r, gone), ending);
+        return Outcome::Does(Change::Seat(place, r, gone), ending);
     }
     Outcome::Refuses(number)
 }
@@ -66,7 +66,7 @@ fn place(s: Sight, r: Response, ending: Ending) -> Outcome
 }
 
 fn gtx(t: Terms, s: Sight, e: Event) -> Outcome
-    ensures { result ≡ gtxOutcome t s e }
+    ensures { result ≡ gtx_outcome t s e }
 {
     if e.side == 1 {
         return Outcome::Refuses(35);
@@ -78,18 +78,18 @@ fn gtx(t: Terms, s: Sight, e: Event) -> Outcome
 }
 
 fn cancel(s: Sight) -> Outcome
-    ensures { result ≡ cancelOutcome s }
+    ensures { result ≡ cancel_outcome s }
 {
     let found = s.found;
     if found < 64 {
-        return Outcome::Does(Change::Free(found as u32, s.old.size), Ending::Open);
+        return Outcome::Does(Change::Free(found, s.old.size), Ending::Open);
     }
     Outcome::Refuses(37)
 }
 
 // The response that an amend makes of an old one: its Customer mark stays.
 fn amended(t: Terms, old: Response, e: Event) -> Response
-    ensures { result ≡ amendedBy t old e }
+    ensures { result ≡ amended_by t old e }
 {
     Response {
         sequence: e.sequence,
@@ -102,7 +102,7 @@ fn amended(t: Terms, old: Response, e: Event) -> Response
 }
 
 fn amend(t: Terms, s: Sight, e: Event) -> Outcome
-    ensures { result ≡ amendOutcome t s e }
+    ensures { result ≡ amend_outcome t s e }
 {
     if t.initiating < e.f20 {
         return Outcome::Refuses(36);
@@ -113,7 +113,7 @@ fn amend(t: Terms, s: Sight, e: Event) -> Outcome
 
 // One of two prices: the exchange's for a non-routable order, the nation's else.
 fn market_price(e: Event, own: u32, national: u32) -> u32
-    ensures { result ≡ cond (isNonRoutable e) own national }
+    ensures { result ≡ cond (is_non_routable e) own national }
 {
     if mark(e.marks, 1) {
         return own;
@@ -131,7 +131,7 @@ fn opposite_if(marketable: bool) -> Ending
 }
 
 fn sell_limit(t: Terms, q: Quotes, s: Sight, e: Event) -> Outcome
-    ensures { result ≡ sellLimitOutcome t q s e }
+    ensures { result ≡ sell_limit_outcome t q s e }
 {
     let ending = opposite_if(e.f16 <= market_price(e, q.bb, q.nbb));
     if e.f16 <= t.initiating {
@@ -142,7 +142,7 @@ fn sell_limit(t: Terms, q: Quotes, s: Sight, e: Event) -> Outcome
 
 // The mark at BB after a bid.
 fn bid_mark(q: Quotes, price: u32, customer: bool) -> bool
-    ensures { result ≡ (bidQuotes q price customer).bidmark }
+    ensures { result ≡ (bid_quotes q price customer).bidmark }
 {
     if q.bb < price {
         return customer;
@@ -152,7 +152,7 @@ fn bid_mark(q: Quotes, price: u32, customer: bool) -> bool
 
 // The quotes with a bid.
 fn bid_quotes(q: Quotes, price: u32, customer: bool) -> Quotes
-    ensures { result ≡ bidQuotes q price customer }
+    ensures { result ≡ bid_quotes q price customer }
 {
     Quotes {
         nbb: higher(q.nbb, price),
@@ -173,13 +173,13 @@ fn is_move(q: Quotes, price: u32, customer: bool) -> bool
 
 // Does the bound that quotes make exceed the initiating price?
 fn exceeds(t: Terms, q: Quotes) -> bool
-    ensures { result ≡ ltb t.initiating (boundBy t q) }
+    ensures { result ≡ ltb t.initiating (bound_by t q) }
 {
     wide(t.initiating) < bound_by(t, q)
 }
 
 fn buy_limit(t: Terms, q: Quotes, e: Event) -> Outcome
-    ensures { result ≡ buyLimitOutcome t q e }
+    ensures { result ≡ buy_limit_outcome t q e }
 {
     if market_price(e, q.bo, q.nbo) <= e.f16 {
         return Outcome::Does(Change::Nothing, Ending::Same);
@@ -193,7 +193,7 @@ fn buy_limit(t: Terms, q: Quotes, e: Event) -> Outcome
 }
 
 fn limit(t: Terms, q: Quotes, s: Sight, e: Event) -> Outcome
-    ensures { result ≡ limitOutcome t q s e }
+    ensures { result ≡ limit_outcome t q s e }
 {
     if e.side == 1 {
         return buy_limit(t, q, e);
@@ -202,7 +202,7 @@ fn limit(t: Terms, q: Quotes, s: Sight, e: Event) -> Outcome
 }
 
 fn market(e: Event) -> Outcome
-    ensures { result ≡ marketOutcome e }
+    ensures { result ≡ market_outcome e }
 {
     if e.side == 1 {
         return Outcome::Does(Change::Nothing, Ending::Same);
@@ -216,7 +216,7 @@ fn market(e: Event) -> Outcome
 
 // The quotes that an event brings.
 fn new_quotes(e: Event) -> Quotes
-    ensures { result ≡ newQuotes e }
+    ensures { result ≡ new_quotes e }
 {
     Quotes {
         nbb: e.f12,
@@ -229,7 +229,7 @@ fn new_quotes(e: Event) -> Quotes
 }
 
 fn quotes(t: Terms, e: Event) -> Outcome
-    ensures { result ≡ quotesOutcome t e }
+    ensures { result ≡ quotes_outcome t e }
 {
     let n = new_quotes(e);
     if exceeds(t, n) {
@@ -238,9 +238,9 @@ fn quotes(t: Terms, e: Event) -> Outcome
     Outcome::Does(Change::Quote(n), Ending::Open)
 }
 
-// The decision on an event, by its kind: 32 for one that is none of the table's.
+// The decision on an event, by its kind.
 pub fn decide(t: Terms, q: Quotes, s: Sight, e: Event) -> Outcome
-    ensures { result ≡ outcomeOf t q s e }
+    ensures { result ≡ outcome_of t q s e }
 {
     if e.kind == 1 {
         return gtx(t, s, e);
@@ -254,11 +254,8 @@ pub fn decide(t: Terms, q: Quotes, s: Sight, e: Event) -> Outcome
     if e.kind == 4 {
         return market(e);
     }
-    if e.kind == 5 {
-        return quotes(t, e);
-    }
     if e.kind == 6 {
         return amend(t, s, e);
     }
-    Outcome::Refuses(32)
+    quotes(t, e)
 }

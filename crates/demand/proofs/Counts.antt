@@ -13,9 +13,9 @@ use Rattle.base.proofs.Bools.{and-no-right}
 use Rattle.base.proofs.ListLaws.{filter-append, filter_none, filter-length, every_map}
 use Rattle.base.specs.Lists.{Every, keep, filter}
 use Rattle.share.specs.rules.Share.{in_turn}
-use Rattle.share.specs.rules.Fills.{Fill, fillOf, fillsBy, sizes}
+use Rattle.share.specs.rules.Fills.{Fill, fill_of, fills_by, sizes}
 use Rattle.trade.specs.declared.Deal.{Deal}
-use Rattle.trade.specs.rules.Trade.{fromCustomer, Level, customers, others, given, contra, levelFills, flat, working, offersAt}
+use Rattle.trade.specs.rules.Trade.{from_customer, Level, customers, others, given, contra, level_fills, flat, working, offers_at}
 use Rattle.demand.specs.promises.Demands.{Absent, Distinct, times}
 use Rattle.trade.proofs.Counts.{length-fill}
 use Rattle.demand.proofs.Lists.{all-fill, distinct-keep}
@@ -46,20 +46,20 @@ times-party k p fs a =
     none_kept (λ f. eqb f.party k && eqb f.price p) fs
     (every_map (λ f. f.party ≢ k) (λ f. (eqb f.party k && eqb f.price p) ≡ false) fs (λ f h. rw (ne_eqb f.party k h)) a)
 
-pub times-fill : (k p : ℕ) (j r q : ℕ) → times k p (fillOf j r q) ≤ 1
+pub times-fill : (k p : ℕ) (j r q : ℕ) → times k p (fill_of j r q) ≤ 1
 times-fill k p j r q =
-    omega (arith, filter-length (λ f. eqb f.party k && eqb f.price p) (fillOf j r q), length-fill j r q)
+    omega (arith, filter-length (λ f. eqb f.party k && eqb f.price p) (fill_of j r q), length-fill j r q)
 
-times-by : (k p r : ℕ) (os : List Response) (qs : List ℕ) → times k p (fillsBy r os qs) ≤ occ k os
+times-by : (k p r : ℕ) (os : List Response) (qs : List ℕ) → times k p (fills_by r os qs) ≤ occ k os
 unfolding occ filter
 times-by k p r [] qs = omega arith
 times-by k p r (o ∷ os) [] = omega arith
 times-by k p r (o ∷ os) (q ∷ qs) = go (eqb o.sequence k) refl (times-by k p r os qs)
   where
-    go : (b : Bool) → eqb o.sequence k ≡ b → times k p (fillsBy r os qs) ≤ length (filter (λ x. eqb x.sequence k) os)
-        → times k p (fillOf o.sequence r q ++ fillsBy r os qs) ≤ length (keep b o (filter (λ x. eqb x.sequence k) os))
-    go true e h = omega (arith, times-append k p (fillOf o.sequence r q) (fillsBy r os qs), times-fill k p o.sequence r q)
-    go false e h = omega (arith, times-append k p (fillOf o.sequence r q) (fillsBy r os qs), times-party k p (fillOf o.sequence r q) (all-fill (λ f. f.party ≢ k) o.sequence r q (λ z. eqb-false o.sequence k e)))
+    go : (b : Bool) → eqb o.sequence k ≡ b → times k p (fills_by r os qs) ≤ length (filter (λ x. eqb x.sequence k) os)
+        → times k p (fill_of o.sequence r q ++ fills_by r os qs) ≤ length (keep b o (filter (λ x. eqb x.sequence k) os))
+    go true e h = omega (arith, times-append k p (fill_of o.sequence r q) (fills_by r os qs), times-fill k p o.sequence r q)
+    go false e h = omega (arith, times-append k p (fill_of o.sequence r q) (fills_by r os qs), times-party k p (fill_of o.sequence r q) (all-fill (λ f. f.party ≢ k) o.sequence r q (λ z. eqb-false o.sequence k e)))
 
 -- the party's responses among Customers and others
 occ-keep : (k : ℕ) (t : Response → Bool) (os : List Response) → occ k (filter t os) + occ k (filter (λ o. not (t o)) os) ≡ occ k os
@@ -95,21 +95,21 @@ occ-once k (o ∷ os) d = go (eqb o.sequence k) refl (occ-once k os d.1)
     go false e h = h
 
 -- at one price
-pub times-level : (l : Level) (k p : ℕ) → Distinct l.here → Absent 0 l.here → times k p (levelFills l) ≤ 1
-unfolding levelFills
+pub times-level : (l : Level) (k p : ℕ) → Distinct l.here → Absent 0 l.here → times k p (level_fills l) ≤ 1
+unfolding level_fills
 times-level l k p d z = go (eqb 0 k) refl
   where
     a : List Fill
-    a = fillsBy l.price (customers l) (in_turn l.left (sizes (customers l)))
+    a = fills_by l.price (customers l) (in_turn l.left (sizes (customers l)))
 
     b : List Fill
-    b = fillOf 0 l.price (contra l)
+    b = fill_of 0 l.price (contra l)
 
     c : List Fill
-    c = fillsBy l.price (others l) (given l)
+    c = fills_by l.price (others l) (given l)
 
     both : times k p a + times k p c ≤ occ k l.here
-    both = omega (arith, times-by k p l.price (customers l) (in_turn l.left (sizes (customers l))), times-by k p l.price (others l) (given l), occ-keep k fromCustomer l.here)
+    both = omega (arith, times-by k p l.price (customers l) (in_turn l.left (sizes (customers l))), times-by k p l.price (others l) (given l), occ-keep k from_customer l.here)
 
     go : (t : Bool) → eqb 0 k ≡ t → times k p (a ++ (b ++ c)) ≤ 1
     go true e =
@@ -133,7 +133,7 @@ times-level l k p d z = go (eqb 0 k) refl
 
 module _ (d : Deal) (rs : List Response) (s : Walkable d rs) where
   distinct-here : (from left held : ℕ) (l : Level) → Good d rs from left held l → Distinct l.here
-  unfolding offersAt
+  unfolding offers_at
   distinct-here from left held l g = subst Distinct (sym g.here-are) (distinct-keep (λ x. eqb (working d x) l.price) rs s.distinct)
 
   pub run-once : (k p from left held : ℕ) (ls : List Level) → Run d rs from left held ls → times k p (flat ls) ≤ 1
@@ -141,15 +141,15 @@ module _ (d : Deal) (rs : List Response) (s : Walkable d rs) where
   run-once k p from left held [] r = omega arith
   run-once k p from left held (l ∷ ls) r = go (eqb l.price p) refl (run-once k p _ _ _ ls r.1)
     where
-      go : (b : Bool) → eqb l.price p ≡ b → times k p (flat ls) ≤ 1 → times k p (levelFills l ++ flat ls) ≤ 1
+      go : (b : Bool) → eqb l.price p ≡ b → times k p (flat ls) ≤ 1 → times k p (level_fills l ++ flat ls) ≤ 1
       go true e h =
           let q : l.price ≡ p = eqb-true l.price p e in
           omega (
             arith,
-            times-append k p (levelFills l) (flat ls),
+            times-append k p (level_fills l) (flat ls),
             times-level l k p (distinct-here from left held l r.0) (no-contra d rs s from left held l r.0),
             times-price k p (flat ls) (every_map (λ f. l.price + 1 ≤ f.price) (λ f. f.price ≢ p) (flat ls) (λ f z. omega arith) (run-from d rs s _ _ _ ls r.1)),
           )
       go false e h =
           let q : l.price ≢ p = eqb-false l.price p e in
-          omega (arith, times-append k p (levelFills l) (flat ls), times-price k p (levelFills l) (all-level l (λ f. f.price ≢ p) (λ x y z. q)))
+          omega (arith, times-append k p (level_fills l) (flat ls), times-price k p (level_fills l) (all-level l (λ f. f.price ≢ p) (λ x y z. q)))

@@ -8,13 +8,13 @@ use Rattle.base.specs.Price.{mirrored}
 use Rattle.board.specs.declared.Response.{Response}
 use Rattle.board.specs.declared.Board.{Board}
 use Rattle.base.specs.Lists.{sum, filter}
-use Rattle.board.specs.rules.Board.{noResponse, live_in, inserted, inSequence}
+use Rattle.board.specs.rules.Board.{no_response, live_in, inserted, in_sequence}
 use Rattle.share.specs.rules.Share.{shares}
 use Rattle.share.specs.rules.Fills.{words}
 use Rattle.trade.specs.declared.Deal.{Deal}
 use Rattle.trade.specs.rules.Plan.{mode1, mode2, mode3}
-use Rattle.trade.specs.rules.Trade.{levelFills, guaranteeOf, top, entry, next, offersAt, levelAt, walk, marketPrice, levels, fills}
-use Rattle.trade.specs.rules.Write.{fillsOf}
+use Rattle.trade.specs.rules.Trade.{level_fills, guarantee_of, top, entry, next, offers_at, level_at, walk, market_price, levels, fills}
+use Rattle.trade.specs.rules.Write.{fills_of}
 
 -- sequence, size, price; no Customer's
 abbrev pub gtx : ℕ → ℕ → ℕ → Response
@@ -22,7 +22,7 @@ gtx k s p = record { sequence = k; size = s; price = p; participant = 0; custome
 
 -- these responses at the lowest places
 abbrev pub board : List Response → Board
-board rs = record { places = rs ++ replicate (64 - length rs) noResponse; live = 2 ^ length rs - 1 }
+board rs = record { places = rs ++ replicate (64 - length rs) no_response; live = 2 ^ length rs - 1 }
 
 abbrev pub deal : Bool → ℕ → ℕ → ℕ → ℕ → ℕ → Deal
 deal sell size mode initiating bound stop =
@@ -70,6 +70,6 @@ figures =
     }
     ∷ []
 
-pub figures-hold : map (λ (c : Case). words (fillsOf c.deal c.board)) figures ≡ map (λ (c : Case). c.want) figures
-unfolding sum filter live_in inserted inSequence shares levelFills guaranteeOf top entry next offersAt mode1 mode2 mode3 levelAt walk marketPrice levels fills fillsOf mirrored
+pub figures-hold : map (λ (c : Case). words (fills_of c.deal c.board)) figures ≡ map (λ (c : Case). c.want) figures
+unfolding sum filter live_in inserted in_sequence shares level_fills guarantee_of top entry next offers_at mode1 mode2 mode3 level_at walk market_price levels fills fills_of mirrored
 figures-hold = refl

@@ -2,11 +2,11 @@
 use mathlib.Core.Path.{◌≡◌, sym}
 use mathlib.Core.List.{List, ◌∷◌}
 use Rattle.board.specs.declared.Response.{Response}
-use Rattle.base.specs.Lists.{Every, Inserts, Shuffles}
+use Rattle.base.specs.Lists.{Every, Inserts, Shuffles, In}
 use Rattle.base.specs.Lists.Inserts.{here, there}
 use Rattle.base.specs.Lists.Shuffles.{none, more}
-use Rattle.board.specs.rules.Board.{inSequence}
-use Rattle.base.proofs.ListLaws.{inserts-every, shuffles-every}
+use Rattle.board.specs.rules.Board.{in_sequence}
+use Rattle.base.proofs.ListLaws.{in-shuffles, inserts-every, shuffles-every}
 use Rattle.board.proofs.SequenceLaws.{sequence-shuffles}
 use Rattle.demand.specs.promises.Demands.{Distinct}
 
@@ -25,8 +25,11 @@ distinct-shuffles (more {x = x} s i) d = distinct-inserts i (shuffles-every (λ 
 
 -- ---- by sequence
 
-pub all-sequence : (P : Response → Type 0) (xs : List Response) → Every P xs → Every P (inSequence xs)
+pub in-sequence : (a : Response) (xs : List Response) → In a xs → In a (in_sequence xs)
+in-sequence a xs m = in-shuffles a (sequence-shuffles xs) m
+
+pub all-sequence : (P : Response → Type 0) (xs : List Response) → Every P xs → Every P (in_sequence xs)
 all-sequence P xs a = shuffles-every P (sequence-shuffles xs) a
 
-pub distinct-sequence : (xs : List Response) → Distinct xs → Distinct (inSequence xs)
+pub distinct-sequence : (xs : List Response) → Distinct xs → Distinct (in_sequence xs)
 distinct-sequence xs d = distinct-shuffles (sequence-shuffles xs) d

@@ -1,2 +1,3 @@
 -- Statements of theorems.
 pub mod Demands
+pub mod Shares

@@ -5,28 +5,21 @@
 //                        each by its sequence and size, as 5:30, and a Customer's as 5:30:customer
 //   desk watch < TAPE    the listing, with the contracts on offer after each event at the end of its line
 //   desk firms < TAPE    a line for each FILL line of the listing: who traded, by its sequence or `contra`, and the participant of a response, as FIRM 5 77
-//   desk trace named     the same of each tape whose name stands on a line of standard input, after a line TAPE and the name; so watch and firms
 //   desk live            the watch of an order record and event records, as they come on standard input: each line is written as soon as it is known,
 //                        those of the end where an event ends the auction, else at the input's end
 //   desk live new        the same of event records of the new form, 40 bytes each
 //   desk move new < TAPE the tape in the new form; a refusal is its number on standard error, with nothing on standard output
 //   desk move old < TAPE the tape in the old form
-ghost use Rattle.std.specs.Prelude.{◌≡◌, ◌≤◌, length, true};
+ghost use Rattle.std.specs.Prelude.{◌≡◌, ◌≤◌, length};
 ghost use Rattle.io.specs.Counts.{IsPrefixLen};
-ghost use Rattle.listing.specs.rules.Watch.{shownLength};
-ghost use Rattle.tape.specs.rules.Tape.{recordsOf};
-ghost use Rattle.events.specs.rules.Step.{step_of};
-ghost use Rattle.run.specs.rules.Run.{run};
-ghost use Rattle.desk.specs.Play.{after, goesOn};
 
 use auction::{Auction, Entry, Firm};
 use board::{Board, Response};
 use input::{Contents, MOST};
 use libc::{STDERR_FILENO, STDIN_FILENO, STDOUT_FILENO};
 use listing::watch;
-use listing::watch::{LINES, Lines};
+use listing::watch::LINES;
 use moving::Moved;
-use reader::Current;
 use tape::{Event, ORDER_BYTES, Opened, Order, ReadOrder, Trailer, event_bytes};
 use trade::Filled;
 
@@ -164,7 +157,7 @@ fn print_auction(word: &[u8], a: Auction) -> bool {
     print(b"\n")
 }
 
-// ---- the lines of a watch
+// ---- the lines of a watch, in lent bytes
 
 // The first n bytes.
 fn print_start(out: &[u8], n: usize) -> bool
@@ -173,165 +166,83 @@ fn print_start(out: &[u8], n: usize) -> bool
     print(&out[..n])
 }
 
-// The lines that were written, or the number of a refusal.
-fn print_lines(out: &[u8], l: Lines) -> bool
-    requires { shownLength l ≤ length out.now }
-{
-    match l {
-        Lines::Length(n) => print_start(out, n),
-        Lines::Refused(number) => {
-            say_refused(number);
-            false
-        }
-    }
+fn show_refused(number: u32, out: &mut [u8]) -> bool {
+    let n = watch::refused(number, out);
+    print_start(out, n)
 }
 
-fn show_refused(number: u32) -> bool {
-    let mut out = lines_buffer();
-    let l = watch::refused(number, &mut out);
-    print_lines(&out, l)
+fn show_opened(a: Auction, out: &mut [u8]) -> bool {
+    let n = watch::opened(a.head, out);
+    print_start(out, n)
 }
 
-fn show_opened(a: Auction) -> bool {
-    let mut out = lines_buffer();
-    let l = watch::opened(a.head, &mut out);
-    print_lines(&out, l)
-}
-
-// The auction after an event, and whether its lines were written.
+// The auction after an event, and whether all went well: its lines were written, and live another record may follow.
 #[derive(Drop)]
 struct Shown {
     auction: Auction,
     well: bool,
 }
 
-fn show_event(a: Auction, e: Event) -> Shown
-    ensures { result.auction ≡ (step_of a e).auction }
-{
-    let mut out = lines_buffer();
-    let w = watch::event(a, e, &mut out);
-    let l = w.lines;
-    let well = print_lines(&out, l);
+fn show_event(a: Auction, e: Event, out: &mut [u8]) -> Shown {
+    let w = watch::event(a, e, out);
+    let well = print_start(out, w.length);
     let auction = w.auction;
     Shown { auction, well }
 }
 
-fn show_ended(a: Auction) -> bool {
-    let mut out = lines_buffer();
-    let l = watch::ended(a, &mut out);
-    print_lines(&out, l)
+fn show_ended(a: Auction, out: &mut [u8]) -> bool {
+    let n = watch::ended(a, out);
+    print_start(out, n)
 }
 
 // ---- a tape
 
-// What is looked at.
-#[derive(Drop)]
-enum Look {
-    Trace,
-    Watch,
-    Firms,
+// The auction after an event record.
+fn after(a: Auction, tape: &[u8], t: Trailer, k: u32) -> Auction {
+    let s = steps::step(a, tape::record_in(tape, t, k as usize));
+    s.auction
 }
 
-// One event, with nothing to show.
-fn step_event(a: Auction, e: Event) -> Shown
-    ensures { result.auction ≡ (step_of a e).auction }
-{
-    let s = steps::step(a, e);
-    let auction = s.auction;
-    Shown {
-        auction,
-        well: true,
+fn trace_events(tape: &[u8], t: Trailer, opened: Auction) -> bool {
+    let mut a = opened;
+    let mut k = 0;
+    while k < t.events {
+        a = after(a, tape, t, k);
+        if !print_auction(b"RECORD", a) {
+            return false;
+        }
+        k += 1;
     }
-}
-
-fn trace_event(a: Auction, e: Event) -> Shown
-    ensures { result.auction ≡ (step_of a e).auction }
-{
-    let s = steps::step(a, e);
-    let auction = s.auction;
-    let well = print_auction(b"RECORD", auction);
-    Shown { auction, well }
-}
-
-// One event, with the line that the look has for it.
-fn look_event(look: Look, a: Auction, e: Event) -> Shown
-    ensures { result.auction ≡ (step_of a e).auction }
-{
-    match look {
-        Look::Trace => trace_event(a, e),
-        Look::Watch => show_event(a, e),
-        Look::Firms => step_event(a, e),
-    }
-}
-
-// The auction after the records so far, whether their lines were written, and whether there is more to play.
-#[derive(Drop)]
-struct Played {
-    auction: Auction,
-    well: bool,
-    more: bool,
-}
-
-// What stands at the tape's place is played: an event, or the end.
-fn turn(look: Look, p: Played, c: Current) -> Played
-    ensures { (result.auction ≡ after p.auction c) × (result.more ≡ goesOn result.well c) }
-{
-    let before = p.auction;
-    let Current::Event(e) = c else {
-        return Played {
-            auction: before,
-            well: p.well,
-            more: false,
-        };
-    };
-    let s = look_event(look, before, e);
-    let auction = s.auction;
-    let well = s.well;
-    Played {
-        auction,
-        well,
-        more: well,
-    }
-}
-
-// The events of a tape, which is held from the first record to the end and moved on from one to the next; no further where lines can't be written.
-fn play(look: Look, tape: &[u8], t: Trailer, opened: Auction) -> Played
-    ensures { result.well ≡ true → result.auction ≡ run opened (recordsOf tape.now t) }
-{
-    let mut held = reader::hold(tape, t, 0);
-    let mut p = Played {
-        auction: opened,
-        well: true,
-        more: true,
-    };
-    while p.more {
-        p = turn(look, p, reader::current_event(held));
-        held = reader::next(held);
-    }
-    p
+    let c = steps::close(a);
+    print_auction(b"CLOSE", c.auction)
 }
 
 fn trace_auction(tape: &[u8], t: Trailer, a: Auction) -> bool {
     if !print_auction(b"ORDER", a) {
         return false;
     }
-    let p = play(Look::Trace, tape, t, a);
-    if !p.well {
-        return false;
-    }
-    let c = steps::close(p.auction);
-    print_auction(b"CLOSE", c.auction)
+    trace_events(tape, t, a)
 }
 
-fn watch_auction(tape: &[u8], t: Trailer, a: Auction) -> bool {
-    if !show_opened(a) {
+fn watch_events(tape: &[u8], t: Trailer, opened: Auction, out: &mut [u8]) -> bool {
+    let mut a = opened;
+    let mut k = 0;
+    while k < t.events {
+        let s = show_event(a, tape::record_in(tape, t, k as usize), out);
+        if !s.well {
+            return false;
+        }
+        a = s.auction;
+        k += 1;
+    }
+    show_ended(a, out)
+}
+
+fn watch_auction(tape: &[u8], t: Trailer, a: Auction, out: &mut [u8]) -> bool {
+    if !show_opened(a, out) {
         return false;
     }
-    let p = play(Look::Watch, tape, t, a);
-    if !p.well {
-        return false;
-    }
-    show_ended(p.auction)
+    watch_events(tape, t, a, out)
 }
 
 // ---- who traded
@@ -383,10 +294,20 @@ fn print_filled(a: Auction, words: &[u32], f: Filled) -> bool
     }
 }
 
+// The auction after its events, closed by hand where it is open still.
+fn closed(tape: &[u8], t: Trailer, opened: Auction) -> Auction {
+    let mut a = opened;
+    let mut k = 0;
+    while k < t.events {
+        a = after(a, tape, t, k);
+        k += 1;
+    }
+    let c = steps::close(a);
+    c.auction
+}
+
 fn firms_auction(tape: &[u8], t: Trailer, opened: Auction) -> bool {
-    let p = play(Look::Firms, tape, t, opened);
-    let c = steps::close(p.auction);
-    let a = c.auction;
+    let a = closed(tape, t, opened);
     let mut words = fills_buffer();
     let f = fills::write_fills(a, &mut words, 0);
     print_filled(a, &words, f)
@@ -394,121 +315,55 @@ fn firms_auction(tape: &[u8], t: Trailer, opened: Auction) -> bool {
 
 // ---- what is looked at
 
+#[derive(Drop)]
+enum Look {
+    Trace,
+    Watch,
+    Firms,
+}
+
 // An auction that was opened, with the tape's records.
-fn serve_auction(look: Look, tape: &[u8], t: Trailer, a: Auction) -> bool {
+fn serve_auction(look: Look, tape: &[u8], t: Trailer, a: Auction, out: &mut [u8]) -> bool {
     match look {
         Look::Trace => trace_auction(tape, t, a),
-        Look::Watch => watch_auction(tape, t, a),
+        Look::Watch => watch_auction(tape, t, a, out),
         Look::Firms => firms_auction(tape, t, a),
     }
 }
 
-fn serve_order(look: Look, tape: &[u8], t: Trailer, o: Order) -> bool {
+fn serve_order(look: Look, tape: &[u8], t: Trailer, o: Order, out: &mut [u8]) -> bool {
     let opening = auction::accept(o);
     let answer = opening.answer;
     let a = opening.auction;
     match answer {
-        Entry::Accepted => serve_auction(look, tape, t, a),
-        Entry::Refused(number) => show_refused(number),
+        Entry::Accepted => serve_auction(look, tape, t, a, out),
+        Entry::Refused(number) => show_refused(number, out),
     }
 }
 
-fn serve_opened(look: Look, tape: &[u8], t: Trailer) -> bool {
-    match reader::tape_order(tape, t) {
-        ReadOrder::Order(o) => serve_order(look, tape, t, o),
-        ReadOrder::Refused(number) => show_refused(number),
+fn serve_opened(look: Look, tape: &[u8], t: Trailer, out: &mut [u8]) -> bool {
+    match tape::order_in(tape, t) {
+        ReadOrder::Order(o) => serve_order(look, tape, t, o, out),
+        ReadOrder::Refused(number) => show_refused(number, out),
     }
 }
 
-fn serve_bytes(look: Look, tape: &[u8]) -> bool {
+fn serve_bytes(look: Look, tape: &[u8], out: &mut [u8]) -> bool {
     match tape::open_tape(tape) {
-        Opened::Tape(t) => serve_opened(look, tape, t),
-        Opened::Refused(number) => show_refused(number),
+        Opened::Tape(t) => serve_opened(look, tape, t, out),
+        Opened::Refused(number) => show_refused(number, out),
     }
 }
 
 // The tape on standard input.
-fn serve_tape(look: Look) {
+fn serve_tape(look: Look, out: &mut [u8]) {
     let mut tape = tape_buffer();
     let c = read_input(&mut tape);
     if !c.whole {
         return;
     }
     let n = c.length;
-    serve_bytes(look, &tape[..n]);
-}
-
-// ---- tapes by their names
-
-// A word and a name, on a line.
-fn print_name(word: &[u8], name: &[u8]) -> bool {
-    if !print(word) {
-        return false;
-    }
-    if !print(name) {
-        return false;
-    }
-    print(b"\n")
-}
-
-// The end of the line that begins at a place.
-fn line_end(names: &[u8], at: usize) -> usize
-    requires { at ≤ length names.now }
-    ensures { (at ≤ result) × (result ≤ length names.now) }
-{
-    let mut i = at;
-    while i < names.len() {
-        if names[i] == b'\n' {
-            return i;
-        }
-        i += 1;
-    }
-    i
-}
-
-// One tape by its name, after a line with it; whether all was written.
-fn serve_name(look: Look, name: &[u8], tape: &mut [u8]) -> bool {
-    if !print_name(b"TAPE ", name) {
-        return false;
-    }
-    let fd = os::open_read(name);
-    if fd < 0 {
-        return print_name(b"UNREADABLE ", name);
-    }
-    let c = input::read_tape(fd, tape);
-    libc::close(fd);
-    if !c.whole {
-        return print_name(b"UNREADABLE ", name);
-    }
-    let n = c.length;
-    serve_bytes(look, &tape[..n])
-}
-
-// Each line in turn.
-fn serve_names(look: Look, names: &[u8], tape: &mut [u8]) {
-    let mut at = 0;
-    while at < names.len() {
-        let end = line_end(names, at);
-        if !serve_name(look, &names[at..end], tape) {
-            return;
-        }
-        if end == names.len() {
-            return;
-        }
-        at = end + 1;
-    }
-}
-
-// The tapes whose names are on standard input, one to a line.
-fn serve_named(look: Look) {
-    let mut names = io::large_buffer();
-    let mut tape = tape_buffer();
-    let c = read_input(&mut names);
-    if !c.whole {
-        return;
-    }
-    let n = c.length;
-    serve_names(look, &names[..n], &mut tape);
+    serve_bytes(look, &tape[..n], out);
 }
 
 // ---- moving
@@ -543,9 +398,9 @@ fn is_open(a: Auction) -> bool {
 }
 
 // The input is at its end: an auction still open is closed by hand; of one that has ended the lines were shown.
-fn live_end(a: Auction) {
+fn live_end(a: Auction, out: &mut [u8]) {
     if is_open(a) {
-        show_ended(a);
+        show_ended(a, out);
     }
 }
 
@@ -559,13 +414,13 @@ fn live_cut(a: Auction) {
 }
 
 // One event; the lines of the end at once where it ends the auction.
-fn live_event(a: Auction, e: Event) -> Shown {
-    let s = show_event(a, e);
+fn live_event(a: Auction, e: Event, out: &mut [u8]) -> Shown {
+    let s = show_event(a, e, out);
     let after = s.auction;
     if !s.well | !is_open(a) | is_open(after) {
         return s;
     }
-    let well = show_ended(after);
+    let well = show_ended(after, out);
     Shown {
         auction: after,
         well,
@@ -581,27 +436,27 @@ fn stopped(a: Auction) -> Shown {
 }
 
 // The next event record: the auction after it, and whether one may follow.
-fn live_turn(wide: bool, a: Auction, bytes: &mut [u8]) -> Shown {
+fn live_turn(wide: bool, a: Auction, bytes: &mut [u8], out: &mut [u8]) -> Shown {
     let c = read_input(bytes);
     if !c.whole {
         return stopped(a);
     }
     if c.length == 0 {
-        live_end(a);
+        live_end(a, out);
         return stopped(a);
     }
     if c.length < event_bytes(wide) {
         live_cut(a);
         return stopped(a);
     }
-    live_event(a, tape::record_at(wide, bytes))
+    live_event(a, tape::record_at(wide, bytes), out)
 }
 
-fn live_events(wide: bool, opened: Auction, bytes: &mut [u8]) {
+fn live_events(wide: bool, opened: Auction, bytes: &mut [u8], out: &mut [u8]) {
     let mut a = opened;
     let mut turns = u64::MAX;
     while turns > 0 {
-        let s = live_turn(wide, a, bytes);
+        let s = live_turn(wide, a, bytes, out);
         if !s.well {
             return;
         }
@@ -610,29 +465,29 @@ fn live_events(wide: bool, opened: Auction, bytes: &mut [u8]) {
     }
 }
 
-fn live_auction(wide: bool, a: Auction) {
+fn live_auction(wide: bool, a: Auction, out: &mut [u8]) {
     let mut bytes = event_buffer();
     let start = 0;
     let n = event_bytes(wide);
-    if show_opened(a) {
-        live_events(wide, a, &mut bytes[start..n]);
+    if show_opened(a, out) {
+        live_events(wide, a, &mut bytes[start..n], out);
     }
 }
 
-fn live_order(wide: bool, o: Order) {
+fn live_order(wide: bool, o: Order, out: &mut [u8]) {
     let opening = auction::accept(o);
     let answer = opening.answer;
     let a = opening.auction;
     match answer {
-        Entry::Accepted => live_auction(wide, a),
+        Entry::Accepted => live_auction(wide, a, out),
         Entry::Refused(number) => {
-            show_refused(number);
+            show_refused(number, out);
         }
     }
 }
 
 // `wide` says that the event records are of the new form.
-fn live(wide: bool) {
+fn live(wide: bool, out: &mut [u8]) {
     let mut order = order_buffer();
     let c = read_input(&mut order);
     if !c.whole {
@@ -643,9 +498,9 @@ fn live(wide: bool) {
         say(b"desk: standard input ended inside the order record\n");
     }
     match tape::read_order(&order[..n]) {
-        ReadOrder::Order(o) => live_order(wide, o),
+        ReadOrder::Order(o) => live_order(wide, o, out),
         ReadOrder::Refused(number) => {
-            show_refused(number);
+            show_refused(number, out);
         }
     }
 }
@@ -671,18 +526,19 @@ fn is_word(text: &[u8], word: &[u8]) -> bool {
 
 fn unknown() {
     say(
-        b"desk: no such subcommand; there are: desk trace < TAPE, desk watch < TAPE, desk firms < TAPE, each also with the word named and names of tapes, desk live [new], desk move new|old < TAPE\n",
+        b"desk: no such subcommand; there are: desk trace < TAPE, desk watch < TAPE, desk firms < TAPE, desk live [new], desk move new|old < TAPE\n",
     );
 }
 
 // The form that a word names: the old one where it names none.
 fn serve_live(form: &[u8]) {
+    let mut out = lines_buffer();
     if is_word(form, b"new") {
-        live(true);
+        live(true, &mut out);
         return;
     }
     if is_word(form, b"") {
-        live(false);
+        live(false, &mut out);
         return;
     }
     unknown();
@@ -700,28 +556,20 @@ fn serve_move(form: &[u8]) {
     unknown();
 }
 
-// The tape on standard input, or those that it names.
-fn serve_look(look: Look, form: &[u8]) {
-    if is_word(form, b"named") {
-        serve_named(look);
-        return;
-    }
-    if is_word(form, b"") {
-        serve_tape(look);
-        return;
-    }
-    unknown();
+fn serve_look(look: Look) {
+    let mut out = lines_buffer();
+    serve_tape(look, &mut out);
 }
 
 fn serve(word: &[u8], form: &[u8]) {
     if is_word(word, b"trace") {
-        return serve_look(Look::Trace, form);
+        return serve_look(Look::Trace);
     }
     if is_word(word, b"watch") {
-        return serve_look(Look::Watch, form);
+        return serve_look(Look::Watch);
     }
     if is_word(word, b"firms") {
-        return serve_look(Look::Firms, form);
+        return serve_look(Look::Firms);
     }
     if is_word(word, b"live") {
         return serve_live(form);

@@ -1,5 +1,5 @@
 -- What the counters give: each begins at 0; the number of tapes, or of what came of a tape, goes up by one, and no other.
-use Rattle.std.specs.Prelude.{ℕ, ◌+◌, ◌%◌, ◌^◌, true, false}
+use Rattle.std.specs.Prelude.{ℕ, ◌+◌, ◌%◌, ◌^◌, false}
 use Rattle.auction.specs.declared.Ending.{Ending}
 use Rattle.auction.specs.declared.Ending.TheVariants.{Open, Time, Same, Opposite, Improve}
 use Rattle.listing.specs.declared.Listed.{Listed}
@@ -7,12 +7,12 @@ use Rattle.listing.specs.declared.Listed.TheVariants.{Refused, Ended}
 use Rattle.evening.specs.declared.Tally.{Tally}
 
 -- past the greatest number of 64 bits comes 0
-abbrev pub oneMore : ℕ → ℕ
-oneMore n = (n + 1) % 2 ^ 64
+abbrev pub one_more : ℕ → ℕ
+one_more n = (n + 1) % 2 ^ 64
 
 -- the tally at the start
-abbrev pub noTapes : Tally
-noTapes =
+abbrev pub no_tapes : Tally
+no_tapes =
     record {
       tapes = 0;
       refused = 0;
@@ -25,8 +25,8 @@ noTapes =
     }
 
 -- a tally with other numbers of tapes and of unreadable files
-abbrev pub withFiles : Tally → ℕ → ℕ → Tally
-withFiles t tapes unreadable =
+abbrev pub with_files : Tally → ℕ → ℕ → Tally
+with_files t tapes unreadable =
     record {
       tapes = tapes;
       refused = t.refused;
@@ -38,25 +38,11 @@ withFiles t tapes unreadable =
       failed = t.failed;
     }
 
--- the run ends: something could not be written, or the names not read
-abbrev pub stoppedTally : Tally → Tally
-stoppedTally t =
-    record {
-      tapes = t.tapes;
-      refused = t.refused;
-      time = t.time;
-      same = t.same;
-      opposite = t.opposite;
-      improve = t.improve;
-      unreadable = t.unreadable;
-      failed = true;
-    }
+abbrev pub counted_tape : Tally → Tally
+counted_tape t = with_files t (one_more t.tapes) t.unreadable
 
-abbrev pub countedTape : Tally → Tally
-countedTape t = withFiles t (oneMore t.tapes) t.unreadable
-
-abbrev pub countedUnreadable : Tally → Tally
-countedUnreadable t = withFiles t t.tapes (oneMore t.unreadable)
+abbrev pub counted_unreadable : Tally → Tally
+counted_unreadable t = with_files t t.tapes (one_more t.unreadable)
 
 -- a tally with other numbers of tapes refused and ended
 abbrev pub with : Tally → ℕ → ℕ → ℕ → ℕ → ℕ → Tally
@@ -72,13 +58,13 @@ with t refused time same opposite improve =
       failed = t.failed;
     }
 
-abbrev pub countedEnding : Tally → Ending → Tally
-countedEnding t Time = with t t.refused (oneMore t.time) t.same t.opposite t.improve
-countedEnding t Same = with t t.refused t.time (oneMore t.same) t.opposite t.improve
-countedEnding t Opposite = with t t.refused t.time t.same (oneMore t.opposite) t.improve
-countedEnding t Improve = with t t.refused t.time t.same t.opposite (oneMore t.improve)
-countedEnding t Open = t
+abbrev pub counted_ending : Tally → Ending → Tally
+counted_ending t Time = with t t.refused (one_more t.time) t.same t.opposite t.improve
+counted_ending t Same = with t t.refused t.time (one_more t.same) t.opposite t.improve
+counted_ending t Opposite = with t t.refused t.time t.same (one_more t.opposite) t.improve
+counted_ending t Improve = with t t.refused t.time t.same t.opposite (one_more t.improve)
+counted_ending t Open = t
 
-abbrev pub countedListed : Tally → Listed → Tally
-countedListed t (Refused number length) = with t (oneMore t.refused) t.time t.same t.opposite t.improve
-countedListed t (Ended ending length) = countedEnding t ending
+abbrev pub counted_listed : Tally → Listed → Tally
+counted_listed t (Refused number length) = with t (one_more t.refused) t.time t.same t.opposite t.improve
+counted_listed t (Ended ending length) = counted_ending t ending

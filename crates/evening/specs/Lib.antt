@@ -1,4 +1,2 @@
--- What the counters of `evening` give, what becomes of the texts that it writes, and what it writes of a tape.
+-- What the counters of `evening` give.
 pub mod Counting
-pub mod Gathering
-pub mod Serving

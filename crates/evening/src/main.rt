@@ -1,12 +1,8 @@
 // Names of tape files on standard input, one to a line (with the argument -0: each ended by a zero byte): each name and its tape's listing on
 // standard output. At the end a summary on standard error, or, where the names could not be read or a listing not written, why.
-ghost use Rattle.std.specs.Prelude.{◌≡◌, ◌+◌, ◌<◌, ◌≤◌, false, [], ◌∷◌, length};
-ghost use Rattle.std.proofs.lemmas.List.Edits.{sets};
+ghost use Rattle.std.specs.Prelude.{◌≡◌, length};
 ghost use Rattle.io.specs.Counts.{IsPrefixLen};
-ghost use Rattle.evening.specs.Counting.{oneMore, noTapes, countedTape, countedUnreadable, countedEnding, countedListed, stoppedTally};
-ghost use Rattle.evening.specs.Gathering.{noneWait, handedOn, flushed, longer, Puts};
-ghost use Rattle.evening.specs.Serving.{listedText, PutsNumber, PutsUnreadable, Serves, Rests, Goes, Ends, Ran};
-ghost use Rattle.listing.specs.rules.Listing.{listed_of};
+ghost use Rattle.evening.specs.Counting.{one_more, no_tapes, counted_tape, counted_unreadable, counted_ending, counted_listed};
 
 use auction::Ending;
 use input::MOST;
@@ -181,13 +177,13 @@ struct Tally {
 }
 
 fn one_more(n: u64) -> u64
-    ensures { result ≡ oneMore n }
+    ensures { result ≡ one_more n }
 {
     wrapping_add_u64(n, 1)
 }
 
 fn no_tapes() -> Tally
-    ensures { result ≡ noTapes }
+    ensures { result ≡ no_tapes }
 {
     Tally {
         tapes: 0,
@@ -202,21 +198,21 @@ fn no_tapes() -> Tally
 }
 
 fn count_tape(mut t: Tally) -> Tally
-    ensures { result ≡ countedTape t }
+    ensures { result ≡ counted_tape t }
 {
     t.tapes = one_more(t.tapes);
     t
 }
 
 fn count_unreadable(mut t: Tally) -> Tally
-    ensures { result ≡ countedUnreadable t }
+    ensures { result ≡ counted_unreadable t }
 {
     t.unreadable = one_more(t.unreadable);
     t
 }
 
 fn count_ending(mut t: Tally, g: Ending) -> Tally
-    ensures { result ≡ countedEnding t g }
+    ensures { result ≡ counted_ending t g }
 {
     match g {
         Ending::Time => {
@@ -240,7 +236,7 @@ fn count_ending(mut t: Tally, g: Ending) -> Tally
 }
 
 fn count_listed(mut t: Tally, l: Listed) -> Tally
-    ensures { result ≡ countedListed t l }
+    ensures { result ≡ counted_listed t l }
 {
     match l {
         Listed::Refused {
@@ -254,331 +250,86 @@ fn count_listed(mut t: Tally, l: Listed) -> Tally
     }
 }
 
-fn stopped(mut t: Tally) -> Tally
-    ensures { result ≡ stoppedTally t }
-{
+fn stopped(mut t: Tally) -> Tally {
     t.failed = true;
     t
 }
 
-// ---- what waits to be written
-
-// How many bytes wait at the start of lent ones; how many were handed to the write before them, which the write itself counts; whether a write failed,
-// after which nothing more is put or written.
-#[derive(Drop)]
-struct Waiting {
-    length: usize,
-    handed: u64,
-    failed: bool,
-}
-
-fn nothing_waits() -> Waiting
-    ensures { result ≡ noneWait }
-{
-    Waiting {
-        length: 0,
-        handed: 0,
-        failed: false,
-    }
-}
-
-// Hands the bytes to the write, after which nothing waits; says so on standard error if they could not be written.
-fn hand_on(handed: u64, s: &[u8]) -> Waiting
-    ensures { result ≡ handedOn result.failed handed (length s.now) }
-{
+// Whether all was written; where not, it is said.
+fn print(s: &[u8]) -> bool {
     if io::write_all(STDOUT_FILENO, s) {
-        return Waiting {
-            length: 0,
-            handed: wrapping_add_u64(handed, s.len() as u64),
-            failed: false,
-        };
+        return true;
     }
     os::fail(b"evening: standard output");
-    Waiting {
-        length: 0,
-        handed,
-        failed: true,
-    }
+    false
 }
 
-// Hands on what waits.
-fn flush(wait: &[u8], w: Waiting) -> Waiting
-    requires { IsPrefixLen w.length wait.now }
-    ensures prefix_len { IsPrefixLen result.length wait.now }
-    ensures value { result ≡ flushed result.failed w }
-{
-    if w.failed {
-        return w;
-    }
-    let n = w.length;
-    hand_on(w.handed, &wait[..n])
-}
-
-// Puts the text at a place of the lent bytes, which have room for it.
-fn put(wait: &mut [u8], at: usize, s: &[u8])
-    requires { at + length s.now ≤ length wait.old }
-    ensures { wait.new ≡ sets wait.old at s.now }
-{
-    let mut i = 0;
-    while i < s.len() {
-        wait[at + i] = s[i];
-        i += 1;
-    }
-}
-
-// Puts the text after what waits already.
-fn put_after(wait: &mut [u8], w: Waiting, s: &[u8]) -> Waiting
-    requires { w.length + length s.now ≤ length wait.old }
-    ensures value { result ≡ longer w (length s.now) }
-    ensures wait_after { wait.new ≡ sets wait.old w.length s.now }
-{
-    let at = w.length;
-    put(wait, at, s);
-    Waiting {
-        length: at + s.len(),
-        handed: w.handed,
-        failed: w.failed,
-    }
-}
-
-// The text waits too. If there is no room for it, what waits is handed on first; and if there is none even then, so is the text.
-fn add(wait: &mut [u8], w: Waiting, s: &[u8]) -> Waiting
-    requires { IsPrefixLen w.length wait.old }
-    ensures prefix_len { IsPrefixLen result.length wait.new }
-    ensures puts { Puts w wait.old (s.now ∷ []) result wait.new }
-{
-    if w.failed {
-        return w;
-    }
-    if s.len() <= wait.len() - w.length {
-        return put_after(wait, w, s);
-    }
-    let e = flush(wait, w);
-    if e.failed {
-        return e;
-    }
-    if s.len() <= wait.len() {
-        return put_after(wait, e, s);
-    }
-    hand_on(e.handed, s)
-}
-
-fn add_number(wait: &mut [u8], w: Waiting, n: u64) -> Waiting
-    requires { IsPrefixLen w.length wait.old }
-    ensures prefix_len { IsPrefixLen result.length wait.new }
-    ensures puts_number { PutsNumber n w wait.old result wait.new }
-{
+fn print_number(n: u64) -> bool {
     let mut text = [0u8; 20];
     let k = io::decimal(n, &mut text);
-    add(wait, w, &text[..k])
+    print(&text[..k])
 }
 
 // A word and the name, on a line.
-fn add_name(wait: &mut [u8], w: Waiting, word: &[u8], name: &[u8]) -> Waiting
-    requires { IsPrefixLen w.length wait.old }
-    ensures prefix_len { IsPrefixLen result.length wait.new }
-    ensures puts { Puts w wait.old (word.now ∷ name.now ∷ (10 ∷ []) ∷ []) result wait.new }
-{
-    let a = add(wait, w, word);
-    let b = add(wait, a, name);
-    add(wait, b, b"\n")
+fn print_name(word: &[u8], name: &[u8]) -> bool {
+    if !print(word) {
+        return false;
+    }
+    if !print(name) {
+        return false;
+    }
+    print(b"\n")
 }
 
 // That a file can't be read: the system's number for why, and the name.
-fn add_unreadable(wait: &mut [u8], w: Waiting, error: u64, name: &[u8]) -> Waiting
-    requires { IsPrefixLen w.length wait.old }
-    ensures prefix_len { IsPrefixLen result.length wait.new }
-    ensures puts_unreadable { PutsUnreadable error name.now w wait.old result wait.new }
-{
-    let a = add(wait, w, b"UNREADABLE ");
-    let b = add_number(wait, a, error);
-    add_name(wait, b, b" ", name)
+fn print_unreadable(error: u64, name: &[u8]) -> bool {
+    if !print(b"UNREADABLE ") {
+        return false;
+    }
+    if !print_number(error) {
+        return false;
+    }
+    print_name(b" ", name)
 }
 
-// What came of a tape, and what waits after it.
-#[derive(Drop)]
-struct Served {
-    tally: Tally,
-    waiting: Waiting,
+fn unreadable(t: Tally, error: u64, name: &[u8]) -> Tally {
+    if !print_unreadable(error, name) {
+        return stopped(t);
+    }
+    count_unreadable(t)
 }
 
-fn unreadable(t: Tally, wait: &mut [u8], w: Waiting, error: u64, name: &[u8]) -> Served
-    requires { IsPrefixLen w.length wait.old }
-    ensures prefix_len { IsPrefixLen result.waiting.length wait.new }
-    ensures tally_value { result.tally ≡ countedUnreadable t }
-    ensures puts_unreadable { PutsUnreadable error name.now w wait.old result.waiting wait.new }
-{
-    let waiting = add_unreadable(wait, w, error, name);
-    let tally = count_unreadable(t);
-    Served { tally, waiting }
-}
-
-// The listing of a tape, made in lent bytes.
-fn show(t: Tally, wait: &mut [u8], w: Waiting, tape: &[u8], out: &mut [u8]) -> Served
-    requires { IsPrefixLen w.length wait.old }
-    ensures prefix_len { IsPrefixLen result.waiting.length wait.new }
-    ensures tally_value { result.tally ≡ countedListed t (listed_of tape.now out.old) }
-    ensures puts { Puts w wait.old (listedText tape.now out.old ∷ []) result.waiting wait.new }
-{
+// The listing of a tape, in lent bytes, onto standard output.
+fn show(t: Tally, tape: &[u8], out: &mut [u8]) -> Tally {
     let l = listing::listing(tape, out);
     let n = listing::length_of(l);
-    let waiting = add(wait, w, &out[..n]);
-    let tally = count_listed(t, l);
-    Served { tally, waiting }
+    if !print(&out[..n]) {
+        return stopped(t);
+    }
+    count_listed(t, l)
 }
 
 // One tape by its name: its listing, or that it can't be read.
-fn serve(
-    t: Tally,
-    wait: &mut [u8],
-    w: Waiting,
-    name: &[u8],
-    tape: &mut [u8],
-    out: &mut [u8],
-) -> Served
-    requires { IsPrefixLen w.length wait.old }
-    ensures prefix_len { IsPrefixLen result.waiting.length wait.new }
-    ensures serves { Serves t w wait.old name.now tape.new out.old result.tally result.waiting wait.new }
-{
-    let a = add_name(wait, w, b"TAPE ", name);
+fn serve(t: Tally, name: &[u8], tape: &mut [u8], out: &mut [u8]) -> Tally {
+    if !print_name(b"TAPE ", name) {
+        return stopped(t);
+    }
     let fd = os::open_read(name);
     if fd < 0 {
-        return unreadable(t, wait, a, input::last_error(), name);
+        return unreadable(t, input::last_error(), name);
     }
     let c = input::read_tape(fd, tape);
     libc::close(fd);
     if !c.whole {
-        return unreadable(t, wait, a, c.error, name);
+        return unreadable(t, c.error, name);
     }
     let n = c.length;
-    show(t, wait, a, &tape[..n], out)
+    show(t, &tape[..n], out)
 }
 
-// Whether a whole name was read and not yet taken.
-fn is_named(input: &[u8], s: Source) -> bool {
-    let got = s.got;
-    let mut i = s.at;
-    while i < got {
-        if i < input.len() {
-            if input[i] == s.separator {
-                return true;
-            }
-        }
-        i += 1;
-    }
-    false
-}
-
-// Hands on what waits if more has to be read for the next name, so that whoever sends names one by one is answered at once.
-fn flush_to_read(input: &[u8], s: Source, wait: &[u8], w: Waiting) -> Waiting
-    requires { IsPrefixLen w.length wait.now }
-    ensures prefix_len { IsPrefixLen result.length wait.now }
-    ensures rests { Rests w result }
-{
-    if is_named(input, s) {
-        return w;
-    }
-    flush(wait, w)
-}
-
-// Hands on what waits at the end: the tally, or the stopped one if not all was written.
-fn ended(t: Tally, wait: &[u8], w: Waiting) -> Tally
-    requires { IsPrefixLen w.length wait.now }
-    ensures { Ends t w result }
-{
-    let e = flush(wait, w);
-    if e.failed {
-        return stopped(t);
-    }
-    t
-}
-
-// After a name: whether there may be more, and what there is then.
-#[derive(Drop)]
-struct After {
-    more: bool,
-    tally: Tally,
-    waiting: Waiting,
-    source: Source,
-}
-
-// There is no other name, or none is to be served.
-fn no_more(tally: Tally, waiting: Waiting, source: Source) -> After
-    ensures more_value { result.more ≡ false }
-    ensures tally_value { result.tally ≡ tally }
-    ensures waiting_value { result.waiting ≡ waiting }
-{
-    After {
-        more: false,
-        tally,
-        waiting,
-        source,
-    }
-}
-
-// The next name, if there is one, is served. After a write that failed there is no other.
-fn serve_next(
-    t: Tally,
-    s: Source,
-    w: Waiting,
-    input: &mut [u8],
-    name: &mut [u8],
-    tape: &mut [u8],
-    out: &mut [u8],
-    wait: &mut [u8],
-) -> After
-    requires { IsPrefixLen w.length wait.old }
-    ensures prefix_len { IsPrefixLen result.waiting.length wait.new }
-    ensures goes { Goes t w wait.old result.more result.tally result.waiting wait.new }
-{
-    let a = flush_to_read(input, s, wait, w);
-    if a.failed {
-        return no_more(t, a, s);
-    }
-    let line = read_line(input, s, name);
-    let source = line.source;
-    if source.failed {
-        return no_more(stopped(t), a, source);
-    }
-    if !line.found {
-        return no_more(t, a, source);
-    }
-    let n = line.length;
-    let v = serve(t, wait, a, &name[..n], tape, out);
-    let tally = count_tape(v.tally);
-    let waiting = v.waiting;
-    After {
-        more: !waiting.failed,
-        tally,
-        waiting,
-        source,
-    }
-}
-
-// How many turns there are still to be: one fewer, or none.
-fn turns_left(more: bool, turns: u64) -> u64
-    requires { 0 < turns }
-    ensures upper_bound { result < turns }
-    ensures value { more ≡ false → result ≡ 0 }
-{
-    if more {
-        return turns - 1;
-    }
-    0
-}
-
-// Serves each name of standard input, until something fails, and hands on what waits.
-fn serve_all(
-    input: &mut [u8],
-    name: &mut [u8],
-    tape: &mut [u8],
-    out: &mut [u8],
-    wait: &mut [u8],
-) -> Tally
-    ensures { Ran result }
-{
+// Each name of standard input in turn, until something fails.
+fn serve_all(input: &mut [u8], name: &mut [u8], tape: &mut [u8], out: &mut [u8]) -> Tally {
     let mut t = no_tapes();
-    let mut w = nothing_waits();
     let mut s = Source {
         at: 0,
         got: 0,
@@ -587,13 +338,23 @@ fn serve_all(
     };
     let mut turns = u64::MAX;
     while turns > 0 {
-        let v = serve_next(t, s, w, input, name, tape, out, wait);
-        t = v.tally;
-        w = v.waiting;
-        s = v.source;
-        turns = turns_left(v.more, turns);
+        let line = read_line(input, s, name);
+        s = line.source;
+        if s.failed {
+            return stopped(t);
+        }
+        if !line.found {
+            return t;
+        }
+        let n = line.length;
+        t = serve(t, &name[..n], tape, out);
+        if t.failed {
+            return t;
+        }
+        t = count_tape(t);
+        turns -= 1;
     }
-    ended(t, wait, w)
+    t
 }
 
 // ---- the summary
@@ -619,8 +380,7 @@ fn main() {
     let mut name = io::buffer();
     let mut tape = tape_buffer();
     let mut out = listing_buffer();
-    let mut wait = io::large_buffer();
-    let t = serve_all(&mut input, &mut name, &mut tape, &mut out, &mut wait);
+    let t = serve_all(&mut input, &mut name, &mut tape, &mut out);
     if !t.failed {
         summary(t);
     }

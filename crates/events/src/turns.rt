@@ -1,9 +1,9 @@
 // One turn: what an event does to an auction's head, and what becomes of the board. No board is copied.
 ghost use Rattle.std.specs.Prelude.{◌≡◌, cond, ◌||◌};
-ghost use Rattle.words.specs.rules.Bits.{clearIn};
-ghost use Rattle.auction.specs.rules.Range.{isOpen};
-ghost use Rattle.decision.specs.rules.Decide.{isCancel, isAmend};
-ghost use Rattle.events.specs.rules.Step.{sight_of, eventRefusal, quotesAfter, marketAfter, offeredAfter, stays, endedByTime, headAfter, carried, turn_of, closeTurn};
+ghost use Rattle.words.specs.rules.Bits.{clear_in};
+ghost use Rattle.auction.specs.rules.Range.{is_open};
+ghost use Rattle.decision.specs.rules.Decide.{is_cancel, is_amend};
+ghost use Rattle.events.specs.rules.Step.{sight_of, event_refusal, quotes_after, market_after, offered_after, stays, ended_by_time, head_after, carried, turn_of, close_turn};
 
 use crate::{Answer, Turn};
 use auction::{Ending, Head, Market, Quotes, is_open, moved_offer};
@@ -14,14 +14,14 @@ use tape::Event;
 
 // Whether the event names a response: a cancel and an amend do.
 pub fn names(e: Event) -> bool
-    ensures { result ≡ (isCancel e || isAmend e) }
+    ensures { result ≡ (is_cancel e || is_amend e) }
 {
     (e.kind == 2) | (e.kind == 6)
 }
 
 // What the word of live places tells of an event, and the response that it names, as it was found.
 pub fn sight_of(live: u64, named: Found) -> Sight
-    ensures { result ≡ record { at = clearIn 64 live; found = named.place; old = named.response } }
+    ensures { result ≡ record { at = clear_in 64 live; found = named.place; old = named.response } }
 {
     let at = words::bits::first_clear(live) as usize;
     let found = named.place;
@@ -48,7 +48,7 @@ pub fn sight(b: Board, e: Event) -> Sight
 
 // 31 to 34; 0 where none of them refuses the event.
 fn refusal(h: Head, e: Event) -> u32
-    ensures { result ≡ eventRefusal h e }
+    ensures { result ≡ event_refusal h e }
 {
     let g = h.ending;
     if !is_open(g) {
@@ -79,7 +79,7 @@ fn stay(answer: Answer, h: Head) -> Turn
 
 // The head that ends by time: nothing but its ending moves.
 fn by_time(h: Head) -> Head
-    ensures { result ≡ endedByTime h }
+    ensures { result ≡ ended_by_time h }
 {
     let terms = h.terms;
     let quotes = h.quotes;
@@ -97,7 +97,7 @@ fn by_time(h: Head) -> Head
 }
 
 fn quotes_after(q: Quotes, c: Change) -> Quotes
-    ensures { result ≡ quotesAfter q c }
+    ensures { result ≡ quotes_after q c }
 {
     match c {
         Change::Nothing => q,
@@ -109,7 +109,7 @@ fn quotes_after(q: Quotes, c: Change) -> Quotes
 }
 
 fn market_after(m: Market, c: Change) -> Market
-    ensures { result ≡ marketAfter m c }
+    ensures { result ≡ market_after m c }
 {
     match c {
         Change::Nothing => m,
@@ -122,7 +122,7 @@ fn market_after(m: Market, c: Change) -> Market
 
 // The contracts on offer after a change.
 fn offered_after(n: u32, c: Change) -> u32
-    ensures { result ≡ offeredAfter n c }
+    ensures { result ≡ offered_after n c }
 {
     match c {
         Change::Nothing => n,
@@ -135,7 +135,7 @@ fn offered_after(n: u32, c: Change) -> u32
 
 // The head after an event that was taken.
 fn head_after(h: Head, e: Event, c: Change, ending: Ending) -> Head
-    ensures { result ≡ headAfter h e c ending }
+    ensures { result ≡ head_after h e c ending }
 {
     let terms = h.terms;
     let quotes = quotes_after(h.quotes, c);
@@ -154,7 +154,7 @@ fn head_after(h: Head, e: Event, c: Change, ending: Ending) -> Head
 
 // Taken where the auction is open after it, ended else.
 fn answer_of(g: Ending) -> Answer
-    ensures { result ≡ cond (isOpen g) Answer.Taken Answer.Ended }
+    ensures { result ≡ cond (is_open g) Answer.Taken Answer.Ended }
 {
     if is_open(g) {
         return Answer::Taken;
@@ -198,7 +198,7 @@ pub fn turn(h: Head, s: Sight, e: Event) -> Turn
 
 // Closing by hand: as an event at time L.
 pub fn close_turn(h: Head) -> Turn
-    ensures { result ≡ closeTurn h }
+    ensures { result ≡ close_turn h }
 {
     let g = h.ending;
     if is_open(g) {

@@ -1,13 +1,20 @@
 // The fills of an auction that has ended, into lent words.
 ghost use Rattle.std.specs.Prelude.{◌≡◌};
-ghost use Rattle.fills.specs.rules.Fills.{dealOf, fillsAnswer, fillsAfter};
+ghost use Rattle.fills.specs.rules.Fills.{has_ended, deal_of, fills_answer, fills_after};
 
 use auction::{Auction, Head, bound_now, is_open};
 use trade::{Deal, Filled};
 
+fn has_ended(h: Head) -> bool
+    ensures { result ≡ has_ended h }
+{
+    let g = h.ending;
+    !is_open(g)
+}
+
 // The terms at the ending.
 fn deal_of(h: Head) -> Deal
-    ensures { result ≡ dealOf h }
+    ensures { result ≡ deal_of h }
 {
     let t = h.terms;
     let m = h.market;
@@ -25,13 +32,9 @@ fn deal_of(h: Head) -> Deal
 
 // The fills of an ended auction, three words each, into lent words from a start place: 40, then 39.
 pub fn write_fills(a: Auction, out: &mut [u32], start: usize) -> Filled
-    ensures value { result ≡ fillsAnswer a out.old start }
-    ensures out_after { out.new ≡ fillsAfter a out.old start }
+    ensures value { result ≡ fills_answer a out.old start }
+    ensures out_after { out.new ≡ fills_after a out.old start }
 {
     let h = a.head;
-    let g = h.ending;
-    if is_open(g) {
-        return Filled::Refused(40);
-    }
-    trade::write_fills(deal_of(h), a.board, out, start)
+    trade::write_fills(has_ended(h), deal_of(h), a.board, out, start)
 }

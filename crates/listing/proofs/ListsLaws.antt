@@ -11,7 +11,7 @@ use Rattle.auction.specs.declared.Ending.{Ending}
 use Rattle.listing.specs.declared.Listed.{Listed}
 use Rattle.listing.specs.declared.Listed.TheVariants.{Refused as NoAuction, Ended as Auctioned}
 use Rattle.run.specs.rules.Run.{Said, Run, ended, run_of}
-use Rattle.listing.specs.rules.Listing.{auctionLine, eventLines, endLines, lines_of, listingOf, roomOf, answer_of, listed_of, bytes_of}
+use Rattle.listing.specs.rules.Listing.{auction_line, event_lines, end_lines, lines_of, listing_of, room_of, answer_of, listed_of, bytes_of}
 use Rattle.words.proofs.WroteLaws.{wrote-append}
 use Rattle.listing.proofs.LengthLaws.{listing-fits}
 use Rattle.listing.specs.inside.Code.{Lists}
@@ -26,8 +26,8 @@ pub lists-same : {xs ys : List ℕ} {r : Listed} {other : Run} (run : Run) → L
 lists-same {xs} {ys} {r} run l e = subst (λ u. Lists u xs r ys) e l
 
 -- an auction: its opening, its records, and the end of what closing by hand gave
-pub auction-lists : {ws xs ys zs : List ℕ} {u v n : ℕ} {a : Auction} {es : List Said} (g : Ending) (b c : Auction) → WroteBytes ws 0 (auctionLine a.head) u xs → WroteBytes xs u (eventLines es) v ys
-    → WroteBytes ys v (endLines b) n zs → g ≡ b.head.ending → b ≡ c → Lists (ended a es c) ws (Auctioned g n) zs
+pub auction-lists : {ws xs ys zs : List ℕ} {u v n : ℕ} {a : Auction} {es : List Said} (g : Ending) (b c : Auction) → WroteBytes ws 0 (auction_line a.head) u xs → WroteBytes xs u (event_lines es) v ys
+    → WroteBytes ys v (end_lines b) n zs → g ≡ b.head.ending → b ≡ c → Lists (ended a es c) ws (Auctioned g n) zs
 auction-lists {ws} {xs} {ys} {zs} {u} {v} {n} {a} {es} g b c p q r eg eb =
     subst (λ h. Lists (ended a es c) ws (Auctioned h n) zs) (sym eg)
     (subst (λ x. Lists (ended a es x) ws (Auctioned b.head.ending n) zs) eb
@@ -36,11 +36,11 @@ auction-lists {ws} {xs} {ys} {zs} {u} {v} {n} {a} {es} g b c p q r eg eb =
 -- ---- the whole listing
 
 module _ (s xs : List ℕ) where
-  pub too_small : length xs < roomOf → (NoAuction 24 0 ≡ listed_of s xs) × (xs ≡ bytes_of s xs)
+  pub too_small : length xs < room_of → (NoAuction 24 0 ≡ listed_of s xs) × (xs ≡ bytes_of s xs)
   unfolding listed_of bytes_of
-  too_small h = rw (lt-ltb (length xs) roomOf h) (refl, refl)
+  too_small h = rw (lt-ltb (length xs) room_of h) (refl, refl)
 
-  pub lists-whole : {r : Listed} {ys : List ℕ} → roomOf ≤ length xs → Lists (run_of s) xs r ys → (r ≡ listed_of s xs) × (ys ≡ bytes_of s xs)
-  unfolding listed_of bytes_of listingOf
+  pub lists-whole : {r : Listed} {ys : List ℕ} → room_of ≤ length xs → Lists (run_of s) xs r ys → (r ≡ listed_of s xs) × (ys ≡ bytes_of s xs)
+  unfolding listed_of bytes_of listing_of
   lists-whole h l =
-      rw (le-ltb (length xs) roomOf h) (l.answer, l.bytes ∙ sets-front (lines_of (run_of s)) xs (length (lines_of (run_of s))) refl (omega (arith, listing-fits s)))
+      rw (le-ltb (length xs) room_of h) (l.answer, l.bytes ∙ sets-front (lines_of (run_of s)) xs (length (lines_of (run_of s))) refl (omega (arith, listing-fits s)))

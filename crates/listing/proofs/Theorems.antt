@@ -10,31 +10,31 @@ use lib.ListN.{length, drop}
 use Rattle.listing.specs.declared.Listed.{Listed}
 use Rattle.listing.specs.declared.Listed.TheVariants.{Refused as NoAuction}
 use Rattle.run.specs.rules.Run.{Run, refused, ended, run_of}
-use Rattle.listing.specs.rules.Listing.{listingOf, roomOf, answer_of, lengthIn, listed_of, bytes_of}
+use Rattle.listing.specs.rules.Listing.{listing_of, room_of, answer_of, length_in, listed_of, bytes_of}
 use Rattle.listing.specs.promises.Demands.{Demands}
 use Rattle.listing.proofs.DecimalLaws.{decimal-value}
 use Rattle.listing.proofs.LengthLaws.{listing-fits}
 use Rattle.listing.proofs.Examples.{case-c, case-e, no_bytes}
 
-pub length-answer : (n : ℕ) (run : Run) → lengthIn (answer_of n run) ≡ n
+pub length-answer : (n : ℕ) (run : Run) → length_in (answer_of n run) ≡ n
 length-answer n (refused number) = refl
 length-answer n (ended first said last) = refl
 
-pub within : (s out : List ℕ) → lengthIn (listed_of s out) ≤ length out
+pub within : (s out : List ℕ) → length_in (listed_of s out) ≤ length out
 unfolding listed_of
-within s out = go (ltb (length out) roomOf) refl
+within s out = go (ltb (length out) room_of) refl
   where
-    go : (b : Bool) → ltb (length out) roomOf ≡ b → lengthIn (cond b (NoAuction 24 0) (answer_of (length (listingOf s)) (run_of s))) ≤ length out
+    go : (b : Bool) → ltb (length out) room_of ≡ b → length_in (cond b (NoAuction 24 0) (answer_of (length (listing_of s)) (run_of s))) ≤ length out
     go true e = omega arith
-    go false e = omega (arith, length-answer (length (listingOf s)) (run_of s), listing-fits s, ltb-false (length out) roomOf e)
+    go false e = omega (arith, length-answer (length (listing_of s)) (run_of s), listing-fits s, ltb-false (length out) room_of e)
 
-kept : (s out : List ℕ) → length out < roomOf → bytes_of s out ≡ out
+kept : (s out : List ℕ) → length out < room_of → bytes_of s out ≡ out
 unfolding bytes_of
-kept s out h = rw (lt-ltb (length out) roomOf h)
+kept s out h = rw (lt-ltb (length out) room_of h)
 
-stands : (s out : List ℕ) → roomOf ≤ length out → bytes_of s out ≡ listingOf s ++ drop (length (listingOf s)) out
+stands : (s out : List ℕ) → room_of ≤ length out → bytes_of s out ≡ listing_of s ++ drop (length (listing_of s)) out
 unfolding bytes_of
-stands s out h = rw (le-ltb (length out) roomOf h)
+stands s out h = rw (le-ltb (length out) room_of h)
 
 pub demands : Demands
 demands =

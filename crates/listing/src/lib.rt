@@ -1,12 +1,11 @@
 // The runner's listing of a tape, into lent bytes.
-ghost use Rattle.std.specs.Prelude.{◌≡◌, cond, ◌+◌, ◌*◌, ◌%◌, ◌≤◌, ◌<◌, eqb, length};
-ghost use Rattle.board.specs.rules.Board.{emptyBoard};
-ghost use Rattle.tape.specs.rules.Tape.{order_in, recordsOf};
-ghost use Rattle.run.specs.rules.Run.{run, heard, closed, refused, runEntry, runOrder};
-ghost use Rattle.listing.specs.rules.Listing.{eventLines, roomOf, lengthIn, listed_of, bytes_of};
+ghost use Rattle.std.specs.Prelude.{◌≡◌, cond, ◌+◌, ◌*◌, ◌≤◌, length};
+ghost use Rattle.board.specs.rules.Board.{empty_board};
+ghost use Rattle.tape.specs.rules.Tape.{order_in, records_of};
+ghost use Rattle.run.specs.rules.Run.{run, heard, closed, refused, run_entry, run_order};
+ghost use Rattle.listing.specs.rules.Listing.{event_lines, room_of, length_in, listed_of, bytes_of};
 ghost use Rattle.listing.specs.inside.Code.{Lists};
 ghost use Rattle.words.specs.inside.Writing.{WroteBytes};
-ghost use Rattle.words.specs.rules.Bits.{count_trailing_zeros};
 
 use auction::{Auction, Ending, Entry};
 use board::Found;
@@ -36,7 +35,7 @@ pub const ROOM: usize = 131072;
 
 // How many bytes were written.
 pub fn length_of(l: Listed) -> usize
-    ensures { result ≡ lengthIn l }
+    ensures { result ≡ length_in l }
 {
     match l {
         Listed::Refused { number: _, length } => length,
@@ -63,37 +62,12 @@ fn sought(names: bool, live: u64) -> u64
     0
 }
 
-// How many places, by fours, come before the four that have the lowest place of a word.
-fn gap_of(word: u64) -> usize
-    requires { (0 < word) × (word % 16 ≡ 0) }
-    ensures { (0 < result) × (result < 64) × (result % 4 ≡ 0) × (result ≤ count_trailing_zeros 64 word) }
-{
-    let i = bits::first_set(word) as usize;
-    i / 4 * 4
-}
-
-// Which of four places has this sequence: the first of three that have it, else the fourth.
-fn which(sequence: u32, first: u32, second: u32, third: u32) -> usize
-    ensures { (result ≡ cond (eqb first sequence) 0 (cond (eqb second sequence) 1 (cond (eqb third sequence) 2 3))) × (result ≤ 3) }
-{
-    if first == sequence {
-        return 0;
-    }
-    if second == sequence {
-        return 1;
-    }
-    if third == sequence {
-        return 2;
-    }
-    3
-}
-
 // A line for each of the tape's events. The board is the loop's own, and begins empty: what a turn says is seated on it in place.
 fn put_events(tape: &[u8], t: Trailer, a: Auction, out: &mut [u8], start: usize) -> Heard
     requires events_bound { (t.events ≤ 2045) × (start + 56 * t.events ≤ length out.old) }
-    requires board_value { a.board ≡ emptyBoard }
-    ensures wrote_bytes { WroteBytes out.old start (eventLines (heard a (recordsOf tape.now t))) result.next out.new }
-    ensures auction_value { (result.auction ≡ closed (run a (recordsOf tape.now t))) × (result.next ≤ start + 56 * t.events) }
+    requires board_value { a.board ≡ empty_board }
+    ensures wrote_bytes { WroteBytes out.old start (event_lines (heard a (records_of tape.now t))) result.next out.new }
+    ensures auction_value { (result.auction ≡ closed (run a (records_of tape.now t))) × (result.next ≤ start + 56 * t.events) }
 {
     let n = t.events as usize;
     let mut b = board::empty();
@@ -102,86 +76,45 @@ fn put_events(tape: &[u8], t: Trailer, a: Auction, out: &mut [u8], start: usize)
     let mut k = 0;
     while k < n {
         let e = tape::record_in(tape, t, k);
-        // A cancel or an amend names a response. It is looked for on the board itself, four places at a time, and a gap is skipped at once. `rest` is the word of live places from place i on.
+        // The response that a cancel or an amend names is looked for on the board itself.
         let nobody = board::response_at(b, 64);
         let mut named = Found {
             place: 64,
             response: nobody,
         };
         let mut rest = sought(turns::names(e), b.live);
-        let mut i = 0;
-        let mut slow = 0;
         while rest != 0 {
-            if rest % 16 == 0 {
-                let gap = gap_of(rest);
-                rest = rest >> gap;
-                i += gap;
-                continue;
-            }
-            let second = i + 1;
-            let third = i + 2;
-            let fourth = i + 3;
-            if (b.places[i].sequence != e.f12)
-                & (b.places[second].sequence != e.f12)
-                & (b.places[third].sequence != e.f12)
-                & (b.places[fourth].sequence != e.f12)
-            {
-                rest /= 16;
-                i += 4;
-                continue;
-            }
-            let j = i
-                + which(
-                    e.f12,
-                    b.places[i].sequence,
-                    b.places[second].sequence,
-                    b.places[third].sequence,
-                );
-            let r = b.places[j];
-            rest = 0;
-            if bits::test(b.live, j) & board::is_named(r, e.f12, false) {
-                named = Found {
-                    place: j,
-                    response: r,
-                };
-                continue;
-            }
-            // A freed place still has this sequence: the live places are looked at one by one.
-            slow = b.live;
-        }
-        while slow != 0 {
-            let j = bits::first_set(slow) as usize;
-            let r = b.places[j];
+            let i = bits::first_set(rest) as usize;
+            let r = b.places[i];
             if board::is_named(r, e.f12, false) {
                 named = Found {
-                    place: j,
+                    place: i,
                     response: r,
                 };
-                slow = 0;
+                rest = 0;
                 continue;
             }
-            slow = bits::without_lowest(slow);
+            rest = bits::without_lowest(rest);
         }
         let v = turns::sight_of(b.live, named);
         let u = turns::turn(h, v, e);
+        let answer = u.answer;
+        w = put_event(out, w, e.sequence, answer);
         let c = u.change;
         match c {
             Change::Seat(i, r, _) => {
-                let at = i as usize;
-                if at < 64 {
-                    b.places[at] = r;
-                    b.live = bits::with_bit(b.live, at);
+                if i < 64 {
+                    b.places[i] = r;
+                    b.live = bits::with_bit(b.live, i);
                 }
             }
             Change::Free(i, _) => {
-                b.live = bits::without_bit(b.live, i as usize);
+                b.live = bits::without_bit(b.live, i);
             }
             Change::Nothing => {}
             Change::Quote(_) => {}
             Change::Sell(_) => {}
         }
-        let answer = u.answer;
-        w = put_event(out, w, e.sequence, answer);
         h = u.head;
         k += 1;
     }
@@ -196,7 +129,7 @@ fn put_events(tape: &[u8], t: Trailer, a: Auction, out: &mut [u8], start: usize)
 // ---- the tape
 
 fn list_refused(out: &mut [u8], number: u32) -> Listed
-    requires { roomOf ≤ length out.old }
+    requires { room_of ≤ length out.old }
     ensures { Lists (refused number) out.old result out.new }
 {
     let n = put_refused(out, 0, number);
@@ -205,9 +138,9 @@ fn list_refused(out: &mut [u8], number: u32) -> Listed
 
 // An open auction, with the tape's events.
 fn list_auction(tape: &[u8], t: Trailer, a: Auction, out: &mut [u8]) -> Listed
-    requires events_bound { (t.events ≤ 2045) × (roomOf ≤ length out.old) }
-    requires board_value { a.board ≡ emptyBoard }
-    ensures { Lists (runEntry (recordsOf tape.now t) a Entry.Accepted) out.old result out.new }
+    requires events_bound { (t.events ≤ 2045) × (room_of ≤ length out.old) }
+    requires board_value { a.board ≡ empty_board }
+    ensures { Lists (run_entry (records_of tape.now t) a Entry.Accepted) out.old result out.new }
 {
     let opened = a.head;
     let w = put_auction(out, 0, opened);
@@ -220,8 +153,8 @@ fn list_auction(tape: &[u8], t: Trailer, a: Auction, out: &mut [u8]) -> Listed
 }
 
 fn list_order(tape: &[u8], t: Trailer, o: Order, out: &mut [u8]) -> Listed
-    requires { (t.events ≤ 2045) × (roomOf ≤ length out.old) }
-    ensures { Lists (runOrder (recordsOf tape.now t) (ReadOrder.Order o)) out.old result out.new }
+    requires { (t.events ≤ 2045) × (room_of ≤ length out.old) }
+    ensures { Lists (run_order (records_of tape.now t) (ReadOrder.Order o)) out.old result out.new }
 {
     let opening = auction::accept(o);
     let answer = opening.answer;
@@ -233,8 +166,8 @@ fn list_order(tape: &[u8], t: Trailer, o: Order, out: &mut [u8]) -> Listed
 }
 
 fn list_tape(tape: &[u8], t: Trailer, out: &mut [u8]) -> Listed
-    requires { (t.events ≤ 2045) × (roomOf ≤ length out.old) }
-    ensures { Lists (runOrder (recordsOf tape.now t) (order_in tape.now t)) out.old result out.new }
+    requires { (t.events ≤ 2045) × (room_of ≤ length out.old) }
+    ensures { Lists (run_order (records_of tape.now t) (order_in tape.now t)) out.old result out.new }
 {
     match tape::order_in(tape, t) {
         ReadOrder::Order(o) => list_order(tape, t, o, out),

@@ -2,7 +2,7 @@
 ghost use Rattle.std.specs.Prelude.{◌+◌, ◌≤◌, length};
 ghost use Rattle.auction.specs.rules.Range.{range_of};
 ghost use Rattle.run.specs.rules.Run.{said};
-ghost use Rattle.listing.specs.rules.Listing.{refusedLine, rangeText, sideText, auctionLine, answerText, eventText, eventLine, eventLineWith, endText, endLine, partyText, fillLine, totalLine};
+ghost use Rattle.listing.specs.rules.Listing.{refused_line, range_text, side_text, auction_line, answer_text, event_text, event_line, event_line_with, end_text, end_line, party_text, fill_line, total_line};
 ghost use Rattle.share.specs.rules.Fills.{fill};
 ghost use Rattle.words.specs.inside.Writing.{WroteBytes};
 
@@ -12,7 +12,7 @@ use events::Answer;
 
 pub(crate) fn put_refused(out: &mut [u8], at: usize, number: u32) -> usize
     requires { at + 29 ≤ length out.old }
-    ensures { WroteBytes out.old at (refusedLine number) result out.new }
+    ensures { WroteBytes out.old at (refused_line number) result out.new }
 {
     let w = put_word(out, at, b"REFUSED ", number);
     put_text(out, w, b"\n")
@@ -20,7 +20,7 @@ pub(crate) fn put_refused(out: &mut [u8], at: usize, number: u32) -> usize
 
 fn put_range(out: &mut [u8], at: usize, r: Range) -> usize
     requires { at + 52 ≤ length out.old }
-    ensures wrote_bytes { WroteBytes out.old at (rangeText r) result out.new }
+    ensures wrote_bytes { WroteBytes out.old at (range_text r) result out.new }
     ensures upper_bound { result ≤ at + 52 }
 {
     let low = put_word(out, at, b" range ", r.low);
@@ -30,7 +30,7 @@ fn put_range(out: &mut [u8], at: usize, r: Range) -> usize
 
 fn put_side(out: &mut [u8], at: usize, sell: bool) -> usize
     requires { at + 12 ≤ length out.old }
-    ensures wrote_bytes { WroteBytes out.old at (sideText sell) result out.new }
+    ensures wrote_bytes { WroteBytes out.old at (side_text sell) result out.new }
     ensures upper_bound { result ≤ at + 12 }
 {
     if sell {
@@ -41,7 +41,7 @@ fn put_side(out: &mut [u8], at: usize, sell: bool) -> usize
 
 pub(crate) fn put_auction(out: &mut [u8], at: usize, h: Head) -> usize
     requires { at + 90 ≤ length out.old }
-    ensures wrote_bytes { WroteBytes out.old at (auctionLine h) result out.new }
+    ensures wrote_bytes { WroteBytes out.old at (auction_line h) result out.new }
     ensures upper_bound { result ≤ at + 90 }
 {
     let t = h.terms;
@@ -52,7 +52,7 @@ pub(crate) fn put_auction(out: &mut [u8], at: usize, h: Head) -> usize
 
 fn put_answer(out: &mut [u8], at: usize, answer: Answer) -> usize
     requires { at + 29 ≤ length out.old }
-    ensures wrote_bytes { WroteBytes out.old at (answerText answer) result out.new }
+    ensures wrote_bytes { WroteBytes out.old at (answer_text answer) result out.new }
     ensures upper_bound { result ≤ at + 29 }
 {
     match answer {
@@ -66,7 +66,7 @@ fn put_answer(out: &mut [u8], at: usize, answer: Answer) -> usize
 // An EVENT line up to its end.
 fn put_said(out: &mut [u8], at: usize, sequence: u32, answer: Answer) -> usize
     requires { at + 55 ≤ length out.old }
-    ensures wrote_bytes { WroteBytes out.old at (eventText (said sequence answer)) result out.new }
+    ensures wrote_bytes { WroteBytes out.old at (event_text (said sequence answer)) result out.new }
     ensures upper_bound { result ≤ at + 55 }
 {
     let w = put_word(out, at, b"EVENT ", sequence);
@@ -75,7 +75,7 @@ fn put_said(out: &mut [u8], at: usize, sequence: u32, answer: Answer) -> usize
 
 pub(crate) fn put_event(out: &mut [u8], at: usize, sequence: u32, answer: Answer) -> usize
     requires { at + 56 ≤ length out.old }
-    ensures wrote_bytes { WroteBytes out.old at (eventLine (said sequence answer)) result out.new }
+    ensures wrote_bytes { WroteBytes out.old at (event_line (said sequence answer)) result out.new }
     ensures upper_bound { result ≤ at + 56 }
 {
     let w = put_said(out, at, sequence, answer);
@@ -91,7 +91,7 @@ pub(crate) fn put_watched(
     offered: u32,
 ) -> usize
     requires { at + 86 ≤ length out.old }
-    ensures { WroteBytes out.old at (eventLineWith (said sequence answer) offered) result out.new }
+    ensures { WroteBytes out.old at (event_line_with (said sequence answer) offered) result out.new }
 {
     let w = put_said(out, at, sequence, answer);
     let n = put_word(out, w, b" on offer ", offered);
@@ -100,7 +100,7 @@ pub(crate) fn put_watched(
 
 fn put_ending(out: &mut [u8], at: usize, ending: Ending) -> usize
     requires { at + 12 ≤ length out.old }
-    ensures wrote_bytes { WroteBytes out.old at (endText ending) result out.new }
+    ensures wrote_bytes { WroteBytes out.old at (end_text ending) result out.new }
     ensures upper_bound { result ≤ at + 12 }
 {
     match ending {
@@ -114,7 +114,7 @@ fn put_ending(out: &mut [u8], at: usize, ending: Ending) -> usize
 
 pub(crate) fn put_end(out: &mut [u8], at: usize, h: Head) -> usize
     requires { at + 64 ≤ length out.old }
-    ensures wrote_bytes { WroteBytes out.old at (endLine h) result out.new }
+    ensures wrote_bytes { WroteBytes out.old at (end_line h) result out.new }
     ensures upper_bound { result ≤ at + 64 }
 {
     let ending = h.ending;
@@ -124,7 +124,7 @@ pub(crate) fn put_end(out: &mut [u8], at: usize, h: Head) -> usize
 
 fn put_party(out: &mut [u8], at: usize, party: u32) -> usize
     requires { at + 25 ≤ length out.old }
-    ensures wrote_bytes { WroteBytes out.old at (partyText party) result out.new }
+    ensures wrote_bytes { WroteBytes out.old at (party_text party) result out.new }
     ensures upper_bound { result ≤ at + 25 }
 {
     if party == 0 {
@@ -135,7 +135,7 @@ fn put_party(out: &mut [u8], at: usize, party: u32) -> usize
 
 pub(crate) fn put_fill(out: &mut [u8], at: usize, party: u32, price: u32, quantity: u32) -> usize
     requires { at + 68 ≤ length out.old }
-    ensures wrote_bytes { WroteBytes out.old at (fillLine (fill party price quantity)) result out.new }
+    ensures wrote_bytes { WroteBytes out.old at (fill_line (fill party price quantity)) result out.new }
     ensures upper_bound { result ≤ at + 68 }
 {
     let p = put_party(out, at, party);
@@ -146,7 +146,7 @@ pub(crate) fn put_fill(out: &mut [u8], at: usize, party: u32, price: u32, quanti
 
 pub(crate) fn put_total(out: &mut [u8], at: usize, n: u64) -> usize
     requires { at + 27 ≤ length out.old }
-    ensures { WroteBytes out.old at (totalLine n) result out.new }
+    ensures { WroteBytes out.old at (total_line n) result out.new }
 {
     let w = put_field(out, at, b"TOTAL ", n);
     put_text(out, w, b"\n")

@@ -2,9 +2,9 @@
 ghost use Rattle.std.specs.Prelude.{◌≡◌, true, ◌+◌, ◌*◌, ◌≤◌, length, take};
 ghost use Rattle.share.specs.rules.Fills.{words};
 ghost use Rattle.trade.specs.rules.Trade.{traded};
-ghost use Rattle.fills.specs.rules.Fills.{hasEnded, auctionFills};
-ghost use Rattle.listing.specs.rules.Listing.{fillLines, endLines};
-ghost use Rattle.listing.specs.inside.Code.{countIn, fillsIn};
+ghost use Rattle.fills.specs.rules.Fills.{has_ended, auction_fills};
+ghost use Rattle.listing.specs.rules.Listing.{fill_lines, end_lines};
+ghost use Rattle.listing.specs.inside.Code.{count_in, fills_in};
 ghost use Rattle.words.specs.inside.Writing.{WroteBytes};
 
 use crate::lines::{put_end, put_fill, put_total};
@@ -15,7 +15,7 @@ use trade::Filled;
 
 // How many fills were written; none where they were refused.
 fn count_of(f: Filled) -> usize
-    ensures { result ≡ countIn f }
+    ensures { result ≡ count_in f }
 {
     match f {
         Filled::Count(n) => n as usize,
@@ -26,7 +26,7 @@ fn count_of(f: Filled) -> usize
 // A line for each of n fills, three words each.
 fn put_fills(out: &mut [u8], at: usize, words: &[u32], n: usize) -> usize
     requires { (n ≤ 130) × (3 * n ≤ length words.now) × (at + 68 * n ≤ length out.old) }
-    ensures wrote_bytes { WroteBytes out.old at (fillLines (fillsIn n words.now)) result out.new }
+    ensures wrote_bytes { WroteBytes out.old at (fill_lines (fills_in n words.now)) result out.new }
     ensures upper_bound { result ≤ at + 68 * n }
 {
     let mut w = at;
@@ -42,7 +42,7 @@ fn put_fills(out: &mut [u8], at: usize, words: &[u32], n: usize) -> usize
 // The sum of their quantities.
 fn sum_of(words: &[u32], n: usize) -> u64
     requires { (n ≤ 130) × (3 * n ≤ length words.now) }
-    ensures { result ≡ traded (fillsIn n words.now) }
+    ensures { result ≡ traded (fills_in n words.now) }
 {
     let mut sum = 0;
     let mut i = 0;
@@ -55,8 +55,8 @@ fn sum_of(words: &[u32], n: usize) -> u64
 
 // The end of the listing of an auction that has ended.
 pub(crate) fn put_results(out: &mut [u8], at: usize, a: Auction) -> usize
-    requires { (hasEnded a.head ≡ true) × (at + 8931 ≤ length out.old) }
-    ensures { WroteBytes out.old at (endLines a) result out.new }
+    requires { (has_ended a.head ≡ true) × (at + 8931 ≤ length out.old) }
+    ensures { WroteBytes out.old at (end_lines a) result out.new }
 {
     let mut words = [0u32; 390];
     let n = count_of(write_fills(a, &mut words, 0));

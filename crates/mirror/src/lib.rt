@@ -1,6 +1,6 @@
 // The mirror that turns a sell into a buy: orders and events as the buy's auction sees them.
 ghost use Rattle.std.specs.Prelude.{◌≡◌};
-ghost use Rattle.mirror.specs.rules.Mirror.{withMark, mirroredMarks, mirroredSide, mirroredUnless, mirroredOrder, mirroredPriced, mirroredMarket, mirroredQuotes, mirroredAmend, mirroredEvent, buyOrder, buyEvent};
+ghost use Rattle.mirror.specs.rules.Mirror.{with_mark, mirrored_marks, mirrored_side, mirrored_unless, mirrored_order, mirrored_priced, mirrored_market, mirrored_quotes, mirrored_amend, mirrored_event, buy_order, buy_event};
 
 use base::mirror;
 use tape::{Event, Order};
@@ -8,7 +8,7 @@ use words::bits::{test, with_bit, without_bit};
 
 // The marks with mark i set or clear.
 fn with_mark(m: u64, i: usize, set: bool) -> u64
-    ensures { result ≡ withMark m i set }
+    ensures { result ≡ with_mark m i set }
 {
     if set {
         return with_bit(m, i);
@@ -18,7 +18,7 @@ fn with_mark(m: u64, i: usize, set: bool) -> u64
 
 // Marks in the mirror: bits 2 and 3 change places.
 fn mirror_marks(m: u8) -> u8
-    ensures { result ≡ mirroredMarks m }
+    ensures { result ≡ mirrored_marks m }
 {
     let w = m as u64;
     with_mark(with_mark(w, 2, test(w, 3)), 3, test(w, 2)) as u8
@@ -26,7 +26,7 @@ fn mirror_marks(m: u8) -> u8
 
 // The other side.
 fn mirror_side(s: u8) -> u8
-    ensures { result ≡ mirroredSide s }
+    ensures { result ≡ mirrored_side s }
 {
     if s == 1 {
         return 2;
@@ -39,7 +39,7 @@ fn mirror_side(s: u8) -> u8
 
 // A price in the mirror, unless there is none.
 fn mirror_unless(none: bool, p: u32) -> u32
-    ensures { result ≡ mirroredUnless none p }
+    ensures { result ≡ mirrored_unless none p }
 {
     if none {
         return p;
@@ -49,7 +49,7 @@ fn mirror_unless(none: bool, p: u32) -> u32
 
 // There is no stop in mode 2, and no collared order where the displayed price is 0. The collar is a difference of prices.
 fn mirror_order(o: Order) -> Order
-    ensures { result ≡ mirroredOrder o }
+    ensures { result ≡ mirrored_order o }
 {
     Order {
         side: mirror_side(o.side),
@@ -73,7 +73,7 @@ fn mirror_order(o: Order) -> Order
 
 // A response, an order or a quote with a price.
 fn mirror_priced(e: Event) -> Event
-    ensures { result ≡ mirroredPriced e }
+    ensures { result ≡ mirrored_priced e }
 {
     let mut n = e;
     n.side = mirror_side(e.side);
@@ -82,7 +82,7 @@ fn mirror_priced(e: Event) -> Event
 }
 
 fn mirror_market(e: Event) -> Event
-    ensures { result ≡ mirroredMarket e }
+    ensures { result ≡ mirrored_market e }
 {
     let mut n = e;
     n.side = mirror_side(e.side);
@@ -90,7 +90,7 @@ fn mirror_market(e: Event) -> Event
 }
 
 fn mirror_quotes(e: Event) -> Event
-    ensures { result ≡ mirroredQuotes e }
+    ensures { result ≡ mirrored_quotes e }
 {
     let mut n = e;
     n.marks = mirror_marks(e.marks);
@@ -102,7 +102,7 @@ fn mirror_quotes(e: Event) -> Event
 }
 
 fn mirror_amend(e: Event) -> Event
-    ensures { result ≡ mirroredAmend e }
+    ensures { result ≡ mirrored_amend e }
 {
     let mut n = e;
     n.f20 = mirror(e.f20);
@@ -110,7 +110,7 @@ fn mirror_amend(e: Event) -> Event
 }
 
 fn mirror_event(e: Event) -> Event
-    ensures { result ≡ mirroredEvent e }
+    ensures { result ≡ mirrored_event e }
 {
     if e.kind == 1 {
         return mirror_priced(e);
@@ -132,7 +132,7 @@ fn mirror_event(e: Event) -> Event
 
 // The buy that an order is for the engine.
 pub fn buy_order(o: Order) -> Order
-    ensures { result ≡ buyOrder o }
+    ensures { result ≡ buy_order o }
 {
     if o.side == 2 {
         return mirror_order(o);
@@ -142,7 +142,7 @@ pub fn buy_order(o: Order) -> Order
 
 // An event as the buy's auction sees it.
 pub fn buy_event(sell: bool, e: Event) -> Event
-    ensures { result ≡ buyEvent sell e }
+    ensures { result ≡ buy_event sell e }
 {
     if sell {
         return mirror_event(e);

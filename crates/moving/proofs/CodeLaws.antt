@@ -11,15 +11,15 @@ use lib.Seq.{sets, sets-eq, take-take, take-add, drop-drop, length-take-le}
 use Rattle.base.proofs.SetsLaws.{part-back, rest-is, sets-front}
 use Rattle.words.specs.rules.Bytes.{word_bytes, word_at}
 use Rattle.words.specs.inside.Writing.{WroteBytes, LeftBytes}
-use Rattle.words.proofs.ByteLaws.{word-alone, length-wordBytes}
+use Rattle.words.proofs.ByteLaws.{word-alone, length-word_bytes}
 use Rattle.words.proofs.WroteLaws.{wrote-append, left-same, left-wrote}
 use Rattle.tape.specs.declared.trailer.Trailer.{Trailer}
-use Rattle.tape.specs.rules.Records.{width_of, trailerWords, trailerWrote}
+use Rattle.tape.specs.rules.Records.{width_of, trailer_words, trailer_wrote}
 use Rattle.tape.specs.rules.Tape.{length_of}
-use Rattle.tape.specs.rules.Whole.{together, parts, tapeWith, ownBytes, orderBytes, recordsBytes}
+use Rattle.tape.specs.rules.Whole.{together, parts, tape_with, own_bytes, order_bytes, records_bytes}
 use Rattle.roundtrip.proofs.RoundTrip.{wrote-is, trailer-length}
 use Rattle.roundtrip.proofs.Whole.{together-long, each_long, same-trailer}
-use Rattle.moving.specs.rules.Moving.{movedRecord, movedTrailer, movedTape, movedBytes, is_bare, all_bare}
+use Rattle.moving.specs.rules.Moving.{moved_record, moved_trailer, moved_tape, moved_bytes, is_bare, all_bare}
 use Rattle.moving.proofs.MoveLaws.{records-long, moved-trailer}
 
 -- ---- writing at a place
@@ -62,53 +62,53 @@ module _ (s : List ℕ) (at n k : ℕ) (below : k < n) where
 
   -- what is left to write: the first, and the rest
   pub record-turn : (wide : Bool) (long : ℕ) {xs ys zs : List ℕ} {from w next : ℕ} {all : List ℕ} → 32 ≤ long
-      → LeftBytes xs from all ys w (together (map (movedRecord wide) (parts long (drop at s) (n - k)))) → WroteBytes ys w (movedRecord wide (take (length s - at) (drop at s))) next zs
-      → LeftBytes xs from all zs next (together (map (movedRecord wide) (parts long (drop (at + long) s) (n - (k + 1)))))
-  unfolding movedRecord
+      → LeftBytes xs from all ys w (together (map (moved_record wide) (parts long (drop at s) (n - k)))) → WroteBytes ys w (moved_record wide (take (length s - at) (drop at s))) next zs
+      → LeftBytes xs from all zs next (together (map (moved_record wide) (parts long (drop (at + long) s) (n - (k + 1)))))
+  unfolding moved_record
   record-turn wide long h l wrote =
       left-wrote
       (left-same l
-      (ap (λ (rs : List (List ℕ)). together (map (movedRecord wide) rs)) (split long)
-      ∙ ap (λ (x : List ℕ). x ++ together (map (movedRecord wide) (parts long (drop (at + long) s) (n - (k + 1))))) (alone (drop at s) ∙ ap (movedRecord wide) (sym (rest-is s at)))))
+      (ap (λ (rs : List (List ℕ)). together (map (moved_record wide) rs)) (split long)
+      ∙ ap (λ (x : List ℕ). x ++ together (map (moved_record wide) (parts long (drop (at + long) s) (n - (k + 1))))) (alone (drop at s) ∙ ap (moved_record wide) (sym (rest-is s at)))))
       wrote
     where
-      alone : (x : List ℕ) → movedRecord wide (take long x) ≡ movedRecord wide x
+      alone : (x : List ℕ) → moved_record wide (take long x) ≡ moved_record wide x
       alone x = ap (λ (l : List ℕ). l ++ cond wide (word_bytes (0 ∷ 0 ∷ [])) []) (take-take 32 long x h)
 
 -- ---- the whole tape
 
 -- how many bytes the moved records have, where the lengths add up
-pub records-width : (wide : Bool) (s : List ℕ) (t : Trailer) → length_of t ≡ length s → length (together (map (movedRecord wide) (recordsBytes s t))) ≡ t.events * width_of wide
+pub records-width : (wide : Bool) (s : List ℕ) (t : Trailer) → length_of t ≡ length s → length (together (map (moved_record wide) (records_bytes s t))) ≡ t.events * width_of wide
 records-width wide s t l =
-    let n : length (recordsBytes s t) ≡ t.events = ap (λ (x : Trailer). x.events) (same-trailer s t l) in
-    together-long (width_of wide) (map (movedRecord wide) (recordsBytes s t)) (records-long wide t.wide (recordsBytes s t) (each_long s t l))
-    ∙ ap (λ (m : ℕ). m * width_of wide) (length-map (recordsBytes s t) (movedRecord wide) ∙ n)
+    let n : length (records_bytes s t) ≡ t.events = ap (λ (x : Trailer). x.events) (same-trailer s t l) in
+    together-long (width_of wide) (map (moved_record wide) (records_bytes s t)) (records-long wide t.wide (records_bytes s t) (each_long s t l))
+    ∙ ap (λ (m : ℕ). m * width_of wide) (length-map (records_bytes s t) (moved_record wide) ∙ n)
 
-pub trailer-16 : (t : Trailer) → length (word_bytes (trailerWords t)) ≡ 16
-trailer-16 t = length-wordBytes (trailerWords t) ∙ ap (λ (k : ℕ). k * 4) (trailer-length t)
+pub trailer-16 : (t : Trailer) → length (word_bytes (trailer_words t)) ≡ 16
+trailer-16 t = length-word_bytes (trailer_words t) ∙ ap (λ (k : ℕ). k * 4) (trailer-length t)
 
 -- the first bytes, the records, the trailer: the moved tape, and the bytes past it
-pub wrote-tape : (wide : Bool) (s : List ℕ) (t : Trailer) {xs ys zs us : List ℕ} {start end : ℕ} → length_of t ≡ length s → length_of (movedTrailer wide t) ≤ length xs
-    → WroteBytes xs 0 (take (t.order + 64) s) start ys → WroteBytes ys start (together (map (movedRecord wide) (recordsBytes s t))) end zs
-    → us ≡ sets zs end (word_bytes (trailerWords (movedTrailer wide t))) → end + 16 ≡ length_of (movedTrailer wide t) → us ≡ movedBytes wide s t xs
-unfolding movedTape tapeWith ownBytes orderBytes
+pub wrote-tape : (wide : Bool) (s : List ℕ) (t : Trailer) {xs ys zs us : List ℕ} {start end : ℕ} → length_of t ≡ length s → length_of (moved_trailer wide t) ≤ length xs
+    → WroteBytes xs 0 (take (t.order + 64) s) start ys → WroteBytes ys start (together (map (moved_record wide) (records_bytes s t))) end zs
+    → us ≡ sets zs end (word_bytes (trailer_words (moved_trailer wide t))) → end + 16 ≡ length_of (moved_trailer wide t) → us ≡ moved_bytes wide s t xs
+unfolding moved_tape tape_with own_bytes order_bytes
 wrote-tape wide s t {xs} {ys} {zs} {us} {start} {end} l room first records last long =
-    let rs = map (movedRecord wide) (recordsBytes s t) in
-    let tr = word_bytes (trailerWords (movedTrailer wide t)) in
-    let n16 : length tr ≡ 16 = trailer-16 (movedTrailer wide t) in
+    let rs = map (moved_record wide) (records_bytes s t) in
+    let tr = word_bytes (trailer_words (moved_trailer wide t)) in
+    let n16 : length tr ≡ 16 = trailer-16 (moved_trailer wide t) in
     let two = wrote-append first records in
     let all : WroteBytes xs 0 ((take (t.order + 64) s ++ together rs) ++ tr) (end + length tr) us = wrote-append two (record { words = last; place = refl }) in
-    let tape : (take (t.order + 64) s ++ together rs) ++ tr ≡ movedTape wide s t =
+    let tape : (take (t.order + 64) s ++ together rs) ++ tr ≡ moved_tape wide s t =
     ap (λ (x : List ℕ). (x ++ together rs) ++ tr) (take-add t.order 64 s)
     ∙ append_assoc (take t.order s ++ take 64 (drop t.order s)) (together rs) tr
     ∙ append_assoc (take t.order s) (take 64 (drop t.order s)) (together rs ++ tr)
-    ∙ ap (λ (x : Trailer). take t.order s ++ (take 64 (drop t.order s) ++ (together rs ++ word_bytes (trailerWords x)))) (sym (moved-trailer wide s t l)) in
-    let n : length (movedTape wide s t) ≡ length_of (movedTrailer wide t) = sym (ap length tape) ∙ sym (zero-add _) ∙ sym all.place ∙ ap (λ (k : ℕ). end + k) n16 ∙ long in
-    all.words ∙ ap (sets xs 0) tape ∙ sets-front (movedTape wide s t) xs (length_of (movedTrailer wide t)) n room
+    ∙ ap (λ (x : Trailer). take t.order s ++ (take 64 (drop t.order s) ++ (together rs ++ word_bytes (trailer_words x)))) (sym (moved-trailer wide s t l)) in
+    let n : length (moved_tape wide s t) ≡ length_of (moved_trailer wide t) = sym (ap length tape) ∙ sym (zero-add _) ∙ sym all.place ∙ ap (λ (k : ℕ). end + k) n16 ∙ long in
+    all.words ∙ ap (sets xs 0) tape ∙ sets-front (moved_tape wide s t) xs (length_of (moved_trailer wide t)) n room
 
 -- what a writer leaves of a trailer in the part that was lent to it
-pub trailer-put : (t : Trailer) (out : List ℕ) → 16 ≤ length out → trailerWrote t out ≡ word_bytes (trailerWords t) ++ drop (length (word_bytes (trailerWords t))) out
-unfolding trailerWrote
+pub trailer-put : (t : Trailer) (out : List ℕ) → 16 ≤ length out → trailer_wrote t out ≡ word_bytes (trailer_words t) ++ drop (length (word_bytes (trailer_words t))) out
+unfolding trailer_wrote
 trailer-put t out h =
-    let n : length (trailerWords t) ≡ 4 = trailer-length t in
-    wrote-is (trailerWords t) out refl (omega arith) ∙ ap (λ (k : ℕ). word_bytes (trailerWords t) ++ drop k out) (sym (length-wordBytes (trailerWords t)))
+    let n : length (trailer_words t) ≡ 4 = trailer-length t in
+    wrote-is (trailer_words t) out refl (omega arith) ∙ ap (λ (k : ℕ). word_bytes (trailer_words t) ++ drop k out) (sym (length-word_bytes (trailer_words t)))

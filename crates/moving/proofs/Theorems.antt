@@ -16,13 +16,13 @@ use Rattle.tape.specs.declared.trailer.Trailer.{Trailer}
 use Rattle.tape.specs.declared.trailer.ReadTrailer.{ReadTrailer}
 use Rattle.tape.specs.declared.trailer.ReadTrailer.TheVariants.{Trailer as GotTrailer, Refused as NoTrailer}
 use Rattle.tape.specs.declared.trailer.Opened.TheVariants.{Tape}
-use Rattle.tape.specs.rules.Records.{width_of, cubt, cub2, trailerOf, readTrailer}
-use Rattle.tape.specs.rules.Tape.{length_of, lastTrailer, openTape, order_in, recordsOf}
-use Rattle.tape.specs.rules.Whole.{ownBytes, orderBytes, recordsBytes}
+use Rattle.tape.specs.rules.Records.{width_of, cubt, cub2, trailer_of, read_trailer}
+use Rattle.tape.specs.rules.Tape.{length_of, last_trailer, open_tape, order_in, records_of}
+use Rattle.tape.specs.rules.Whole.{own_bytes, order_bytes, records_bytes}
 use Rattle.tape.proofs.RecordLaws.{at_least}
 use Rattle.tape.proofs.HoldsLaws.{tape-took, tape-last, trailer-took, tape-opens}
 use Rattle.moving.specs.declared.Moved.TheVariants.{Length, Refused}
-use Rattle.moving.specs.rules.Moving.{hasForm, movedRecord, movedTrailer, movedTape, movedBytes, is_bare, all_bare, moveOpened, moveWith, moveAnswer, bytesWith, moveWrote}
+use Rattle.moving.specs.rules.Moving.{has_form, moved_record, moved_trailer, moved_tape, moved_bytes, is_bare, all_bare, move_opened, move_with, move_answer, bytes_with, move_wrote}
 use Rattle.moving.specs.promises.Moves.{moved_to, HasMoved, Moves}
 use Rattle.moving.proofs.MoveLaws.{moved_length, moved-own, moved_order, moved-records, moved-all-bare, moved-opens, same-order, same-records, tape-again}
 
@@ -38,7 +38,7 @@ took false false false false true k n h = (cc, cc, cc, cc, cc, cc)
 took false false false false false k n h = (refl, refl, refl, refl, refl, cc)
 
 -- a tape that does not have the wanted form has the other one
-other-form : (wide : Bool) (t : Trailer) → hasForm t wide ≡ false → t.wide ≡ not wide
+other-form : (wide : Bool) (t : Trailer) → has_form t wide ≡ false → t.wide ≡ not wide
 other-form true t h = h
 other-form false t h = not-false t.wide h
 
@@ -49,29 +49,29 @@ bare-if false b h e = not-false b h
 -- what is known of a tape that moves
 record Takes (wide : Bool) (s out : List ℕ) (n : ℕ) : Type 0 where
   trailer : Trailer
-  last : lastTrailer s ≡ GotTrailer trailer
+  last : last_trailer s ≡ GotTrailer trailer
   other : trailer.wide ≡ not wide
   adds : length_of trailer ≡ length s
-  bare : wide ≡ false → all_bare (recordsBytes s trailer) ≡ true
-  short : length_of (movedTrailer wide trailer) ≤ 65536
-  room : length_of (movedTrailer wide trailer) ≤ length out
-  long : length_of (movedTrailer wide trailer) ≡ n
+  bare : wide ≡ false → all_bare (records_bytes s trailer) ≡ true
+  short : length_of (moved_trailer wide trailer) ≤ 65536
+  room : length_of (moved_trailer wide trailer) ≤ length out
+  long : length_of (moved_trailer wide trailer) ≡ n
 
-takes : (wide : Bool) (s out : List ℕ) (n : ℕ) → moveAnswer wide s out ≡ Length n → Takes wide s out n
-unfolding moveAnswer moveOpened
-takes wide s out n h = go (lastTrailer s) refl h
+takes : (wide : Bool) (s out : List ℕ) (n : ℕ) → move_answer wide s out ≡ Length n → Takes wide s out n
+unfolding move_answer move_opened
+takes wide s out n h = go (last_trailer s) refl h
   where
-    go : (r : ReadTrailer) → lastTrailer s ≡ r → moveWith wide s out r ≡ Length n → Takes wide s out n
+    go : (r : ReadTrailer) → last_trailer s ≡ r → move_with wide s out r ≡ Length n → Takes wide s out n
     go (NoTrailer k) e h = absurd (let z : ◌≡◌ {A = ℕ} 0 1 = cc in (let r : ⊥ = omega arith in r))
     go (GotTrailer t) e h =
-        let m = length_of (movedTrailer wide t) in
-        let k = took (hasForm t wide) (not (eqb (length_of t) (length s))) (not (wide || all_bare (recordsBytes s t))) (ltb 65536 m) (ltb (length out) m) m n h in
+        let m = length_of (moved_trailer wide t) in
+        let k = took (has_form t wide) (not (eqb (length_of t) (length s))) (not (wide || all_bare (records_bytes s t))) (ltb 65536 m) (ltb (length out) m) m n h in
         record {
           trailer = t;
           last = e;
           other = other-form wide t k.0;
           adds = eqb-true (length_of t) (length s) (not-false _ k.1);
-          bare = bare-if wide (all_bare (recordsBytes s t)) k.2;
+          bare = bare-if wide (all_bare (records_bytes s t)) k.2;
           short = ltb-false 65536 m k.3;
           room = ltb-false (length out) m k.4;
           long = k.5;
@@ -79,45 +79,45 @@ takes wide s out n h = go (lastTrailer s) refl h
 
 -- ---- each answer, by the tests before it
 
-form-other : (wide : Bool) (t : Trailer) → t.wide ≡ not wide → hasForm t wide ≡ false
+form-other : (wide : Bool) (t : Trailer) → t.wide ≡ not wide → has_form t wide ≡ false
 form-other true t h = h
 form-other false t h = ap not h
 
-form-same : (wide : Bool) (t : Trailer) → t.wide ≡ wide → hasForm t wide ≡ true
+form-same : (wide : Bool) (t : Trailer) → t.wide ≡ wide → has_form t wide ≡ true
 form-same true t h = h
 form-same false t h = ap not h
 
-no-trailer : (wide : Bool) (s out : List ℕ) (number : ℕ) → lastTrailer s ≡ NoTrailer number → moveAnswer wide s out ≡ Refused number
-unfolding moveAnswer
-no-trailer wide s out number e = ap (moveWith wide s out) e
+no-trailer : (wide : Bool) (s out : List ℕ) (number : ℕ) → last_trailer s ≡ NoTrailer number → move_answer wide s out ≡ Refused number
+unfolding move_answer
+no-trailer wide s out number e = ap (move_with wide s out) e
 
-already : (wide : Bool) (s out : List ℕ) (t : Trailer) → lastTrailer s ≡ GotTrailer t → t.wide ≡ wide → moveAnswer wide s out ≡ Refused 22
-unfolding moveAnswer moveOpened
+already : (wide : Bool) (s out : List ℕ) (t : Trailer) → last_trailer s ≡ GotTrailer t → t.wide ≡ wide → move_answer wide s out ≡ Refused 22
+unfolding move_answer move_opened
 already wide s out t e f = simp (e, form-same wide t f)
 
-not-adding : (wide : Bool) (s out : List ℕ) (t : Trailer) → lastTrailer s ≡ GotTrailer t → t.wide ≡ not wide → length_of t ≢ length s → moveAnswer wide s out ≡ Refused 23
-unfolding moveAnswer moveOpened
+not-adding : (wide : Bool) (s out : List ℕ) (t : Trailer) → last_trailer s ≡ GotTrailer t → t.wide ≡ not wide → length_of t ≢ length s → move_answer wide s out ≡ Refused 23
+unfolding move_answer move_opened
 not-adding wide s out t e f n = simp (e, form-other wide t f, ne_eqb (length_of t) (length s) n)
 
-module _ (wide : Bool) (s out : List ℕ) (t : Trailer) (h : openTape s ≡ Tape t) (f : t.wide ≡ not wide) where
+module _ (wide : Bool) (s out : List ℕ) (t : Trailer) (h : open_tape s ≡ Tape t) (f : t.wide ≡ not wide) where
   -- of a tape of the other form, what is answered is told by the last three tests
-  by_tests : (c d g : Bool) → (wide || all_bare (recordsBytes s t)) ≡ c → ltb 65536 (length_of (movedTrailer wide t)) ≡ d → ltb (length out) (length_of (movedTrailer wide t)) ≡ g
-      → moveAnswer wide s out ≡ cond (not c) (Refused 25) (cond d (Refused 26) (cond g (Refused 24) (Length (length_of (movedTrailer wide t)))))
-  unfolding moveAnswer moveOpened
+  by_tests : (c d g : Bool) → (wide || all_bare (records_bytes s t)) ≡ c → ltb 65536 (length_of (moved_trailer wide t)) ≡ d → ltb (length out) (length_of (moved_trailer wide t)) ≡ g
+      → move_answer wide s out ≡ cond (not c) (Refused 25) (cond d (Refused 26) (cond g (Refused 24) (Length (length_of (moved_trailer wide t)))))
+  unfolding move_answer move_opened
   by_tests c d g x y z = let k = tape-last s t h in simp (k.1, form-other wide t f, eq-eqb (length_of t) (length s) k.0, x, y, z)
 
-  module _ (b : wide ≡ false → all_bare (recordsBytes s t) ≡ true) (l : length_of (movedTrailer wide t) ≤ 65536) where
-    bare : (wide || all_bare (recordsBytes s t)) ≡ true
-    bare = go wide (all_bare (recordsBytes s t)) b
+  module _ (b : wide ≡ false → all_bare (records_bytes s t) ≡ true) (l : length_of (moved_trailer wide t) ≤ 65536) where
+    bare : (wide || all_bare (records_bytes s t)) ≡ true
+    bare = go wide (all_bare (records_bytes s t)) b
       where
         go : (w x : Bool) → (w ≡ false → x ≡ true) → (w || x) ≡ true
         go true x b = refl
         go false x b = b refl
 
-    no_room : length out < length_of (movedTrailer wide t) → moveAnswer wide s out ≡ Refused 24
+    no_room : length out < length_of (moved_trailer wide t) → move_answer wide s out ≡ Refused 24
     no_room r = by_tests true false true bare (le-ltb 65536 _ l) (lt-ltb (length out) _ r)
 
-    moves : length_of (movedTrailer wide t) ≤ length out → moveAnswer wide s out ≡ Length (length_of (movedTrailer wide t))
+    moves : length_of (moved_trailer wide t) ≤ length out → move_answer wide s out ≡ Length (length_of (moved_trailer wide t))
     moves r = by_tests true false false bare (le-ltb 65536 _ l) (le-ltb (length out) _ r)
 
 -- where the two words of each are 0, all are bare
@@ -126,8 +126,8 @@ unfolding all_bare
 all-zero [] z = refl
 all-zero (r ∷ rs) z = and_both (and_both (eq-eqb (word_at r 32) 0 z.0.0) (eq-eqb (word_at r 36) 0 z.0.1)) (all-zero rs z.1)
 
-too_long : (s out : List ℕ) (t : Trailer) → openTape s ≡ Tape t → t.wide ≡ false → 65536 < length_of (movedTrailer true t) → moveAnswer true s out ≡ Refused 26
-too_long s out t h f l = by_tests true s out t h f true true (ltb (length out) (length_of (movedTrailer true t))) refl (lt-ltb 65536 _ l) refl
+too_long : (s out : List ℕ) (t : Trailer) → open_tape s ≡ Tape t → t.wide ≡ false → 65536 < length_of (moved_trailer true t) → move_answer true s out ≡ Refused 26
+too_long s out t h f l = by_tests true s out t h f true true (ltb (length out) (length_of (moved_trailer true t))) refl (lt-ltb 65536 _ l) refl
 
 -- one record that is not bare is enough
 not-bare : (rs : List (List ℕ)) (r : List ℕ) → In r rs → is_bare r ≡ false → all_bare rs ≡ false
@@ -136,63 +136,63 @@ not-bare [] r i b = absurd i
 not-bare (x ∷ rs) r (inl e) b = ap (λ (y : List ℕ). is_bare y && all_bare rs) (sym e) ∙ and-no-left (all_bare rs) b
 not-bare (x ∷ rs) r (inr i) b = and-no-right (is_bare x) (not-bare rs r i b)
 
-laden : (s out : List ℕ) (t : Trailer) (r : List ℕ) → openTape s ≡ Tape t → t.wide ≡ true → In r (recordsBytes s t) → (word_at r 32 ≢ 0) ⊎ (word_at r 36 ≢ 0) → moveAnswer false s out ≡ Refused 25
-laden s out t r h f i w = by_tests false s out t h f false _ _ (not-bare (recordsBytes s t) r i (some w)) refl refl
+laden : (s out : List ℕ) (t : Trailer) (r : List ℕ) → open_tape s ≡ Tape t → t.wide ≡ true → In r (records_bytes s t) → (word_at r 32 ≢ 0) ⊎ (word_at r 36 ≢ 0) → move_answer false s out ≡ Refused 25
+laden s out t r h f i w = by_tests false s out t h f false _ _ (not-bare (records_bytes s t) r i (some w)) refl refl
   where
     some : (word_at r 32 ≢ 0) ⊎ (word_at r 36 ≢ 0) → is_bare r ≡ false
     some (inl n) = and-no-left (eqb (word_at r 36) 0) (ne_eqb (word_at r 32) 0 n)
     some (inr n) = and-no-right (eqb (word_at r 32) 0) (ne_eqb (word_at r 36) 0 n)
 
 -- the lent bytes, where a tape moves and where it does not
-wrote : (wide : Bool) (s out : List ℕ) (t : Trailer) (n : ℕ) → lastTrailer s ≡ GotTrailer t → moveAnswer wide s out ≡ Length n → moveWrote wide s out ≡ movedBytes wide s t out
-unfolding moveWrote
-wrote wide s out t n e h = ap (λ (r : ReadTrailer). bytesWith wide s out r (moveAnswer wide s out)) e ∙ ap (bytesWith wide s out (GotTrailer t)) h
+wrote : (wide : Bool) (s out : List ℕ) (t : Trailer) (n : ℕ) → last_trailer s ≡ GotTrailer t → move_answer wide s out ≡ Length n → move_wrote wide s out ≡ moved_bytes wide s t out
+unfolding move_wrote
+wrote wide s out t n e h = ap (λ (r : ReadTrailer). bytes_with wide s out r (move_answer wide s out)) e ∙ ap (bytes_with wide s out (GotTrailer t)) h
 
-keeps : (wide : Bool) (s out : List ℕ) (number : ℕ) → moveAnswer wide s out ≡ Refused number → moveWrote wide s out ≡ out
-unfolding moveWrote
-keeps wide s out number h = ap (bytesWith wide s out (lastTrailer s)) h ∙ go (lastTrailer s)
+keeps : (wide : Bool) (s out : List ℕ) (number : ℕ) → move_answer wide s out ≡ Refused number → move_wrote wide s out ≡ out
+unfolding move_wrote
+keeps wide s out number h = ap (bytes_with wide s out (last_trailer s)) h ∙ go (last_trailer s)
   where
-    go : (r : ReadTrailer) → bytesWith wide s out r (Refused number) ≡ out
+    go : (r : ReadTrailer) → bytes_with wide s out r (Refused number) ≡ out
     go (GotTrailer t) = refl
     go (NoTrailer k) = refl
 
 -- ---- the moved tape
 
-module _ (wide : Bool) (s out : List ℕ) (n : ℕ) (h : moveAnswer wide s out ≡ Length n) where
+module _ (wide : Bool) (s out : List ℕ) (n : ℕ) (h : move_answer wide s out ≡ Length n) where
   abbrev k : Takes wide s out n
   k = takes wide s out n h
 
   abbrev t : Trailer
   t = k.trailer
 
-  opened : openTape s ≡ Tape t
+  opened : open_tape s ≡ Tape t
   opened = tape-opens s t k.last k.adds
 
-  bytes : moveWrote wide s out ≡ movedTape wide s t ++ drop n out
-  bytes = wrote wide s out t n k.last h ∙ ap (λ (m : ℕ). movedTape wide s t ++ drop m out) k.long
+  bytes : move_wrote wide s out ≡ moved_tape wide s t ++ drop n out
+  bytes = wrote wide s out t n k.last h ∙ ap (λ (m : ℕ). moved_tape wide s t ++ drop m out) k.long
 
-  long : length (movedTape wide s t) ≡ n
+  long : length (moved_tape wide s t) ≡ n
   long = moved_length wide s t opened k.other ∙ k.long
 
-  is : moved_to wide s out n ≡ movedTape wide s t
-  is = ap (take n) bytes ∙ take_at (movedTape wide s t) (drop n out) n long
+  is : moved_to wide s out n ≡ moved_tape wide s t
+  is = ap (take n) bytes ∙ take_at (moved_tape wide s t) (drop n out) n long
 
-  opens : openTape (movedTape wide s t) ≡ Tape (movedTrailer wide t)
+  opens : open_tape (moved_tape wide s t) ≡ Tape (moved_trailer wide t)
   opens = moved-opens wide s t opened k.other k.short
 
   -- moved back, it has the form and the length that the tape had
-  again : movedTrailer (not wide) (movedTrailer wide t) ≡ t
+  again : moved_trailer (not wide) (moved_trailer wide t) ≡ t
   again = λ i. record { order = t.order; events = t.events; wide = sym k.other i }
 
-  back : AllBytes s → (out' : List ℕ) → length s ≤ length out' → (moveAnswer (not wide) (movedTape wide s t) out' ≡ Length (length s)) × (moveWrote (not wide) (movedTape wide s t) out' ≡ s ++ drop (length s) out')
+  back : AllBytes s → (out' : List ℕ) → length s ≤ length out' → (move_answer (not wide) (moved_tape wide s t) out' ≡ Length (length s)) × (move_wrote (not wide) (moved_tape wide s t) out' ≡ s ++ drop (length s) out')
   back a out' room =
-      let m : length_of (movedTrailer (not wide) (movedTrailer wide t)) ≡ length s = ap length_of again ∙ k.adds in
+      let m : length_of (moved_trailer (not wide) (moved_trailer wide t)) ≡ length s = ap length_of again ∙ k.adds in
       let fits : length s ≤ 65536 = (tape-took s t opened).0 in
-      let moved : moveAnswer (not wide) (movedTape wide s t) out' ≡ Length (length s) =
-      moves (not wide) (movedTape wide s t) out' (movedTrailer wide t) opens (twice wide) (moved-all-bare wide s t opened k.other) (omega arith) (omega arith) ∙ ap Length m in (
+      let moved : move_answer (not wide) (moved_tape wide s t) out' ≡ Length (length s) =
+      moves (not wide) (moved_tape wide s t) out' (moved_trailer wide t) opens (twice wide) (moved-all-bare wide s t opened k.other) (omega arith) (omega arith) ∙ ap Length m in (
         moved,
-        wrote (not wide) (movedTape wide s t) out' (movedTrailer wide t) (length s) (tape-last (movedTape wide s t) (movedTrailer wide t) opens).1 moved
-            ∙ ap (λ (x : List ℕ). x ++ drop (length_of (movedTrailer (not wide) (movedTrailer wide t))) out') (tape-again wide s t opened k.other k.bare a)
+        wrote (not wide) (moved_tape wide s t) out' (moved_trailer wide t) (length s) (tape-last (moved_tape wide s t) (moved_trailer wide t) opens).1 moved
+            ∙ ap (λ (x : List ℕ). x ++ drop (length_of (moved_trailer (not wide) (moved_trailer wide t))) out') (tape-again wide s t opened k.other k.bare a)
             ∙ ap (λ (j : ℕ). s ++ drop j out') m,
       )
     where
@@ -201,7 +201,7 @@ module _ (wide : Bool) (s out : List ℕ) (n : ℕ) (h : moveAnswer wide s out �
       twice false = refl
 
   pub done : HasMoved wide s out n
-  unfolding movedRecord
+  unfolding moved_record
   done =
       record {
         trailer = t;
@@ -210,15 +210,15 @@ module _ (wide : Bool) (s out : List ℕ) (n : ℕ) (h : moveAnswer wide s out �
         long = sym k.long;
         short = omega (arith, k.long, k.short);
         room = omega (arith, k.long, k.room);
-        stays = ap (drop n) bytes ∙ drop_at (movedTape wide s t) (drop n out) n long;
-        opens = ap openTape is ∙ opens;
-        own = ap (λ (x : List ℕ). ownBytes x (movedTrailer wide t)) is ∙ moved-own wide s t opened k.other;
-        order-bytes = ap (λ (x : List ℕ). orderBytes x (movedTrailer wide t)) is ∙ moved_order wide s t opened k.other;
-        record-bytes = ap (λ (x : List ℕ). recordsBytes x (movedTrailer wide t)) is ∙ moved-records wide s t opened k.other;
-        order = ap (λ (x : List ℕ). order_in x (movedTrailer wide t)) is ∙ same-order wide s t opened k.other k.short;
-        records = ap (λ (x : List ℕ). recordsOf x (movedTrailer wide t)) is ∙ same-records wide s t opened k.other k.short k.bare;
+        stays = ap (drop n) bytes ∙ drop_at (moved_tape wide s t) (drop n out) n long;
+        opens = ap open_tape is ∙ opens;
+        own = ap (λ (x : List ℕ). own_bytes x (moved_trailer wide t)) is ∙ moved-own wide s t opened k.other;
+        order-bytes = ap (λ (x : List ℕ). order_bytes x (moved_trailer wide t)) is ∙ moved_order wide s t opened k.other;
+        record-bytes = ap (λ (x : List ℕ). records_bytes x (moved_trailer wide t)) is ∙ moved-records wide s t opened k.other;
+        order = ap (λ (x : List ℕ). order_in x (moved_trailer wide t)) is ∙ same-order wide s t opened k.other k.short;
+        records = ap (λ (x : List ℕ). records_of x (moved_trailer wide t)) is ∙ same-records wide s t opened k.other k.short k.bare;
         back = λ a out' room.
-            (ap (λ (x : List ℕ). moveAnswer (not wide) x out') is ∙ (back a out' room).0, ap (λ (x : List ℕ). moveWrote (not wide) x out') is ∙ (back a out' room).1);
+            (ap (λ (x : List ℕ). move_answer (not wide) x out') is ∙ (back a out' room).0, ap (λ (x : List ℕ). move_wrote (not wide) x out') is ∙ (back a out' room).1);
       }
 
 -- ---- 25 and 26
@@ -234,14 +234,14 @@ gave false false false false true k n h = let q : n ≡ 24 = cc in ((λ e. absur
 gave false false false false false k n h = ((λ e. cc), (λ e. (cc, cc)))
 
 -- the numbers that come from the trailer
-trailer-number : (s : List ℕ) (n : ℕ) → lastTrailer s ≡ NoTrailer n → In n (21 ∷ 22 ∷ 24 ∷ [])
-unfolding lastTrailer readTrailer
+trailer-number : (s : List ℕ) (n : ℕ) → last_trailer s ≡ NoTrailer n → In n (21 ∷ 22 ∷ 24 ∷ [])
+unfolding last_trailer read_trailer
 trailer-number s n =
     let P : ReadTrailer → Type 0 = λ r. r ≡ NoTrailer n → In n (21 ∷ 22 ∷ 24 ∷ []) in
     let last : List ℕ = drop (length s - 16) s in
-    by P (ltb (length s) 16 || ltb 65536 (length s)) (NoTrailer 21) (readTrailer last) (λ _ z. let q : n ≡ 21 = cc in inl q) (λ _.
+    by P (ltb (length s) 16 || ltb 65536 (length s)) (NoTrailer 21) (read_trailer last) (λ _ z. let q : n ≡ 21 = cc in inl q) (λ _.
     by P (ltb (length last) 16) (NoTrailer 24) _ (λ _ z. let q : n ≡ 24 = cc in inr (inr (inl q))) (λ _.
-    by P ((eqb (word_at last 0) cubt || eqb (word_at last 0) cub2) && eqb (word_at last 12) 0) (GotTrailer (trailerOf last)) (NoTrailer 22)
+    by P ((eqb (word_at last 0) cubt || eqb (word_at last 0) cub2) && eqb (word_at last 12) 0) (GotTrailer (trailer_of last)) (NoTrailer 22)
     (λ _ z. absurd (let q : ◌≡◌ {A = ℕ} 0 1 = cc in (let r : ⊥ = omega arith in r))) (λ _ z. let q : n ≡ 22 = cc in inr (inl q))))
 
 -- none of them is above 24
@@ -251,9 +251,9 @@ low (inr (inl q)) = omega (arith, q)
 low (inr (inr (inl q))) = omega (arith, q)
 low (inr (inr (inr q))) = absurd q
 
-numbers : (wide : Bool) (s out : List ℕ) (n : ℕ) → moveAnswer wide s out ≡ Refused n → In n (21 ∷ 22 ∷ 23 ∷ 25 ∷ 26 ∷ 24 ∷ [])
-unfolding moveAnswer moveOpened
-numbers wide s out n h = go (lastTrailer s) refl h
+numbers : (wide : Bool) (s out : List ℕ) (n : ℕ) → move_answer wide s out ≡ Refused n → In n (21 ∷ 22 ∷ 23 ∷ 25 ∷ 26 ∷ 24 ∷ [])
+unfolding move_answer move_opened
+numbers wide s out n h = go (last_trailer s) refl h
   where
     from : In n (21 ∷ 22 ∷ 24 ∷ []) → In n (21 ∷ 22 ∷ 23 ∷ 25 ∷ 26 ∷ 24 ∷ [])
     from (inl q) = inl q
@@ -269,32 +269,32 @@ numbers wide s out n h = go (lastTrailer s) refl h
     told false false false false true k h = let q : n ≡ 24 = cc in inr (inr (inr (inr (inr (inl q)))))
     told false false false false false k h = absurd (let z : ◌≡◌ {A = ℕ} 0 1 = cc in (let r : ⊥ = omega arith in r))
 
-    go : (r : ReadTrailer) → lastTrailer s ≡ r → moveWith wide s out r ≡ Refused n → In n (21 ∷ 22 ∷ 23 ∷ 25 ∷ 26 ∷ 24 ∷ [])
+    go : (r : ReadTrailer) → last_trailer s ≡ r → move_with wide s out r ≡ Refused n → In n (21 ∷ 22 ∷ 23 ∷ 25 ∷ 26 ∷ 24 ∷ [])
     go (NoTrailer k) e h = let q : k ≡ n = cc in from (subst (λ (m : ℕ). In m (21 ∷ 22 ∷ 24 ∷ [])) q (trailer-number s k e))
     go (GotTrailer t) e h =
-        let m = length_of (movedTrailer wide t) in
-        told (hasForm t wide) (not (eqb (length_of t) (length s))) (not (wide || all_bare (recordsBytes s t))) (ltb 65536 m) (ltb (length out) m) m h
+        let m = length_of (moved_trailer wide t) in
+        told (has_form t wide) (not (eqb (length_of t) (length s))) (not (wide || all_bare (records_bytes s t))) (ltb 65536 m) (ltb (length out) m) m h
 
-only-back : (s out : List ℕ) → moveAnswer true s out ≡ Refused 25 → ⊥
-unfolding moveAnswer moveOpened
-only-back s out h = go (lastTrailer s) refl h
+only-back : (s out : List ℕ) → move_answer true s out ≡ Refused 25 → ⊥
+unfolding move_answer move_opened
+only-back s out h = go (last_trailer s) refl h
   where
-    go : (r : ReadTrailer) → lastTrailer s ≡ r → moveWith true s out r ≡ Refused 25 → ⊥
+    go : (r : ReadTrailer) → last_trailer s ≡ r → move_with true s out r ≡ Refused 25 → ⊥
     go (NoTrailer k) e h = let q : k ≡ 25 = cc in omega (arith, low (trailer-number s k e))
     go (GotTrailer t) e h =
-        let m = length_of (movedTrailer true t) in
-        true≢false (sym ((gave (hasForm t true) (not (eqb (length_of t) (length s))) false (ltb 65536 m) (ltb (length out) m) m 25 h).0 refl))
+        let m = length_of (moved_trailer true t) in
+        true≢false (sym ((gave (has_form t true) (not (eqb (length_of t) (length s))) false (ltb 65536 m) (ltb (length out) m) m 25 h).0 refl))
 
 -- a tape that is moved back becomes no longer
-only-new : (s out : List ℕ) → moveAnswer false s out ≡ Refused 26 → ⊥
-unfolding moveAnswer moveOpened width_of
-only-new s out h = go (lastTrailer s) refl h
+only-new : (s out : List ℕ) → move_answer false s out ≡ Refused 26 → ⊥
+unfolding move_answer move_opened width_of
+only-new s out h = go (last_trailer s) refl h
   where
-    go : (r : ReadTrailer) → lastTrailer s ≡ r → moveWith false s out r ≡ Refused 26 → ⊥
+    go : (r : ReadTrailer) → last_trailer s ≡ r → move_with false s out r ≡ Refused 26 → ⊥
     go (NoTrailer k) e h = let q : k ≡ 26 = cc in omega (arith, low (trailer-number s k e))
     go (GotTrailer t) e h =
-        let m = length_of (movedTrailer false t) in
-        let g = (gave (hasForm t false) (not (eqb (length_of t) (length s))) (not (all_bare (recordsBytes s t))) (ltb 65536 m) (ltb (length out) m) m 26 h).1 refl in
+        let m = length_of (moved_trailer false t) in
+        let g = (gave (has_form t false) (not (eqb (length_of t) (length s))) (not (all_bare (records_bytes s t))) (ltb 65536 m) (ltb (length out) m) m 26 h).1 refl in
         let adds : length_of t ≡ length s = eqb-true (length_of t) (length s) (not-false _ g.0) in
         omega (arith, ltb-true 65536 m g.1, adds, (trailer-took s t e).0, at_least t.wide t.events)
 
@@ -309,8 +309,8 @@ all-moves =
       not-adding = not-adding;
       laden = laden;
       too_long = too_long;
-      no_room = λ wide s out t h f z. no_room wide s out t h f (λ e. all-zero (recordsBytes s t) (z e));
-      moves = λ wide s out t h f z. moves wide s out t h f (λ e. all-zero (recordsBytes s t) (z e));
+      no_room = λ wide s out t h f z. no_room wide s out t h f (λ e. all-zero (records_bytes s t) (z e));
+      moves = λ wide s out t h f z. moves wide s out t h f (λ e. all-zero (records_bytes s t) (z e));
       only-back = only-back;
       only-new = only-new;
     }

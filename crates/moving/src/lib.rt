@@ -2,8 +2,8 @@
 ghost use Rattle.std.specs.Prelude.{◌≡◌, true, false, ◌||◌, map, ◌+◌, ◌*◌, ◌≤◌, length};
 ghost use Rattle.tape.specs.rules.Records.{width_of};
 ghost use Rattle.tape.specs.rules.Tape.{length_of};
-ghost use Rattle.tape.specs.rules.Whole.{together, recordsBytes};
-ghost use Rattle.moving.specs.rules.Moving.{hasForm, movedTrailer, is_bare, all_bare, movedRecord, movedBytes, moveOpened, moveAnswer, moveWrote};
+ghost use Rattle.tape.specs.rules.Whole.{together, records_bytes};
+ghost use Rattle.moving.specs.rules.Moving.{has_form, moved_trailer, is_bare, all_bare, moved_record, moved_bytes, move_opened, move_answer, move_wrote};
 ghost use Rattle.words.specs.inside.Writing.{WroteBytes};
 ghost use Rattle.moving.specs.inside.Code.{MovesOpened};
 
@@ -21,14 +21,14 @@ pub enum Moved {
 
 // Whether a tape has a form already.
 fn has_form(t: Trailer, wide: bool) -> bool
-    ensures { result ≡ hasForm t wide }
+    ensures { result ≡ has_form t wide }
 {
     if wide { t.wide } else { !t.wide }
 }
 
 // The trailer of the moved tape: the order's offset and the count of the events stay.
 fn moved_trailer(wide: bool, t: Trailer) -> Trailer
-    ensures { result ≡ movedTrailer wide t }
+    ensures { result ≡ moved_trailer wide t }
 {
     Trailer {
         order: t.order,
@@ -47,7 +47,7 @@ fn is_bare(r: &[u8]) -> bool
 // Those of every event are.
 fn all_bare(s: &[u8], t: Trailer) -> bool
     requires { (t.wide ≡ true) × (length_of t ≡ length s.now) }
-    ensures { result ≡ all_bare (recordsBytes s.now t) }
+    ensures { result ≡ all_bare (records_bytes s.now t) }
 {
     let n = t.events as usize;
     let mut at = (t.order as usize) + ORDER_BYTES;
@@ -64,8 +64,8 @@ fn all_bare(s: &[u8], t: Trailer) -> bool
 
 // Nothing is lost: to the new form nothing can be, and to the old one where every event is bare.
 fn nothing_lost(wide: bool, s: &[u8], t: Trailer) -> bool
-    requires { (hasForm t wide ≡ false) × (length_of t ≡ length s.now) }
-    ensures { result ≡ (wide || all_bare (recordsBytes s.now t)) }
+    requires { (has_form t wide ≡ false) × (length_of t ≡ length s.now) }
+    ensures { result ≡ (wide || all_bare (records_bytes s.now t)) }
 {
     if wide {
         return true;
@@ -86,7 +86,7 @@ fn put_bytes(out: &mut [u8], at: usize, s: &[u8]) -> usize
 // The record at the start of lent bytes in the other form: its first 32 bytes, and zeros after them where it is a new one.
 fn put_record(wide: bool, r: &[u8], out: &mut [u8], at: usize) -> usize
     requires { (32 ≤ length r.now) × (at + width_of wide ≤ length out.old) }
-    ensures { WroteBytes out.old at (movedRecord wide r.now) result out.new }
+    ensures { WroteBytes out.old at (moved_record wide r.now) result out.new }
 {
     let zeros = [0u8; 8];
     let w = put_bytes(out, at, &r[..32]);
@@ -99,7 +99,7 @@ fn put_record(wide: bool, r: &[u8], out: &mut [u8], at: usize) -> usize
 // Each record of the tape, one after the other.
 fn put_records(wide: bool, t: Trailer, s: &[u8], out: &mut [u8], start: usize) -> usize
     requires { (length_of t ≡ length s.now) × (start + t.events * width_of wide ≤ length out.old) }
-    ensures { WroteBytes out.old start (together (map (movedRecord wide) (recordsBytes s.now t))) result out.new }
+    ensures { WroteBytes out.old start (together (map (moved_record wide) (records_bytes s.now t))) result out.new }
 {
     let n = t.events as usize;
     let width = event_bytes(t.wide);
@@ -116,8 +116,8 @@ fn put_records(wide: bool, t: Trailer, s: &[u8], out: &mut [u8], start: usize) -
 
 // The moved tape at the start of lent bytes.
 fn put_tape(wide: bool, t: Trailer, s: &[u8], out: &mut [u8])
-    requires { (length_of t ≡ length s.now) × (length_of (movedTrailer wide t) ≤ length out.old) }
-    ensures { out.new ≡ movedBytes wide s.now t out.old }
+    requires { (length_of t ≡ length s.now) × (length_of (moved_trailer wide t) ≤ length out.old) }
+    ensures { out.new ≡ moved_bytes wide s.now t out.old }
 {
     let first = (t.order as usize) + ORDER_BYTES;
     let start = put_bytes(out, 0, &s[..first]);
@@ -154,8 +154,8 @@ fn move_opened(wide: bool, t: Trailer, s: &[u8], out: &mut [u8]) -> Moved
 
 // The tape in the other form at the start of lent bytes: `wide` is the form that is wanted. 21, 22, 23, 25, 26, then 24; a refusal changes no byte.
 pub fn move_tape(wide: bool, s: &[u8], out: &mut [u8]) -> Moved
-    ensures value { result ≡ moveAnswer wide s.now out.old }
-    ensures out_after { out.new ≡ moveWrote wide s.now out.old }
+    ensures value { result ≡ move_answer wide s.now out.old }
+    ensures out_after { out.new ≡ move_wrote wide s.now out.old }
 {
     match tape::last_trailer(s) {
         ReadTrailer::Trailer(t) => move_opened(wide, t, s, out),

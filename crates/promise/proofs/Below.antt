@@ -1,15 +1,15 @@
 -- The theorems below the promise.
 use Rattle.words.proofs.BitTheorems.{bits-mean}
 use Rattle.reader.proofs.ReaderLaws.{reading}
+use Rattle.roundtrip.proofs.TapeBack.{demands as round-trips}
 use Rattle.moving.proofs.Theorems.{all-moves}
 use Rattle.mirror.proofs.MirrorForm.{records-mirror}
 use Rattle.auction.proofs.CollaredLaws.{collared}
 use Rattle.board.proofs.Theorems.{changes, seen, finding, ordering}
 use Rattle.share.proofs.ShareLaws.{pro-rata}
-use Rattle.demand.proofs.Theorems.{few}
-use Rattle.exact.proofs.Holds.{holds}
-use Rattle.exact.proofs.Only.{alike}
-use Rattle.exact.proofs.Fair.{fair}
+use Rattle.demand.proofs.Theorems.{demand3, few}
+use Rattle.demand.proofs.Shares.{shared-out}
+use Rattle.run.proofs.Resend.{keeps}
 use Rattle.run.proofs.MarketFrom.{resend}
 use Rattle.run.proofs.Amends.{amends}
 use Rattle.run.proofs.OnOffer.{on-offer}
@@ -26,6 +26,7 @@ below =
     record {
       bits = bits-mean;
       reading = λ bytes t. reading bytes t;
+      round-trips = round-trips;
       moves = all-moves;
       records-mirror = records-mirror;
       collared = collared;
@@ -34,10 +35,10 @@ below =
       finding = finding;
       ordering = ordering;
       pro-rata = pro-rata;
+      demand-3 = demand3;
+      shared-out = shared-out;
       few = few;
-      who-trades = holds;
-      alike = alike;
-      fair = fair;
+      keeps = keeps;
       resend = resend;
       amends = amends;
       on-offer = on-offer;

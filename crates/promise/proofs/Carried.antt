@@ -1,5 +1,5 @@
 -- What answers are, from what the paper has for them. Assumes nothing.
-use mathlib.Core.Path.{◌≡◌, refl, ap, ◌∙◌}
+use mathlib.Core.Path.{◌≡◌, refl, ap}
 use mathlib.Core.List.{List}
 use Prim.Native.Nat.{ℕ}
 use Prim.Native.Char.{code}
@@ -12,34 +12,34 @@ use Rattle.tape.specs.declared.event.Event.{Event}
 use Rattle.tape.specs.declared.trailer.Trailer.{Trailer}
 use Rattle.tape.specs.declared.trailer.Opened.{Opened}
 use Rattle.tape.specs.declared.trailer.Opened.TheVariants.{Tape, Refused as NotOpened}
-use Rattle.tape.specs.rules.Tape.{openTape, order_in, recordsOf}
+use Rattle.tape.specs.rules.Tape.{open_tape, order_in, records_of}
 use Rattle.auction.specs.declared.Entry.{Entry}
 use Rattle.auction.specs.declared.Entry.TheVariants.{Accepted, Refused as NotAccepted}
-use Rattle.auction.specs.rules.Accept.{acceptOf}
+use Rattle.auction.specs.rules.Accept.{accept_of}
 use Rattle.events.specs.declared.Answer.{Answer}
 use Rattle.events.specs.declared.Answer.TheVariants.{Taken, Ended, Late, Refused}
-use Rattle.promise.specs.rules.Answers.{Paper, no, yes, Accepts, openedIs, orderIs, entryIs, answerIs}
-use Rattle.promise.specs.rules.Tapes.{Carries, recordsIn}
+use Rattle.promise.specs.rules.Answers.{Paper, no, yes, Accepts, opened_is, order_is, entry_is, answer_is}
+use Rattle.promise.specs.rules.Tapes.{Carries}
 
-pub opened-is : (x : Opened) (t : Trailer) → openedIs x ≡ yes t → x ≡ Tape t
+pub opened-is : (x : Opened) (t : Trailer) → opened_is x ≡ yes t → x ≡ Tape t
 opened-is (Tape u) t z = let q : u ≡ t = cc in ap Tape q
 opened-is (NotOpened n) t z = cc
 
-order_is : (x : ReadOrder) (o : Order) → orderIs x ≡ yes o → x ≡ GotOrder o
-order_is (GotOrder p) o z = let q : p ≡ o = cc in ap GotOrder q
-order_is (NoOrder n) o z = cc
+order_is_lem : (x : ReadOrder) (o : Order) → order_is x ≡ yes o → x ≡ GotOrder o
+order_is_lem (GotOrder p) o z = let q : p ≡ o = cc in ap GotOrder q
+order_is_lem (NoOrder n) o z = cc
 
-pub accepted : (o : Order) → Accepts o → (acceptOf o).answer ≡ Accepted
-accepted o = go (acceptOf o).answer
+pub accepted : (o : Order) → Accepts o → (accept_of o).answer ≡ Accepted
+accepted o = go (accept_of o).answer
   where
-    go : (x : Entry) → entryIs x ≡ yes tt → x ≡ Accepted
+    go : (x : Entry) → entry_is x ≡ yes tt → x ≡ Accepted
     go Accepted z = refl
     go (NotAccepted n) z = cc
 
-pub not-accepted : (o : Order) (n : ℕ) → entryIs (acceptOf o).answer ≡ no n → (acceptOf o).answer ≡ NotAccepted n
-not-accepted o n = go (acceptOf o).answer
+pub not-accepted : (o : Order) (n : ℕ) → entry_is (accept_of o).answer ≡ no n → (accept_of o).answer ≡ NotAccepted n
+not-accepted o n = go (accept_of o).answer
   where
-    go : (x : Entry) → entryIs x ≡ no n → x ≡ NotAccepted n
+    go : (x : Entry) → entry_is x ≡ no n → x ≡ NotAccepted n
     go Accepted z = cc
     go (NotAccepted m) z = let q : m ≡ n = cc in ap NotAccepted q
 
@@ -48,21 +48,18 @@ abbrev first : Paper String → ℕ
 first (no n) = 0
 first (yes w) = code (char_at w 0)
 
-pub taken_is : (x : Answer) → answerIs x ≡ yes "taken" → x ≡ Taken
+pub taken_is : (x : Answer) → answer_is x ≡ yes "taken" → x ≡ Taken
 taken_is Taken z = refl
 taken_is Ended z = absurd (omega (arith, ap first z))
 taken_is Late z = absurd (omega (arith, ap first z))
 taken_is (Refused n) z = cc
 
 -- a tape that carries an order and records
-pub tape-at : {s : List ℕ} {o : Order} {es : List Event} (c : Carries s o es) → openTape s ≡ Tape c.trailer
-tape-at {s} c = opened-is (openTape s) c.trailer c.opened
+pub tape-at : {s : List ℕ} {o : Order} {es : List Event} (c : Carries s o es) → open_tape s ≡ Tape c.trailer
+tape-at {s} c = opened-is (open_tape s) c.trailer c.opened
 
 pub order-at : {s : List ℕ} {o : Order} {es : List Event} (c : Carries s o es) → order_in s c.trailer ≡ GotOrder o
-order-at {s} {o} c = order_is (order_in s c.trailer) o c.order
+order-at {s} {o} c = order_is_lem (order_in s c.trailer) o c.order
 
-pub records-at : {s : List ℕ} {o : Order} {es : List Event} (c : Carries s o es) → recordsIn s (openTape s) ≡ es
-records-at {s} c = ap (recordsIn s) (tape-at c) ∙ c.records
-
-abbrev pub carry : (s : List ℕ) (o : Order) (es : List Event) (t : Trailer) → openTape s ≡ Tape t → order_in s t ≡ GotOrder o → recordsOf s t ≡ es → Carries s o es
-carry s o es t p q r = record { trailer = t; opened = ap openedIs p; order = ap orderIs q; records = r }
+abbrev pub carry : (s : List ℕ) (o : Order) (es : List Event) (t : Trailer) → open_tape s ≡ Tape t → order_in s t ≡ GotOrder o → records_of s t ≡ es → Carries s o es
+carry s o es t p q r = record { trailer = t; opened = ap opened_is p; order = ap order_is q; records = r }

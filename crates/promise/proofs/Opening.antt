@@ -8,21 +8,21 @@ use lib.Dec.{leb, ltb, eqb}
 use borrow.Author.Tests.{eq-eqb, ne_eqb, leb-true, ltb-true}
 use Rattle.base.specs.Price.{mirrored}
 use Rattle.tape.specs.declared.order.Order.{Order}
-use Rattle.tape.specs.rules.Form.{within, orderFormed}
+use Rattle.tape.specs.rules.Form.{within, order_formed}
 use Rattle.tape.proofs.FormLaws.{within-ge, within-le, CollarForm, without, with, OrderBounds, order-bounds}
-use Rattle.mirror.specs.rules.Mirror.{mirroredUnless, mirroredOrder, buyOrder}
+use Rattle.mirror.specs.rules.Mirror.{mirrored_unless, mirrored_order, buy_order}
 use Rattle.mirror.proofs.MirrorForm.{none_stays, records-mirror}
 use Rattle.auction.specs.declared.Auction.{Auction}
 use Rattle.auction.specs.declared.Range.{Range}
 use Rattle.auction.specs.declared.Entry.TheVariants.{Accepted, Refused}
-use Rattle.auction.specs.rules.Accept.{countedOffer, initiatingOf, tickOf, boundOf, firstBound, orderRefusal, bidMark, offerMark, termsOf, quotesOf, openedBy, acceptOf}
-use Rattle.auction.specs.rules.Range.{word, boundNow, range_of}
-use Rattle.trade.specs.rules.Write.{reportedPrice}
-use Rattle.base.proofs.Bools.{and_left, and_right}
-use Rattle.auction.specs.promises.Collared.{reachesRange}
+use Rattle.auction.specs.rules.Accept.{counted_offer, initiating_of, tick_of, bound_of, first_bound, order_refusal, bid_mark, offer_mark, terms_of, quotes_of, opened_by, accept_of}
+use Rattle.auction.specs.rules.Range.{word, bound_now, range_of}
+use Rattle.trade.specs.rules.Write.{reported_price}
+use Rattle.base.proofs.Bools.{and_left, and_right, no}
+use Rattle.auction.specs.promises.Collared.{reaches_range}
 use Rattle.auction.proofs.Accepted.{range-by, refusal-by, refusal-of, opened, refusal_is, limit-fits}
 use Rattle.auction.proofs.CollaredLaws.{collared}
-use Rattle.promise.specs.rules.Sides.{isSell, countedBid, buyRange, sellRange, openingRange, initiatingPrice}
+use Rattle.promise.specs.rules.Sides.{is_sell, counted_bid, buy_range, sell_range, opening_range, initiating_price}
 
 abbrev from : ℕ → ℕ → Range
 from low high = record { low = low; high = high }
@@ -48,27 +48,27 @@ mirror-higher x y h k = ap (λ (z : ℕ). 1000000 - z) small ∙ higher
     higher = omega arith
 
 module _ (o : Order) (k : OrderBounds o) where
-  buy : range_of (openedBy false o).head ≡ buyRange o
-  unfolding range_of boundNow openedBy termsOf quotesOf initiatingOf boundOf tickOf
-  buy = range-is _ _ _ _ (low (ltb o.size 50 || bidMark o.marks)) refl
+  buy : range_of (opened_by false o).head ≡ buy_range o
+  unfolding range_of bound_now opened_by terms_of quotes_of initiating_of bound_of tick_of
+  buy = range-is _ _ _ _ (low (ltb o.size 50 || bid_mark o.marks)) refl
     where
       low : (b : Bool) → word (max o.nbb (o.bb + cond b 1 0)) ≡ max o.nbb (o.bb + cond b 1 0)
       low true = omega (arith, k.nbb, k.bb)
       low false = omega (arith, k.nbb, k.bb)
 
   -- what counts as BO for the buy that a sell mirrors is the mirror of what counts as BB for the sell
-  offer-is : countedOffer (mirroredOrder o) ≡ 1000000 - countedBid o
-  unfolding countedOffer mirroredOrder mirrored
-  offer-is = ap (λ (b : Bool). cond b (1000000 - o.bb) (mirroredUnless (eqb o.displayed 0) o.displayed - o.collar)) (none_stays o.displayed k.displayed) ∙ go (eqb o.displayed 0)
+  offer-is : counted_offer (mirrored_order o) ≡ 1000000 - counted_bid o
+  unfolding counted_offer mirrored_order mirrored
+  offer-is = ap (λ (b : Bool). cond b (1000000 - o.bb) (mirrored_unless (eqb o.displayed 0) o.displayed - o.collar)) (none_stays o.displayed k.displayed) ∙ go (eqb o.displayed 0)
     where
-      go : (b : Bool) → cond b (1000000 - o.bb) (mirroredUnless b o.displayed - o.collar) ≡ 1000000 - cond b o.bb (o.displayed + o.collar)
+      go : (b : Bool) → cond b (1000000 - o.bb) (mirrored_unless b o.displayed - o.collar) ≡ 1000000 - cond b o.bb (o.displayed + o.collar)
       go true = refl
       go false = omega arith
 
-  bid-fits : eqb o.side 2 ≡ true → countedBid o ≤ 999999
+  bid-fits : eqb o.side 2 ≡ true → counted_bid o ≤ 999999
   bid-fits s = go k.collar-form
     where
-      go : CollarForm o.side o.displayed o.collar → countedBid o ≤ 999999
+      go : CollarForm o.side o.displayed o.collar → counted_bid o ≤ 999999
       go (without z c) = simp (eq-eqb _ _ z) k.bb
       go (with hd hc hp) =
           let n : o.displayed ≡ 0 → ⊥ = λ z. omega (arith, z, within-ge o.displayed 1 999999 hd) in
@@ -76,12 +76,12 @@ module _ (o : Order) (k : OrderBounds o) where
           simp (ne_eqb o.displayed 0 n) (within-le (o.displayed + o.collar) 1 999999 p)
 
   -- the end of a sell's range, with the added cent or without
-  abbrev highBy : Bool → ℕ
-  highBy b = 1000000 - word (max (1000000 - o.nbo) (1000000 - o.bo + cond b 1 0))
+  abbrev high_by : Bool → ℕ
+  high_by b = 1000000 - word (max (1000000 - o.nbo) (1000000 - o.bo + cond b 1 0))
 
-  sell : eqb o.side 2 ≡ true → range_of (openedBy true (mirroredOrder o)).head ≡ sellRange o
-  unfolding range_of boundNow openedBy termsOf quotesOf initiatingOf boundOf tickOf mirroredOrder mirrored
-  sell s = range-is _ _ _ _ (low (ltb o.size 50)) (ap (λ (m : Bool). highBy (ltb o.size 50 || m)) (records-mirror.marks o.marks).two ∙ high (ltb o.size 50 || offerMark o.marks))
+  sell : eqb o.side 2 ≡ true → range_of (opened_by true (mirrored_order o)).head ≡ sell_range o
+  unfolding range_of bound_now opened_by terms_of quotes_of initiating_of bound_of tick_of mirrored_order mirrored
+  sell s = range-is _ _ _ _ (low (ltb o.size 50)) (ap (λ (m : Bool). high_by (ltb o.size 50 || m)) (records-mirror.marks o.marks).two ∙ high (ltb o.size 50 || offer_mark o.marks))
     where
       above : (x : ℕ) → x ≤ 999999 → 1000000 - (1000000 - x - 1) ≡ x + 1
       above x h = omega arith
@@ -89,12 +89,12 @@ module _ (o : Order) (k : OrderBounds o) where
       again : (x y : ℕ) → max x y ≡ max (max x y) x
       again x y = omega arith
 
-      low : (b : Bool) → 1000000 - cond b (min (min (1000000 - o.limit) (1000000 - o.nbb)) (countedOffer (mirroredOrder o) - 1)) (min (1000000 - o.limit) (1000000 - o.nbb)) ≡ max (max o.limit o.nbb) (cond b (countedBid o + 1) o.limit)
+      low : (b : Bool) → 1000000 - cond b (min (min (1000000 - o.limit) (1000000 - o.nbb)) (counted_offer (mirrored_order o) - 1)) (min (1000000 - o.limit) (1000000 - o.nbb)) ≡ max (max o.limit o.nbb) (cond b (counted_bid o + 1) o.limit)
       low true =
-          mirror-lower (min (1000000 - o.limit) (1000000 - o.nbb)) (countedOffer (mirroredOrder o) - 1)
-          ∙ ap (λ (x : ℕ). max x (1000000 - (countedOffer (mirroredOrder o) - 1))) (back-lower o.limit o.nbb k.limit k.nbb)
+          mirror-lower (min (1000000 - o.limit) (1000000 - o.nbb)) (counted_offer (mirrored_order o) - 1)
+          ∙ ap (λ (x : ℕ). max x (1000000 - (counted_offer (mirrored_order o) - 1))) (back-lower o.limit o.nbb k.limit k.nbb)
           ∙ ap (λ (x : ℕ). max (max o.limit o.nbb) (1000000 - (x - 1))) offer-is
-          ∙ ap (max (max o.limit o.nbb)) (above (countedBid o) (bid-fits s))
+          ∙ ap (max (max o.limit o.nbb)) (above (counted_bid o) (bid-fits s))
       low false = back-lower o.limit o.nbb k.limit k.nbb ∙ again o.limit o.nbb
 
       below : (x : ℕ) → x ≤ 1000000 → 1000000 - (1000000 - x + 1) ≡ x - 1
@@ -103,69 +103,70 @@ module _ (o : Order) (k : OrderBounds o) where
       itself : (x : ℕ) → x ≤ 1000000 → 1000000 - (1000000 - x + 0) ≡ x - 0
       itself x h = omega arith
 
-      high : (b : Bool) → highBy b ≡ min o.nbo (o.bo - cond b 1 0)
+      high : (b : Bool) → high_by b ≡ min o.nbo (o.bo - cond b 1 0)
       high true = mirror-higher o.nbo (1000000 - o.bo + 1) k.nbo (omega arith) ∙ ap (min o.nbo) (below o.bo k.bo)
       high false = mirror-higher o.nbo (1000000 - o.bo + 0) k.nbo (omega arith) ∙ ap (min o.nbo) (itself o.bo k.bo)
 
 -- the range that an order in form would open with, accepted or not
-range-formed : (o : Order) → orderFormed o ≡ true → range_of (openedBy (eqb o.side 2) (buyOrder o)).head ≡ openingRange o
-unfolding buyOrder
+range-formed : (o : Order) → order_formed o ≡ true → range_of (opened_by (eqb o.side 2) (buy_order o)).head ≡ opening_range o
+unfolding buy_order
 range-formed o f = go (eqb o.side 2) refl (order-bounds o f)
   where
-    go : (b : Bool) → eqb o.side 2 ≡ b → OrderBounds o → range_of (openedBy b (cond b (mirroredOrder o) o)).head ≡ cond b (sellRange o) (buyRange o)
+    go : (b : Bool) → eqb o.side 2 ≡ b → OrderBounds o → range_of (opened_by b (cond b (mirrored_order o) o)).head ≡ cond b (sell_range o) (buy_range o)
     go true z k = sell o k z
     go false z k = buy o k
 
-pub opens : (o : Order) → (acceptOf o).answer ≡ Accepted → range_of (acceptOf o).auction.head ≡ openingRange o
+pub opens : (o : Order) → (accept_of o).answer ≡ Accepted → range_of (accept_of o).auction.head ≡ opening_range o
 opens o h = let m = opened o h in ap (λ (a : Auction). range_of a.head) m.auction ∙ range-formed o m.formed
 
 -- which is empty or not as the bound is above the initiating price or not
 module _ (b : Order) where
-  range-some : (s : Bool) → firstBound b ≤ initiatingOf b → (range_of (openedBy s b).head).low ≤ (range_of (openedBy s b).head).high
-  unfolding range_of boundNow openedBy termsOf quotesOf mirrored
+  range-some : (s : Bool) → first_bound b ≤ initiating_of b → (range_of (opened_by s b).head).low ≤ (range_of (opened_by s b).head).high
+  unfolding range_of bound_now opened_by terms_of quotes_of mirrored
   range-some true h = omega arith
   range-some false h = omega arith
 
-  range_none : (s : Bool) → initiatingOf b < firstBound b → firstBound b ≤ 999999 → (range_of (openedBy s b).head).high < (range_of (openedBy s b).head).low
-  unfolding range_of boundNow openedBy termsOf quotesOf mirrored
+  range_none : (s : Bool) → initiating_of b < first_bound b → first_bound b ≤ 999999 → (range_of (opened_by s b).head).high < (range_of (opened_by s b).head).low
+  unfolding range_of bound_now opened_by terms_of quotes_of mirrored
   range_none true h k = omega arith
   range_none false h k = omega arith
 
-pub some-range : (o : Order) → (acceptOf o).answer ≡ Accepted → (openingRange o).low ≤ (openingRange o).high
+pub some-range : (o : Order) → (accept_of o).answer ≡ Accepted → (opening_range o).low ≤ (opening_range o).high
 some-range o h =
     let m = opened o h in
-    subst (λ (r : Range). r.low ≤ r.high) (range-formed o m.formed) (range-some (buyOrder o) (eqb o.side 2) m.passes.ranged)
+    subst (λ (r : Range). r.low ≤ r.high) (range-formed o m.formed) (range-some (buy_order o) (eqb o.side 2) m.passes.ranged)
 
-pub no-range : (o : Order) → (acceptOf o).answer ≡ Refused 13 → ((openingRange o).high < (openingRange o).low) × (o.size < 50) × (o.displayed ≢ 0)
+pub no-range : (o : Order) → (accept_of o).answer ≡ Refused 13 → ((opening_range o).high < (opening_range o).low) × (o.size < 50) × (o.displayed ≢ 0)
 no-range o h =
-    let b = buyOrder o in
-    let n : orderRefusal o ≡ 13 = refusal_is o 13 h in
-    let f : orderFormed o ≡ true = (refusal-of o 13 (λ z. omega (arith, z)) n).0 in
-    let e : (ltb (initiatingOf b) (firstBound b) && leb (firstBound b) b.limit) ≡ true = and_right (reachesRange o) _ (sym (collared.thirteen o) ∙ eq-eqb _ _ n) in
-    let low : initiatingOf b < firstBound b = ltb-true _ _ (and_left (ltb (initiatingOf b) (firstBound b)) (leb (firstBound b) b.limit) e) in
-    let high : firstBound b ≤ b.limit = leb-true _ _ (and_right (ltb (initiatingOf b) (firstBound b)) (leb (firstBound b) b.limit) e) in
+    let b = buy_order o in
+    let n : order_refusal o ≡ 13 = refusal_is o 13 h in
+    let f : order_formed o ≡ true = (refusal-of o 13 (λ z. omega (arith, z)) n).0 in
+    let e : (ltb (initiating_of b) (first_bound b) && leb (first_bound b) b.limit) ≡ true = and_right (reaches_range o) _ (sym (collared.thirteen o) ∙ eq-eqb _ _ n) in
+    let low : initiating_of b < first_bound b = ltb-true _ _ (and_left (ltb (initiating_of b) (first_bound b)) (leb (first_bound b) b.limit) e) in
+    let high : first_bound b ≤ b.limit = leb-true _ _ (and_right (ltb (initiating_of b) (first_bound b)) (leb (first_bound b) b.limit) e) in
     let k = collared.thirteen-only o n in
     (subst (λ (r : Range). r.high < r.low) (range-formed o f) (range_none b (eqb o.side 2) low (omega (arith, high, limit-fits o f))), k.0, k.1)
 
 -- a number above 10, where the range would be empty
-pub only-13 : (o : Order) (n : ℕ) → (acceptOf o).answer ≡ Refused n → 10 < n → (openingRange o).high < (openingRange o).low → n ≡ 13
+pub only-13 : (o : Order) (n : ℕ) → (accept_of o).answer ≡ Refused n → 10 < n → (opening_range o).high < (opening_range o).low → n ≡ 13
 only-13 o n h l e =
     let m = refusal-of o n (λ z. omega (arith, z)) (refusal_is o n h) in
-    let b = buyOrder o in
+    let b = buy_order o in
     let P : ℕ → Type 0 = λ k. k ≡ n → n ≡ 13 in
-    let never : firstBound b ≤ initiatingOf b → ⊥ = λ r. let s : (openingRange o).low ≤ (openingRange o).high = subst (λ (r : Range). r.low ≤ r.high) (range-formed o m.0) (range-some b (eqb o.side 2) r) in omega (arith, s, e) in
+    let never : first_bound b ≤ initiating_of b → ⊥ = λ r. let s : (opening_range o).low ≤ (opening_range o).high = subst (λ (r : Range). r.low ≤ r.high) (range-formed o m.0) (range-some b (eqb o.side 2) r) in omega (arith, s, e) in
     refusal-by b P (λ k _ j z. absurd (omega arith))
     (λ _. range-by b P (λ _ z. absurd (omega arith)) (λ _ _ z. sym z) (λ r _. absurd (never r)) (λ r _. absurd (never r)) (λ _ _ z. absurd (omega arith))) m.1
 
 -- the initiating price, by the order's own fields
-pub initiating-formed : (o : Order) → orderFormed o ≡ true → initiatingPrice o ≡ reportedPrice (isSell o) (initiatingOf (buyOrder o))
-unfolding range_of openedBy termsOf
-initiating-formed o f = go (isSell o) (range-formed o f)
+pub initiating-is : (o : Order) → (accept_of o).answer ≡ Accepted → initiating_price o ≡ reported_price (is_sell o) (accept_of o).auction.head.terms.initiating
+unfolding range_of opened_by terms_of
+initiating-is o h =
+    go (is_sell o) (accept_of o).auction.head.terms.sell (ap (λ (a : Auction). a.head.terms.sell) (opened o h).auction) (opens o h)
   where
-    go : (s : Bool) → range_of (openedBy s (buyOrder o)).head ≡ cond s (sellRange o) (buyRange o) → cond s (sellRange o).low (buyRange o).high ≡ reportedPrice s (initiatingOf (buyOrder o))
-    go true z = sym (ap (λ (r : Range). r.low) z)
-    go false z = sym (ap (λ (r : Range). r.high) z)
-
-pub initiating-is : (o : Order) → (acceptOf o).answer ≡ Accepted → initiatingPrice o ≡ reportedPrice (isSell o) (acceptOf o).auction.head.terms.initiating
-unfolding openedBy termsOf
-initiating-is o h = initiating-formed o (opened o h).formed ∙ ap (λ (a : Auction). reportedPrice (isSell o) a.head.terms.initiating) (sym (opened o h).auction)
+    go : (s t : Bool) → t ≡ s
+        → cond {A = Range} t (record { low = mirrored (accept_of o).auction.head.terms.initiating; high = mirrored (bound_now (accept_of o).auction.head) }) (record { low = bound_now (accept_of o).auction.head; high = (accept_of o).auction.head.terms.initiating }) ≡ cond s (sell_range o) (buy_range o)
+        → cond s (sell_range o).low (buy_range o).high ≡ reported_price s (accept_of o).auction.head.terms.initiating
+    go true true e z = sym (ap (λ (r : Range). r.low) z)
+    go false false e z = sym (ap (λ (r : Range). r.high) z)
+    go true false e z = no (sym e)
+    go false true e z = no e

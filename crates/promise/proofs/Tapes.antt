@@ -9,10 +9,10 @@ use lib.ListN.{length, take, drop, length-append, length-drop, take-append-drop}
 use lib.Seq.{length-take-le}
 use Rattle.base.specs.Lists.{Every, keep}
 use Rattle.words.specs.rules.Bytes.{AllBytes, word_bytes, word_at}
-use Rattle.words.proofs.ByteLaws.{length-wordBytes, word-alone, bytes_take, bytes-append, bytes-words}
-use Rattle.tape.specs.rules.Form.{orderFormed, eventFormed}
-use Rattle.tape.specs.rules.Records.{orderWords, width_of, eventWords, readOrder, readEvent, recordAt, eventHeld}
-use Rattle.tape.specs.rules.Tape.{openTape, trailerFor}
+use Rattle.words.proofs.ByteLaws.{length-word_bytes, word-alone, bytes_take, bytes-append, bytes-words}
+use Rattle.tape.specs.rules.Form.{order_formed, event_formed}
+use Rattle.tape.specs.rules.Records.{order_words, width_of, event_words, read_order, read_event, record_at, event_held}
+use Rattle.tape.specs.rules.Tape.{open_tape, trailer_for}
 use Rattle.tape.specs.declared.order.Order.{Order}
 use Rattle.tape.specs.declared.order.ReadOrder.TheVariants.{Order as GotOrder}
 use Rattle.tape.specs.declared.event.Event.{Event}
@@ -20,20 +20,20 @@ use Rattle.tape.specs.declared.trailer.Trailer.{Trailer}
 use Rattle.tape.specs.declared.trailer.Opened.TheVariants.{Tape}
 use Rattle.tape.proofs.RecordLaws.{width-ge, words_long}
 use Rattle.tape.proofs.HoldsLaws.{event-stands, event-held, held_by, recorded}
-use Rattle.tape.specs.rules.Whole.{tapeWith, ownBytes, orderBytes, recordsBytes}
+use Rattle.tape.specs.rules.Whole.{tape_with, own_bytes, order_bytes, records_bytes}
 use Rattle.roundtrip.specs.promises.Demands.{Word, AnyRecords, MadeOf}
 use Rattle.roundtrip.proofs.RoundTrip.{order-formed, event-said}
 use Rattle.roundtrip.proofs.Whole.{Long, tape-long, tape-bytes, own-bytes, order-bytes, records-bytes, any-records, made_of}
 use Rattle.roundtrip.proofs.TapeBack.{order-64, order-stands, record-got, participant-fits}
-use Rattle.mirror.specs.rules.Mirror.{mirroredOrder, mirroredEvent}
+use Rattle.mirror.specs.rules.Mirror.{mirrored_order, mirrored_event}
 use Rattle.mirror.proofs.EventLaws.{mirror-sequence, mirror-participant}
 use Rattle.mirror.proofs.MirrorForm.{order-form, event-form}
-use Rattle.auction.specs.rules.Accept.{acceptOf}
+use Rattle.auction.specs.rules.Accept.{accept_of}
 use Rattle.auction.specs.declared.Auction.{Auction}
 use Rattle.events.specs.rules.Step.{step_of}
-use Rattle.run.specs.promises.Demands.{mirroredRecords}
+use Rattle.run.specs.promises.Demands.{mirrored_records}
 use Rattle.promise.proofs.Carried.{tape-at, order-at, carry}
-use Rattle.promise.specs.rules.Tapes.{Carries, SomeTape, is_refused, notRefused}
+use Rattle.promise.specs.rules.Tapes.{Carries, SomeTape, is_refused, not_refused}
 
 -- ---- records in which given events stand, made of the records rs of a tape: no more of them, and bytes where those are
 
@@ -41,49 +41,49 @@ pub record Stand (wide : Bool) (rs : List (List ℕ)) (es : List Event) : Type 0
   pub records : List (List ℕ)
   pub long : Long (width_of wide) records
   pub count : length records ≤ length rs
-  pub stand : map (recordAt wide) records ≡ es
+  pub stand : map (record_at wide) records ≡ es
   pub bytes : Every AllBytes rs → Every AllBytes records
 
 module _ {wide : Bool} {rs : List (List ℕ)} {es : List Event} (r : List ℕ) (st : Stand wide rs es) where
   -- one record more, made of r
-  one_more : (new : List ℕ) (e : Event) → length new ≡ width_of wide → recordAt wide new ≡ e → (AllBytes r → AllBytes new) → Stand wide (r ∷ rs) (e ∷ es)
+  one_more : (new : List ℕ) (e : Event) → length new ≡ width_of wide → record_at wide new ≡ e → (AllBytes r → AllBytes new) → Stand wide (r ∷ rs) (e ∷ es)
   one_more new e n there b =
       record {
         records = new ∷ st.records;
         long = (n, st.long);
         count = omega (arith, st.count);
-        stand = ap (λ (x : Event). x ∷ map (recordAt wide) st.records) there ∙ ap (λ (xs : List Event). e ∷ xs) st.stand;
+        stand = ap (λ (x : Event). x ∷ map (record_at wide) st.records) there ∙ ap (λ (xs : List Event). e ∷ xs) st.stand;
         bytes = λ a. (b a.0, st.bytes a.1);
       }
 
   -- r as it is, or not at all
-  kept : length r ≡ width_of wide → (t : Bool) → Stand wide (r ∷ rs) (keep t (recordAt wide r) es)
-  kept n true = one_more r (recordAt wide r) n refl (λ b. b)
+  kept : length r ≡ width_of wide → (t : Bool) → Stand wide (r ∷ rs) (keep t (record_at wide r) es)
+  kept n true = one_more r (record_at wide r) n refl (λ b. b)
   kept n false = record { records = st.records; long = st.long; count = omega (arith, st.count); stand = st.stand; bytes = λ a. st.bytes a.1 }
 
 module _ (wide : Bool) where
   abbrev at : List ℕ → Event
-  at = recordAt wide
+  at = record_at wide
 
-  lacking : (rs : List (List ℕ)) → Long (width_of wide) rs → (a : Auction) → Stand wide rs (notRefused a (map at rs))
+  lacking : (rs : List (List ℕ)) → Long (width_of wide) rs → (a : Auction) → Stand wide rs (not_refused a (map at rs))
   lacking [] n a = record { records = []; long = tt; count = omega arith; stand = refl; bytes = λ b. b }
   lacking (r ∷ rs) n a = kept r (lacking rs n.1 (step_of a (at r)).auction) n.0 (not (is_refused (step_of a (at r)).answer))
 
   -- ---- a record in form, mirrored: its sequence's bytes stay, the others are written
 
-  module _ (r : List ℕ) (n : length r ≡ width_of wide) (ok : eventFormed (at r) ≡ true) (b : AllBytes r) where
+  module _ (r : List ℕ) (n : length r ≡ width_of wide) (ok : event_formed (at r) ≡ true) (b : AllBytes r) where
     abbrev other : Event
-    other = mirroredEvent (at r)
+    other = mirrored_event (at r)
 
-    abbrev mirroredBytes : List ℕ
-    mirroredBytes = take 4 r ++ word_bytes (drop 1 (eventWords wide other))
+    abbrev mirrored_bytes : List ℕ
+    mirrored_bytes = take 4 r ++ word_bytes (drop 1 (event_words wide other))
 
     four : length (take 4 r) ≡ 4
     four = length-take-le 4 r (omega (arith, width-ge wide))
 
-    mirrored-long : length mirroredBytes ≡ width_of wide
+    mirrored-long : length mirrored_bytes ≡ width_of wide
     mirrored-long =
-        omega (arith, length-append (take 4 r) (word_bytes (drop 1 (eventWords wide other))), four, length-wordBytes (drop 1 (eventWords wide other)), length-drop 1 (eventWords wide other), words_long wide other, width-ge wide)
+        omega (arith, length-append (take 4 r) (word_bytes (drop 1 (event_words wide other))), four, length-word_bytes (drop 1 (event_words wide other)), length-drop 1 (event_words wide other), words_long wide other, width-ge wide)
 
     same-sequence : word_at (take 4 r) 0 ≡ other.sequence
     same-sequence =
@@ -93,49 +93,49 @@ module _ (wide : Bool) where
         ∙ sym (mirror-sequence (at r))
 
     -- a mirrored event keeps its participant, so that the record can hold it
-    held : eventHeld wide other ≡ true
+    held : event_held wide other ≡ true
     held = held_by wide (at r) other (mirror-participant (at r)) (event-held wide r (at r) (record-got wide r n ok)) (event-form (at r) ok)
 
-    mirrored-stands : at mirroredBytes ≡ other
+    mirrored-stands : at mirrored_bytes ≡ other
     mirrored-stands =
-        event-stands wide mirroredBytes other
-        (ap (λ (l : List ℕ). readEvent wide (take 4 r ++ l)) (sym (append-nil (word_bytes (drop 1 (eventWords wide other)))))
+        event-stands wide mirrored_bytes other
+        (ap (λ (l : List ℕ). read_event wide (take 4 r ++ l)) (sym (append-nil (word_bytes (drop 1 (event_words wide other)))))
         ∙ event-said wide other (take 4 r) [] four same-sequence (subst Word (sym (mirror-participant (at r))) (participant-fits wide r b)) held)
 
-    mirrored-bytes : AllBytes mirroredBytes
-    mirrored-bytes = bytes-append (take 4 r) (word_bytes (drop 1 (eventWords wide other))) (bytes_take 4 r b) (bytes-words (drop 1 (eventWords wide other)))
+    mirrored-bytes : AllBytes mirrored_bytes
+    mirrored-bytes = bytes-append (take 4 r) (word_bytes (drop 1 (event_words wide other))) (bytes_take 4 r b) (bytes-words (drop 1 (event_words wide other)))
 
-  mirroring : (rs : List (List ℕ)) → Long (width_of wide) rs → Every AllBytes rs → Stand wide rs (mirroredRecords (map at rs))
+  mirroring : (rs : List (List ℕ)) → Long (width_of wide) rs → Every AllBytes rs → Stand wide rs (mirrored_records (map at rs))
   mirroring [] n b = record { records = []; long = tt; count = omega arith; stand = refl; bytes = λ b. b }
-  mirroring (r ∷ rs) n b = go (eventFormed (at r)) refl (mirroring rs n.1 b.1)
+  mirroring (r ∷ rs) n b = go (event_formed (at r)) refl (mirroring rs n.1 b.1)
     where
-      go : (t : Bool) → eventFormed (at r) ≡ t → Stand wide rs (mirroredRecords (map at rs)) → Stand wide (r ∷ rs) (cond t (mirroredEvent (at r)) (at r) ∷ mirroredRecords (map at rs))
-      go true ok st = one_more r st (mirroredBytes r n.0 ok b.0) _ (mirrored-long r n.0 ok b.0) (mirrored-stands r n.0 ok b.0) (λ _. mirrored-bytes r n.0 ok b.0)
+      go : (t : Bool) → event_formed (at r) ≡ t → Stand wide rs (mirrored_records (map at rs)) → Stand wide (r ∷ rs) (cond t (mirrored_event (at r)) (at r) ∷ mirrored_records (map at rs))
+      go true ok st = one_more r st (mirrored_bytes r n.0 ok b.0) _ (mirrored-long r n.0 ok b.0) (mirrored-stands r n.0 ok b.0) (λ _. mirrored-bytes r n.0 ok b.0)
       go false ok st = one_more r st r _ n.0 refl (λ x. x)
 
 -- ---- a tape of other records, after the own bytes of a tape that opens
 
-module _ (s : List ℕ) (t : Trailer) (h : openTape s ≡ Tape t) (order : List ℕ) (n : length order ≡ 64) {es : List Event} (st : Stand t.wide (recordsBytes s t) es) where
+module _ (s : List ℕ) (t : Trailer) (h : open_tape s ≡ Tape t) (order : List ℕ) (n : length order ≡ 64) {es : List Event} (st : Stand t.wide (records_bytes s t) es) where
   abbrev remade : List ℕ
-  remade = tapeWith t.wide (ownBytes s t) order st.records
+  remade = tape_with t.wide (own_bytes s t) order st.records
 
-  remade-any : AnyRecords t.wide (ownBytes s t) order st.records
+  remade-any : AnyRecords t.wide (own_bytes s t) order st.records
   remade-any =
       let m : MadeOf s t = made_of s t h in
-      let was = tape-long t.wide (ownBytes s t) (orderBytes s t) (recordsBytes s t) m.fitting.order-long m.fitting.each_long in
-      let is = tape-long t.wide (ownBytes s t) order st.records n st.long in
-      let less : length st.records * width_of t.wide ≤ length (recordsBytes s t) * width_of t.wide = mul-le-mul_right (width_of t.wide) st.count in
-      any-records t.wide (ownBytes s t) order st.records (record { order-long = n; each_long = st.long; fits = omega (arith, was, is, less, m.fitting.fits) })
+      let was = tape-long t.wide (own_bytes s t) (order_bytes s t) (records_bytes s t) m.fitting.order-long m.fitting.each_long in
+      let is = tape-long t.wide (own_bytes s t) order st.records n st.long in
+      let less : length st.records * width_of t.wide ≤ length (records_bytes s t) * width_of t.wide = mul-le-mul_right (width_of t.wide) st.count in
+      any-records t.wide (own_bytes s t) order st.records (record { order-long = n; each_long = st.long; fits = omega (arith, was, is, less, m.fitting.fits) })
 
   remade-bytes : AllBytes s → AllBytes order → AllBytes remade
-  remade-bytes b c = tape-bytes t.wide (ownBytes s t) order st.records (own-bytes s t b) c (st.bytes (records-bytes s t b))
+  remade-bytes b c = tape-bytes t.wide (own_bytes s t) order st.records (own-bytes s t b) c (st.bytes (records-bytes s t b))
 
-  remake : (o : Order) (fs : List Event) → AllBytes s → AllBytes order → readOrder order ≡ GotOrder o → es ≡ fs → SomeTape t.wide o fs
+  remake : (o : Order) (fs : List Event) → AllBytes s → AllBytes order → read_order order ≡ GotOrder o → es ≡ fs → SomeTape t.wide o fs
   remake o fs b c eo ee =
       record {
         bytes = remade;
         all-bytes = remade-bytes b c;
-        carries = carry remade o fs (trailerFor t.wide (ownBytes s t) st.records) remade-any.opens (remade-any.ordered ∙ eo) (remade-any.records ∙ st.stand ∙ ee);
+        carries = carry remade o fs (trailer_for t.wide (own_bytes s t) st.records) remade-any.opens (remade-any.ordered ∙ eo) (remade-any.records ∙ st.stand ∙ ee);
         form = refl;
       }
 
@@ -145,24 +145,24 @@ module _ (s : List ℕ) (o : Order) (es : List Event) (b : AllBytes s) (c : Carr
   made : MadeOf s c.trailer
   made = made_of s c.trailer (tape-at c)
 
-  there : map (recordAt c.trailer.wide) (recordsBytes s c.trailer) ≡ es
+  there : map (record_at c.trailer.wide) (records_bytes s c.trailer) ≡ es
   there = sym made.records ∙ c.records
 
-  lacks : Stand c.trailer.wide (recordsBytes s c.trailer) (notRefused (acceptOf o).auction (map (recordAt c.trailer.wide) (recordsBytes s c.trailer)))
-  lacks = lacking c.trailer.wide (recordsBytes s c.trailer) made.fitting.each_long (acceptOf o).auction
+  lacks : Stand c.trailer.wide (records_bytes s c.trailer) (not_refused (accept_of o).auction (map (record_at c.trailer.wide) (records_bytes s c.trailer)))
+  lacks = lacking c.trailer.wide (records_bytes s c.trailer) made.fitting.each_long (accept_of o).auction
 
-  mirrors : Stand c.trailer.wide (recordsBytes s c.trailer) (mirroredRecords (map (recordAt c.trailer.wide) (recordsBytes s c.trailer)))
-  mirrors = mirroring c.trailer.wide (recordsBytes s c.trailer) made.fitting.each_long (records-bytes s c.trailer b)
+  mirrors : Stand c.trailer.wide (records_bytes s c.trailer) (mirrored_records (map (record_at c.trailer.wide) (records_bytes s c.trailer)))
+  mirrors = mirroring c.trailer.wide (records_bytes s c.trailer) made.fitting.each_long (records-bytes s c.trailer b)
 
-  pub can-lack : SomeTape c.trailer.wide o (notRefused (acceptOf o).auction es)
+  pub can-lack : SomeTape c.trailer.wide o (not_refused (accept_of o).auction es)
   can-lack =
-      remake s c.trailer (tape-at c) (orderBytes s c.trailer) made.fitting.order-long lacks o (notRefused (acceptOf o).auction es)
-      b (order-bytes s c.trailer b) (sym made.ordered ∙ order-at c) (ap (notRefused (acceptOf o).auction) there)
+      remake s c.trailer (tape-at c) (order_bytes s c.trailer) made.fitting.order-long lacks o (not_refused (accept_of o).auction es)
+      b (order-bytes s c.trailer b) (sym made.ordered ∙ order-at c) (ap (not_refused (accept_of o).auction) there)
 
-  formed : orderFormed o ≡ true
-  formed = order-formed (orderBytes s c.trailer) o (sym made.ordered ∙ order-at c)
+  formed : order_formed o ≡ true
+  formed = order-formed (order_bytes s c.trailer) o (sym made.ordered ∙ order-at c)
 
-  pub can-mirror : SomeTape c.trailer.wide (mirroredOrder o) (mirroredRecords es)
+  pub can-mirror : SomeTape c.trailer.wide (mirrored_order o) (mirrored_records es)
   can-mirror =
-      remake s c.trailer (tape-at c) (word_bytes (orderWords (mirroredOrder o))) (order-64 (mirroredOrder o)) mirrors (mirroredOrder o) (mirroredRecords es)
-      b (bytes-words (orderWords (mirroredOrder o))) (order-stands (mirroredOrder o) (order-form o formed)) (ap mirroredRecords there)
+      remake s c.trailer (tape-at c) (word_bytes (order_words (mirrored_order o))) (order-64 (mirrored_order o)) mirrors (mirrored_order o) (mirrored_records es)
+      b (bytes-words (order_words (mirrored_order o))) (order-stands (mirrored_order o) (order-form o formed)) (ap mirrored_records there)

@@ -2,5 +2,3 @@
 pub mod Answers
 pub mod Tapes
 pub mod Sides
-pub mod Events
-pub mod Orders

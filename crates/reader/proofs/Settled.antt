@@ -5,3 +5,9 @@ use Rattle.reader.proofs as contracts
 
 pub tape-order : Settled contracts.tape_order.ended contracts.tape_order.Reads.Asked contracts.tape_order.Reads.Learnt
 tape-order κs a = (tt, λ y z v w p q. (p ∙ sym q, refl))
+
+pub tape-event : Settled contracts.tape_event.ended contracts.tape_event.Reads.Asked contracts.tape_event.Reads.Learnt
+tape-event κs a = (tt, λ y z v w p q. (p ∙ sym q, refl))
+
+pub tape-next : Settled contracts.tape_next.ended contracts.tape_next.Reads.Asked contracts.tape_next.Reads.Learnt
+tape-next κs a = (tt, λ y z v w p q. (p ∙ sym q, refl))

@@ -1,7 +1,7 @@
 // A tape that is held: the lent bytes with the trailer, which has the order's offset, and the place of an event. Each function over it is thin, over code on plain slices.
 ghost use Rattle.std.specs.Prelude.{◌≡◌};
 ghost use Rattle.tape.specs.rules.Tape.{order_in};
-ghost use Rattle.reader.specs.rules.Reader.{currentOf, nextPlace, held, next_of};
+ghost use Rattle.reader.specs.rules.Reader.{current_of, next_place, held, next_of};
 
 use tape::{Event, ReadOrder, Trailer};
 
@@ -24,7 +24,7 @@ pub enum Current {
 
 // What stands at a place of lent bytes.
 fn current_at(s: &[u8], t: Trailer, place: usize) -> Current
-    ensures { result ≡ currentOf s.now t place }
+    ensures { result ≡ current_of s.now t place }
 {
     if t.events as usize <= place {
         return Current::End;
@@ -34,7 +34,7 @@ fn current_at(s: &[u8], t: Trailer, place: usize) -> Current
 
 // The place after one; the end is the last.
 fn next_place(t: Trailer, place: usize) -> usize
-    ensures { result ≡ nextPlace t place }
+    ensures { result ≡ next_place t place }
 {
     if place < t.events as usize {
         place + 1
@@ -65,7 +65,7 @@ pub fn held_order<'a>(t: Tape<'a>) -> ReadOrder
 
 // The event at the place, or that there is none.
 pub fn current_event<'a>(t: Tape<'a>) -> Current
-    ensures { result ≡ currentOf t.entry.bytes.now t.entry.trailer t.entry.place }
+    ensures { result ≡ current_of t.entry.bytes.now t.entry.trailer t.entry.place }
 {
     current_at(t.bytes, t.trailer, t.place)
 }
@@ -82,11 +82,25 @@ pub fn next<'a>(t: Tape<'a>) -> Tape<'a>
     }
 }
 
-// ---- with plain parameters: who calls it needs no walk
+// ---- with plain parameters: who calls these needs no walk
 
 // The order of lent bytes, by their trailer.
 pub fn tape_order(bytes: &[u8], t: Trailer) -> ReadOrder
     ensures { result ≡ order_in bytes.now t }
 {
     held_order(hold(bytes, t, 0))
+}
+
+// What stands at a place of lent bytes, by their trailer.
+pub fn tape_event(bytes: &[u8], t: Trailer, place: usize) -> Current
+    ensures { result ≡ current_of bytes.now t place }
+{
+    current_event(hold(bytes, t, place))
+}
+
+// What stands after a place.
+pub fn tape_next(bytes: &[u8], t: Trailer, place: usize) -> Current
+    ensures { result ≡ current_of bytes.now t (next_place t place) }
+{
+    current_event(next(hold(bytes, t, place)))
 }

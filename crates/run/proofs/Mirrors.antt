@@ -8,28 +8,28 @@ use lib.Dec.{leb, ltb, eqb}
 use Rattle.base.specs.Lists.{Every}
 use Rattle.base.proofs.Bools.{by, no}
 use Rattle.base.proofs.Numbers.{mirror-twice}
-use Rattle.board.specs.rules.Board.{responseAt, firstFree, findGtx}
+use Rattle.board.specs.rules.Board.{response_at, first_free, find_gtx}
 use Rattle.board.specs.declared.Board.{Board}
 use Rattle.board.specs.declared.Response.{Response}
-use Rattle.share.specs.rules.Fills.{Fill, fill, fillOf}
+use Rattle.share.specs.rules.Fills.{Fill, fill, fill_of}
 use Rattle.tape.specs.declared.order.Order.{Order}
 use Rattle.tape.specs.declared.event.Event.{Event}
-use Rattle.tape.specs.rules.Form.{orderFormed, eventFormed}
+use Rattle.tape.specs.rules.Form.{order_formed, event_formed}
 use Rattle.trade.specs.declared.Deal.{Deal}
-use Rattle.trade.specs.rules.Trade.{Level, offers, fills, top, entry, next, offersAt, levelAt, walk, marketPrice, levels, flat, traded, levelFills, contra}
+use Rattle.trade.specs.rules.Trade.{Level, offers, fills, top, entry, next, offers_at, level_at, walk, market_price, levels, flat, traded, level_fills, contra}
 use Rattle.trade.specs.rules.Plan.{mode1, mode2, mode3}
-use Rattle.trade.specs.rules.Write.{reported, fillsOf}
+use Rattle.trade.specs.rules.Write.{reported, fills_of}
 use Rattle.demand.specs.promises.Demands.{InRange}
-use Rattle.demand.proofs.Theorems.{in-range-of, fit}
+use Rattle.demand.proofs.Theorems.{demand3}
 use Rattle.base.specs.Price.{mirrored}
-use Rattle.mirror.specs.rules.Mirror.{mirroredOrder, mirroredEvent, buyOrder, buyEvent}
-use Rattle.auction.specs.rules.Accept.{orderRefusal, termsOf, openedBy, noAuction, acceptOf}
-use Rattle.auction.specs.rules.Range.{isOpen, boundNow, range_of}
-use Rattle.events.specs.rules.Step.{foundFor, sight_of, eventRefusal, stays, endedByTime, headAfter, boardAfter, carried, turn_of, closeTurn, seatedOn, stepBy, step_of, closeOf}
-use Rattle.decision.specs.rules.Decide.{isCancel, isAmend, gtxOutcome, cancelOutcome, amendOutcome, sellLimitOutcome, buyLimitOutcome, limitOutcome, marketOutcome, quotesOutcome, outcomeOf}
-use Rattle.fills.specs.rules.Fills.{dealOf, auctionFills}
+use Rattle.mirror.specs.rules.Mirror.{mirrored_order, mirrored_event, buy_order, buy_event}
+use Rattle.auction.specs.rules.Accept.{order_refusal, terms_of, opened_by, no_auction, accept_of}
+use Rattle.auction.specs.rules.Range.{is_open, bound_now, range_of}
+use Rattle.events.specs.rules.Step.{found_for, sight_of, event_refusal, stays, ended_by_time, head_after, board_after, carried, turn_of, close_turn, seated_on, step_by, step_of, close_of}
+use Rattle.decision.specs.rules.Decide.{is_cancel, is_amend, gtx_outcome, cancel_outcome, amend_outcome, sell_limit_outcome, buy_limit_outcome, limit_outcome, market_outcome, quotes_outcome, outcome_of}
+use Rattle.fills.specs.rules.Fills.{deal_of, auction_fills}
 use Rattle.run.specs.rules.Run.{run, Said, said, heard, closed, played}
-use Rattle.run.specs.promises.Demands.{flippedTerms, flippedHead, flipped, mirroredRecord, mirroredRecords, mirroredFills, mirroredRange, Sound, Mirrors}
+use Rattle.run.specs.promises.Demands.{flipped_terms, flipped_head, flipped, mirrored_record, mirrored_records, mirrored_fills, mirrored_range, Sound, Mirrors}
 use Rattle.auction.specs.declared.Auction.{Auction}
 use Rattle.auction.specs.declared.Head.{Head}
 use Rattle.auction.specs.declared.Terms.{Terms}
@@ -53,46 +53,46 @@ use Rattle.mirror.proofs.MirrorForm.{order-form, buy-mirrored, other-side, event
 
 -- ---- orders
 
-refusal-same : (o : Order) → orderFormed o ≡ true → orderRefusal (mirroredOrder o) ≡ orderRefusal o
-unfolding orderRefusal
+refusal-same : (o : Order) → order_formed o ≡ true → order_refusal (mirrored_order o) ≡ order_refusal o
+unfolding order_refusal
 refusal-same o f = simp (f, order-form o f, buy-mirrored o f)
 
-answer-is : (o : Order) → (acceptOf o).answer ≡ cond (eqb (orderRefusal o) 0) Accepted (Refused (orderRefusal o))
-unfolding acceptOf
-answer-is o = go (eqb (orderRefusal o) 0) (record { answer = Accepted; auction = openedBy (eqb o.side 2) (buyOrder o) }) (record { answer = Refused (orderRefusal o); auction = noAuction })
+answer-is : (o : Order) → (accept_of o).answer ≡ cond (eqb (order_refusal o) 0) Accepted (Refused (order_refusal o))
+unfolding accept_of
+answer-is o = go (eqb (order_refusal o) 0) (record { answer = Accepted; auction = opened_by (eqb o.side 2) (buy_order o) }) (record { answer = Refused (order_refusal o); auction = no_auction })
   where
     go : (t : Bool) (x y : Opening) → (cond t x y).answer ≡ cond t x.answer y.answer
     go true x y = refl
     go false x y = refl
 
-order-answers : (o : Order) → orderFormed o ≡ true → (acceptOf (mirroredOrder o)).answer ≡ (acceptOf o).answer
-order-answers o f = answer-is (mirroredOrder o) ∙ ap (λ (n : ℕ). cond (eqb n 0) Accepted (Refused n)) (refusal-same o f) ∙ sym (answer-is o)
+order-answers : (o : Order) → order_formed o ≡ true → (accept_of (mirrored_order o)).answer ≡ (accept_of o).answer
+order-answers o f = answer-is (mirrored_order o) ∙ ap (λ (n : ℕ). cond (eqb n 0) Accepted (Refused n)) (refusal-same o f) ∙ sym (answer-is o)
 
-flipped-opened : (s : Bool) (b : Order) → openedBy (cond s false true) b ≡ flipped (openedBy s b)
-unfolding openedBy termsOf
+flipped-opened : (s : Bool) (b : Order) → opened_by (cond s false true) b ≡ flipped (opened_by s b)
+unfolding opened_by terms_of
 flipped-opened s b = refl
 
-opens : (o : Order) → (acceptOf o).answer ≡ Accepted → (acceptOf (mirroredOrder o)).auction ≡ flipped (acceptOf o).auction
+opens : (o : Order) → (accept_of o).answer ≡ Accepted → (accept_of (mirrored_order o)).auction ≡ flipped (accept_of o).auction
 opens o h =
     let k = opened o h in
-    let m = opened (mirroredOrder o) (order-answers o k.formed ∙ h) in
+    let m = opened (mirrored_order o) (order-answers o k.formed ∙ h) in
     m.auction
-    ∙ ap (λ (s : Bool). openedBy s (buyOrder (mirroredOrder o))) (other-side o k.formed)
-    ∙ ap (openedBy (cond (eqb o.side 2) false true)) (buy-mirrored o k.formed)
-    ∙ flipped-opened (eqb o.side 2) (buyOrder o)
+    ∙ ap (λ (s : Bool). opened_by s (buy_order (mirrored_order o))) (other-side o k.formed)
+    ∙ ap (opened_by (cond (eqb o.side 2) false true)) (buy-mirrored o k.formed)
+    ∙ flipped-opened (eqb o.side 2) (buy_order o)
     ∙ ap flipped (sym k.auction)
 
 -- ---- events
 
 -- the decision does not look at the side that the terms are for
-sides-same : (t : Terms) (q : Quotes) (v : Sight) (m : Event) → outcomeOf (flippedTerms t) q v m ≡ outcomeOf t q v m
-unfolding outcomeOf gtxOutcome cancelOutcome amendOutcome sellLimitOutcome buyLimitOutcome limitOutcome marketOutcome quotesOutcome
+sides-same : (t : Terms) (q : Quotes) (v : Sight) (m : Event) → outcome_of (flipped_terms t) q v m ≡ outcome_of t q v m
+unfolding outcome_of gtx_outcome cancel_outcome amend_outcome sell_limit_outcome buy_limit_outcome limit_outcome market_outcome quotes_outcome
 sides-same t q v m = refl
 
 -- the same turn, for the other side
 record Alike (x y : Turn) : Type 0 where
   answer : x.answer ≡ y.answer
-  head : x.head ≡ flippedHead y.head
+  head : x.head ≡ flipped_head y.head
   change : x.change ≡ y.change
 
 alike-by : (b c : Bool) (x y u v : Turn) → b ≡ c → Alike x u → Alike y v → Alike (cond b x y) (cond c u v)
@@ -101,127 +101,127 @@ alike-by false false x y u v h p q = q
 alike-by true false x y u v h p q = no h
 alike-by false true x y u v h p q = no (sym h)
 
-stays_same : (r : Answer) (h : Head) → Alike (stays r (flippedHead h)) (stays r h)
+stays_same : (r : Answer) (h : Head) → Alike (stays r (flipped_head h)) (stays r h)
 stays_same r h = record { answer = refl; head = refl; change = refl }
 
-late-same : (h : Head) → Alike (stays Late (endedByTime (flippedHead h))) (stays Late (endedByTime h))
-unfolding endedByTime
+late-same : (h : Head) → Alike (stays Late (ended_by_time (flipped_head h))) (stays Late (ended_by_time h))
+unfolding ended_by_time
 late-same h = record { answer = refl; head = refl; change = refl }
 
 -- what is seen of the mirrored event is what is seen of the event
-sight-same : (b : Board) (e : Event) → sight_of b (mirroredEvent e) ≡ sight_of b e
+sight-same : (b : Board) (e : Event) → sight_of b (mirrored_event e) ≡ sight_of b e
 unfolding sight_of
-sight-same b e = ap (λ (i : ℕ). record { at = firstFree b; found = i; old = responseAt b.places i }) found
+sight-same b e = ap (λ (i : ℕ). record { at = first_free b; found = i; old = response_at b.places i }) found
   where
-    go : (t : Bool) → (isCancel e || isAmend e) ≡ t → cond t (findGtx b (name_of (mirroredEvent e))) 64 ≡ cond t (findGtx b (name_of e)) 64
-    go true z = ap (findGtx b) (mirror-name e (names-is e z))
+    go : (t : Bool) → (is_cancel e || is_amend e) ≡ t → cond t (find_gtx b (name_of (mirrored_event e))) 64 ≡ cond t (find_gtx b (name_of e)) 64
+    go true z = ap (find_gtx b) (mirror-name e (names-is e z))
     go false z = refl
 
-    found : foundFor b (mirroredEvent e) ≡ foundFor b e
-    found = ap (λ (k : ℕ). cond (eqb k 2 || eqb k 6) (findGtx b (name_of (mirroredEvent e))) 64) (mirror-kind e) ∙ go (isCancel e || isAmend e) refl
+    found : found_for b (mirrored_event e) ≡ found_for b e
+    found = ap (λ (k : ℕ). cond (eqb k 2 || eqb k 6) (find_gtx b (name_of (mirrored_event e))) 64) (mirror-kind e) ∙ go (is_cancel e || is_amend e) refl
 
 module _ (h : Head) (v : Sight) (e : Event) where
   abbrev s : Bool
   s = h.terms.sell
 
-  module _ (f : eventFormed e ≡ true) where
+  module _ (f : event_formed e ≡ true) where
     -- what the other side's auction hears of the mirrored event is what this one hears of the event
-    same-event : buyEvent (cond s false true) (mirroredEvent e) ≡ buyEvent s e
-    unfolding buyEvent
+    same-event : buy_event (cond s false true) (mirrored_event e) ≡ buy_event s e
+    unfolding buy_event
     same-event = go s
       where
-        go : (t : Bool) → cond (cond t false true) (mirroredEvent (mirroredEvent e)) (mirroredEvent e) ≡ cond t (mirroredEvent e) e
+        go : (t : Bool) → cond (cond t false true) (mirrored_event (mirrored_event e)) (mirrored_event e) ≡ cond t (mirrored_event e) e
         go true = refl
         go false = event-twice e f
 
     decided : Outcome
-    decided = outcomeOf h.terms h.quotes v (buyEvent s e)
+    decided = outcome_of h.terms h.quotes v (buy_event s e)
 
-    outcome-same : outcomeOf (flippedTerms h.terms) h.quotes v (buyEvent (cond s false true) (mirroredEvent e)) ≡ decided
+    outcome-same : outcome_of (flipped_terms h.terms) h.quotes v (buy_event (cond s false true) (mirrored_event e)) ≡ decided
     unfolding decided
-    outcome-same = sides-same h.terms h.quotes v (buyEvent (cond s false true) (mirroredEvent e)) ∙ ap (outcomeOf h.terms h.quotes v) same-event
+    outcome-same = sides-same h.terms h.quotes v (buy_event (cond s false true) (mirrored_event e)) ∙ ap (outcome_of h.terms h.quotes v) same-event
 
-    carried_same : (u : Outcome) → Alike (carried (flippedHead h) (mirroredEvent e) u) (carried h e u)
-    unfolding headAfter
+    carried_same : (u : Outcome) → Alike (carried (flipped_head h) (mirrored_event e) u) (carried h e u)
+    unfolding head_after
     carried_same (Refuses n) = record { answer = refl; head = refl; change = refl }
     carried_same (Does c g) = record { answer = refl; head = simp (mirror-sequence e, mirror-time e); change = refl }
 
-    number_same : eventRefusal (flippedHead h) (mirroredEvent e) ≡ eventRefusal h e
-    unfolding eventRefusal
+    number_same : event_refusal (flipped_head h) (mirrored_event e) ≡ event_refusal h e
+    unfolding event_refusal
     number_same = simp (f, event-form e f, mirror-sequence e, mirror-time e)
 
-    turn-formed : Alike (turn_of (flippedHead h) v (mirroredEvent e)) (turn_of h v e)
+    turn-formed : Alike (turn_of (flipped_head h) v (mirrored_event e)) (turn_of h v e)
     unfolding turn_of decided
     turn-formed =
         alike-by _ _ _ _ _ _ (ap (λ (n : ℕ). eqb n 0) number_same)
         (alike-by _ _ _ _ _ _ (ap (leb h.terms.interval) (mirror-time e)) (late-same h)
-        (subst (λ (u : Outcome). Alike (carried (flippedHead h) (mirroredEvent e) u) (carried h e decided)) (sym outcome-same) (carried_same decided)))
-        (subst (λ (n : ℕ). Alike (stays (No n) (flippedHead h)) (stays (No (eventRefusal h e)) h)) (sym number_same) (stays_same (No (eventRefusal h e)) h))
+        (subst (λ (u : Outcome). Alike (carried (flipped_head h) (mirrored_event e) u) (carried h e decided)) (sym outcome-same) (carried_same decided)))
+        (subst (λ (n : ℕ). Alike (stays (No n) (flipped_head h)) (stays (No (event_refusal h e)) h)) (sym number_same) (stays_same (No (event_refusal h e)) h))
 
   -- a record out of form is refused, whatever the side
-  turn-unformed : eventFormed e ≡ false → Alike (turn_of (flippedHead h) v e) (turn_of h v e)
-  unfolding turn_of eventRefusal
-  turn-unformed f = rw f (go (isOpen h.ending))
+  turn-unformed : event_formed e ≡ false → Alike (turn_of (flipped_head h) v e) (turn_of h v e)
+  unfolding turn_of event_refusal
+  turn-unformed f = rw f (go (is_open h.ending))
     where
-      go : (b : Bool) → Alike (cond (eqb (cond (not b) 31 32) 0) (cond (leb h.terms.interval e.time) (stays Late (endedByTime (flippedHead h))) (carried (flippedHead h) e (outcomeOf (flippedTerms h.terms) h.quotes v (buyEvent (cond s false true) e)))) (stays (No (cond (not b) 31 32)) (flippedHead h)))
-          (cond (eqb (cond (not b) 31 32) 0) (cond (leb h.terms.interval e.time) (stays Late (endedByTime h)) (carried h e (outcomeOf h.terms h.quotes v (buyEvent s e)))) (stays (No (cond (not b) 31 32)) h))
+      go : (b : Bool) → Alike (cond (eqb (cond (not b) 31 32) 0) (cond (leb h.terms.interval e.time) (stays Late (ended_by_time (flipped_head h))) (carried (flipped_head h) e (outcome_of (flipped_terms h.terms) h.quotes v (buy_event (cond s false true) e)))) (stays (No (cond (not b) 31 32)) (flipped_head h)))
+          (cond (eqb (cond (not b) 31 32) 0) (cond (leb h.terms.interval e.time) (stays Late (ended_by_time h)) (carried h e (outcome_of h.terms h.quotes v (buy_event s e)))) (stays (No (cond (not b) 31 32)) h))
       go true = stays_same (No 32) h
       go false = stays_same (No 31) h
 
-  turns : Alike (turn_of (flippedHead h) v (mirroredRecord e)) (turn_of h v e)
-  turns = go (eventFormed e) refl
+  turns : Alike (turn_of (flipped_head h) v (mirrored_record e)) (turn_of h v e)
+  turns = go (event_formed e) refl
     where
-      go : (b : Bool) → eventFormed e ≡ b → Alike (turn_of (flippedHead h) v (cond b (mirroredEvent e) e)) (turn_of h v e)
+      go : (b : Bool) → event_formed e ≡ b → Alike (turn_of (flipped_head h) v (cond b (mirrored_event e) e)) (turn_of h v e)
       go true f = turn-formed f
       go false f = turn-unformed f
 
 -- alike turns, seated
-seated-alike : (b : Board) (x y : Turn) → Alike x y → ((seatedOn b x).answer ≡ (seatedOn b y).answer) × ((seatedOn b x).auction ≡ flipped (seatedOn b y).auction)
-seated-alike b x y k = (k.answer, ap (λ (h : Head). record { head = h; board = boardAfter b x.change }) k.head ∙ ap (λ (c : Change). record { head = flippedHead y.head; board = boardAfter b c }) k.change)
+seated-alike : (b : Board) (x y : Turn) → Alike x y → ((seated_on b x).answer ≡ (seated_on b y).answer) × ((seated_on b x).auction ≡ flipped (seated_on b y).auction)
+seated-alike b x y k = (k.answer, ap (λ (h : Head). record { head = h; board = board_after b x.change }) k.head ∙ ap (λ (c : Change). record { head = flipped_head y.head; board = board_after b c }) k.change)
 
 -- what is seen of a record in the mirror is what is seen of it
-record-sight : (b : Board) (e : Event) → sight_of b (mirroredRecord e) ≡ sight_of b e
-record-sight b e = by (λ (x : Event). sight_of b x ≡ sight_of b e) (eventFormed e) _ _ (λ _. sight-same b e) (λ _. refl)
+record-sight : (b : Board) (e : Event) → sight_of b (mirrored_record e) ≡ sight_of b e
+record-sight b e = by (λ (x : Event). sight_of b x ≡ sight_of b e) (event_formed e) _ _ (λ _. sight-same b e) (λ _. refl)
 
-steps-by : (s : Sight) (a : Auction) (e : Event) → ((stepBy s (flipped a) (mirroredRecord e)).answer ≡ (stepBy s a e).answer) × ((stepBy s (flipped a) (mirroredRecord e)).auction ≡ flipped (stepBy s a e).auction)
-steps-by s a e = seated-alike a.board (turn_of (flippedHead a.head) s (mirroredRecord e)) (turn_of a.head s e) (turns a.head s e)
+steps-by : (s : Sight) (a : Auction) (e : Event) → ((step_by s (flipped a) (mirrored_record e)).answer ≡ (step_by s a e).answer) × ((step_by s (flipped a) (mirrored_record e)).auction ≡ flipped (step_by s a e).auction)
+steps-by s a e = seated-alike a.board (turn_of (flipped_head a.head) s (mirrored_record e)) (turn_of a.head s e) (turns a.head s e)
 
 -- under the auction's own sight
-pub steps : (a : Auction) (e : Event) → ((step_of (flipped a) (mirroredRecord e)).answer ≡ (step_of a e).answer) × ((step_of (flipped a) (mirroredRecord e)).auction ≡ flipped (step_of a e).auction)
+pub steps : (a : Auction) (e : Event) → ((step_of (flipped a) (mirrored_record e)).answer ≡ (step_of a e).answer) × ((step_of (flipped a) (mirrored_record e)).auction ≡ flipped (step_of a e).auction)
 steps a e =
-    subst (λ (v : Sight). ((stepBy v (flipped a) (mirroredRecord e)).answer ≡ (step_of a e).answer) × ((stepBy v (flipped a) (mirroredRecord e)).auction ≡ flipped (step_of a e).auction))
+    subst (λ (v : Sight). ((step_by v (flipped a) (mirrored_record e)).answer ≡ (step_of a e).answer) × ((step_by v (flipped a) (mirrored_record e)).auction ≡ flipped (step_of a e).auction))
     (sym (record-sight a.board e)) (steps-by (sight_of a.board e) a e)
 
-closes : (a : Auction) → ((closeOf (flipped a)).answer ≡ (closeOf a).answer) × ((closeOf (flipped a)).auction ≡ flipped (closeOf a).auction)
-unfolding closeTurn
+closes : (a : Auction) → ((close_of (flipped a)).answer ≡ (close_of a).answer) × ((close_of (flipped a)).auction ≡ flipped (close_of a).auction)
+unfolding close_turn
 closes a =
-    seated-alike a.board (closeTurn (flippedHead a.head)) (closeTurn a.head)
-    (alike-by (isOpen a.head.ending) (isOpen a.head.ending) _ _ _ _ refl (late-same a.head) (stays_same (No 31) a.head))
+    seated-alike a.board (close_turn (flipped_head a.head)) (close_turn a.head)
+    (alike-by (is_open a.head.ending) (is_open a.head.ending) _ _ _ _ refl (late-same a.head) (stays_same (No 31) a.head))
 
-run-same : (es : List Event) (a : Auction) → run (flipped a) (mirroredRecords es) ≡ flipped (run a es)
+run-same : (es : List Event) (a : Auction) → run (flipped a) (mirrored_records es) ≡ flipped (run a es)
 run-same [] a = refl
-run-same (e ∷ es) a = ap (λ (b : Auction). run b (mirroredRecords es)) (steps a e).1 ∙ run-same es (step_of a e).auction
+run-same (e ∷ es) a = ap (λ (b : Auction). run b (mirrored_records es)) (steps a e).1 ∙ run-same es (step_of a e).auction
 
 -- a mirrored record bears the sequence of the record
-pub same_name : (e : Event) → (mirroredRecord e).sequence ≡ e.sequence
-same_name e = by (λ (x : Event). x.sequence ≡ e.sequence) (eventFormed e) _ _ (λ _. mirror-sequence e) (λ _. refl)
+pub same_name : (e : Event) → (mirrored_record e).sequence ≡ e.sequence
+same_name e = by (λ (x : Event). x.sequence ≡ e.sequence) (event_formed e) _ _ (λ _. mirror-sequence e) (λ _. refl)
 
-heard-same : (es : List Event) (a : Auction) → heard (flipped a) (mirroredRecords es) ≡ heard a es
+heard-same : (es : List Event) (a : Auction) → heard (flipped a) (mirrored_records es) ≡ heard a es
 heard-same [] a = refl
 heard-same (e ∷ es) a =
-    let first : said (mirroredRecord e).sequence (step_of (flipped a) (mirroredRecord e)).answer ≡ said e.sequence (step_of a e).answer = simp (same_name e, (steps a e).0) in
-    ap (λ (b : Auction). said (mirroredRecord e).sequence (step_of (flipped a) (mirroredRecord e)).answer ∷ heard b (mirroredRecords es)) (steps a e).1
-    ∙ ap (λ (rs : List Said). said (mirroredRecord e).sequence (step_of (flipped a) (mirroredRecord e)).answer ∷ rs) (heard-same es (step_of a e).auction)
+    let first : said (mirrored_record e).sequence (step_of (flipped a) (mirrored_record e)).answer ≡ said e.sequence (step_of a e).answer = simp (same_name e, (steps a e).0) in
+    ap (λ (b : Auction). said (mirrored_record e).sequence (step_of (flipped a) (mirrored_record e)).answer ∷ heard b (mirrored_records es)) (steps a e).1
+    ∙ ap (λ (rs : List Said). said (mirrored_record e).sequence (step_of (flipped a) (mirrored_record e)).answer ∷ rs) (heard-same es (step_of a e).auction)
     ∙ ap (λ (r : Said). r ∷ heard (step_of a e).auction es) first
 
-plays : (o : Order) (es : List Event) → (acceptOf o).answer ≡ Accepted → played (mirroredOrder o) (mirroredRecords es) ≡ flipped (played o es)
+plays : (o : Order) (es : List Event) → (accept_of o).answer ≡ Accepted → played (mirrored_order o) (mirrored_records es) ≡ flipped (played o es)
 plays o es h =
-    ap (λ (b : Auction). closed (run b (mirroredRecords es))) (opens o h)
-    ∙ ap closed (run-same es (acceptOf o).auction)
-    ∙ (closes (run (acceptOf o).auction es)).1
+    ap (λ (b : Auction). closed (run b (mirrored_records es))) (opens o h)
+    ∙ ap closed (run-same es (accept_of o).auction)
+    ∙ (closes (run (accept_of o).auction es)).1
 
-hears : (o : Order) (es : List Event) → (acceptOf o).answer ≡ Accepted → heard (acceptOf (mirroredOrder o)).auction (mirroredRecords es) ≡ heard (acceptOf o).auction es
-hears o es h = ap (λ (b : Auction). heard b (mirroredRecords es)) (opens o h) ∙ heard-same es (acceptOf o).auction
+hears : (o : Order) (es : List Event) → (accept_of o).answer ≡ Accepted → heard (accept_of (mirrored_order o)).auction (mirrored_records es) ≡ heard (accept_of o).auction es
+hears o es h = ap (λ (b : Auction). heard b (mirrored_records es)) (opens o h) ∙ heard-same es (accept_of o).auction
 
 -- ---- fills: who trades does not look at the side
 
@@ -236,61 +236,61 @@ module _ (d : Deal) (t : Bool) where
   next-same from (r ∷ rs) = ap (min (cond (leb from (max r.price d.bound)) (max r.price d.bound) (top d))) (next-same from rs)
 
   module _ (rs : List Response) where
-    level-same : (p left held : ℕ) → levelAt on rs p left held ≡ levelAt d rs p left held
-    unfolding levelAt offersAt mode3 mode2 mode1 entry top
+    level-same : (p left held : ℕ) → level_at on rs p left held ≡ level_at d rs p left held
+    unfolding level_at offers_at mode3 mode2 mode1 entry top
     level-same p left held = refl
 
     walk_same : (n from left held : ℕ) → walk on rs n from left held ≡ walk d rs n from left held
     unfolding walk top
     walk_same zero from left held = refl
-    walk_same (suc n) from left held = go (eqb left 0 || ltb (top d) from) (levelAt on rs (next on from rs) left held) (levelAt d rs (next d from rs) left held) same (λ f l h. walk_same n f l h)
+    walk_same (suc n) from left held = go (eqb left 0 || ltb (top d) from) (level_at on rs (next on from rs) left held) (level_at d rs (next d from rs) left held) same (λ f l h. walk_same n f l h)
       where
-        same : levelAt on rs (next on from rs) left held ≡ levelAt d rs (next d from rs) left held
-        same = level-same (next on from rs) left held ∙ ap (λ (p : ℕ). levelAt d rs p left held) (next-same from rs)
+        same : level_at on rs (next on from rs) left held ≡ level_at d rs (next d from rs) left held
+        same = level-same (next on from rs) left held ∙ ap (λ (p : ℕ). level_at d rs p left held) (next-same from rs)
 
         go : (b : Bool) (x y : Level) → x ≡ y → ((f l h : ℕ) → walk on rs n f l h ≡ walk d rs n f l h)
             → ◌≡◌ {A = List Level}
-            (elim b [ true ↦ [] | false ↦ x ∷ walk on rs n (x.price + 1) (left - traded (levelFills x)) (held + contra x) ])
-            (elim b [ true ↦ [] | false ↦ y ∷ walk d rs n (y.price + 1) (left - traded (levelFills y)) (held + contra y) ])
+            (elim b [ true ↦ [] | false ↦ x ∷ walk on rs n (x.price + 1) (left - traded (level_fills x)) (held + contra x) ])
+            (elim b [ true ↦ [] | false ↦ y ∷ walk d rs n (y.price + 1) (left - traded (level_fills y)) (held + contra y) ])
         go true x y h ih = refl
         go false x y h ih =
-            ap (λ (ls : List Level). x ∷ ls) (ih (x.price + 1) (left - traded (levelFills x)) (held + contra x))
-            ∙ ap (λ (l : Level). l ∷ walk d rs n (l.price + 1) (left - traded (levelFills l)) (held + contra l)) h
+            ap (λ (ls : List Level). x ∷ ls) (ih (x.price + 1) (left - traded (level_fills x)) (held + contra x))
+            ∙ ap (λ (l : Level). l ∷ walk d rs n (l.price + 1) (left - traded (level_fills l)) (held + contra l)) h
 
-    market-same : marketPrice on rs ≡ marketPrice d rs
-    unfolding marketPrice
+    market-same : market_price on rs ≡ market_price d rs
+    unfolding market_price
     market-same = rw (next-same 0 rs) refl
 
     fills_same : fills on rs ≡ fills d rs
     unfolding fills levels top
     fills_same =
-        ap (λ (p : ℕ). fillOf d.market p (min d.size d.selling) ++ flat (walk on rs (suc (top d)) 0 (d.size - min d.size d.selling) 0)) market-same
-        ∙ ap (λ (ls : List Level). fillOf d.market (marketPrice d rs) (min d.size d.selling) ++ flat ls) (walk_same (suc (top d)) 0 (d.size - min d.size d.selling) 0)
+        ap (λ (p : ℕ). fill_of d.market p (min d.size d.selling) ++ flat (walk on rs (suc (top d)) 0 (d.size - min d.size d.selling) 0)) market-same
+        ∙ ap (λ (ls : List Level). fill_of d.market (market_price d rs) (min d.size d.selling) ++ flat ls) (walk_same (suc (top d)) 0 (d.size - min d.size d.selling) 0)
 
 -- prices mirrored twice are themselves
-reported-back : (d : Deal) (fs : List Fill) → d.initiating ≤ 1000000 → Every (InRange d) fs → reported false fs ≡ mirroredFills (reported true fs)
+reported-back : (d : Deal) (fs : List Fill) → d.initiating ≤ 1000000 → Every (InRange d) fs → reported false fs ≡ mirrored_fills (reported true fs)
 reported-back d [] h k = refl
 reported-back d (f ∷ fs) h k =
     ap (λ (p : ℕ). fill f.party p f.quantity ∷ reported false fs) (sym (mirror-twice f.price (omega (arith, k.0.high))))
     ∙ ap (λ (gs : List Fill). fill f.party (mirrored (mirrored f.price)) f.quantity ∷ gs) (reported-back d fs h k.1)
 
-reported-on : (fs : List Fill) → reported true fs ≡ mirroredFills (reported false fs)
+reported-on : (fs : List Fill) → reported true fs ≡ mirrored_fills (reported false fs)
 reported-on [] = refl
 reported-on (f ∷ fs) = ap (λ (gs : List Fill). fill f.party (mirrored f.price) f.quantity ∷ gs) (reported-on fs)
 
-trades : (a : Auction) → (a.head.terms.sell ≡ true → Sound a) → auctionFills (flipped a) ≡ mirroredFills (auctionFills a)
-unfolding fillsOf dealOf boundNow
-trades a k = ap (reported (cond a.head.terms.sell false true)) (fills_same (dealOf a.head) (cond a.head.terms.sell false true) rs) ∙ go a.head.terms.sell k
+trades : (a : Auction) → (a.head.terms.sell ≡ true → Sound a) → auction_fills (flipped a) ≡ mirrored_fills (auction_fills a)
+unfolding fills_of deal_of bound_now
+trades a k = ap (reported (cond a.head.terms.sell false true)) (fills_same (deal_of a.head) (cond a.head.terms.sell false true) rs) ∙ go a.head.terms.sell k
   where
     rs : List Response
     rs = offers a.board
 
-    go : (t : Bool) → (t ≡ true → Sound a) → reported (cond t false true) (fills (dealOf a.head) rs) ≡ mirroredFills (reported t (fills (dealOf a.head) rs))
-    go false k = reported-on (fills (dealOf a.head) rs)
-    go true k = reported-back (dealOf a.head) (fills (dealOf a.head) rs) (omega (arith, (k refl).price)) (in-range-of (dealOf a.head) (offers a.board) (fit (dealOf a.head) a.board (sound-deal a (k refl))))
+    go : (t : Bool) → (t ≡ true → Sound a) → reported (cond t false true) (fills (deal_of a.head) rs) ≡ mirrored_fills (reported t (fills (deal_of a.head) rs))
+    go false k = reported-on (fills (deal_of a.head) rs)
+    go true k = reported-back (deal_of a.head) (fills (deal_of a.head) rs) (omega (arith, (k refl).price)) (demand3 (deal_of a.head) a.board (sound-deal a (k refl))).in-range
 
-ranges : (a : Auction) → (a.head.terms.sell ≡ true → Sound a) → range_of (flipped a).head ≡ mirroredRange (range_of a.head)
-unfolding range_of boundNow
+ranges : (a : Auction) → (a.head.terms.sell ≡ true → Sound a) → range_of (flipped a).head ≡ mirrored_range (range_of a.head)
+unfolding range_of bound_now
 ranges a k = go a.head.terms.sell k
   where
     span : ℕ → ℕ → Range
@@ -300,9 +300,9 @@ ranges a k = go a.head.terms.sell k
     high = a.head.terms.initiating
 
     low : ℕ
-    low = boundNow a.head
+    low = bound_now a.head
 
-    go : (t : Bool) → (t ≡ true → Sound a) → cond (cond t false true) (span (mirrored high) (mirrored low)) (span low high) ≡ mirroredRange (cond t (span (mirrored high) (mirrored low)) (span low high))
+    go : (t : Bool) → (t ≡ true → Sound a) → cond (cond t false true) (span (mirrored high) (mirrored low)) (span low high) ≡ mirrored_range (cond t (span (mirrored high) (mirrored low)) (span low high))
     go false k = refl
     go true k = sym (ap (λ (n : ℕ). span n (mirrored (mirrored high))) (mirror-twice low (omega (arith, (k refl).bound-below, (k refl).price))) ∙ ap (span low) (mirror-twice high (omega (arith, (k refl).price))))
 

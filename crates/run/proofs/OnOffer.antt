@@ -8,21 +8,21 @@ use lib.Dec.{leb, eqb}
 use borrow.Author.Tests.{eq-eqb, ne_eqb, le-leb}
 use Rattle.base.proofs.Bools.{by, no}
 use Rattle.tape.specs.declared.event.Event.{Event}
-use Rattle.tape.specs.rules.Fields.{size_of, priceOf, newSizeOf}
-use Rattle.mirror.specs.rules.Mirror.{buyEvent}
+use Rattle.tape.specs.rules.Fields.{size_of, price_of, new_size_of}
+use Rattle.mirror.specs.rules.Mirror.{buy_event}
 use Rattle.mirror.proofs.EventLaws.{buy-kind, mirror-one, mirror-three, priced-size, amend-size}
 use Rattle.auction.specs.declared.Auction.{Auction}
-use Rattle.auction.specs.rules.Accept.{acceptOf}
-use Rattle.auction.specs.rules.Range.{isOpen, word}
-use Rattle.auction.specs.rules.Offer.{onOffer, movedOffer}
+use Rattle.auction.specs.rules.Accept.{accept_of}
+use Rattle.auction.specs.rules.Range.{is_open, word}
+use Rattle.auction.specs.rules.Offer.{on_offer, moved_offer}
 use Rattle.decision.specs.declared.Sight.{Sight}
 use Rattle.decision.specs.declared.Change.{Change}
 use Rattle.decision.specs.declared.Change.TheVariants.{Nothing, Seat, Free, Quote, Sell}
 use Rattle.events.specs.declared.Answer.TheVariants.{Taken, Ended}
 use Rattle.events.specs.declared.Turn.{Turn}
-use Rattle.events.specs.rules.Step.{carried, offeredAfter, headAfter, endedByTime, closeTurn, stepBy, closeOf}
+use Rattle.events.specs.rules.Step.{carried, offered_after, head_after, ended_by_time, close_turn, step_by, close_of}
 use Rattle.run.specs.rules.Run.{run, is_taken}
-use Rattle.run.specs.promises.Demands.{InTime, Fits, Sound, brings, takesAway, OnOffer}
+use Rattle.run.specs.promises.Demands.{InTime, Fits, Sound, brings, takes_away, OnOffer}
 use Rattle.run.proofs.StepLaws.{Leaves, Outcomes, cases}
 use Rattle.run.proofs.Resend.{any-change}
 use Rattle.run.proofs.MarketFrom.{ended-run}
@@ -35,24 +35,24 @@ was-taken : {X : Type 0} (b : Bool) → is_taken (cond b Taken Ended) ≡ false 
 was-taken true z = no z
 was-taken false z = no z
 
-leaves : (s : Sight) (a : Auction) (e : Event) → is_taken (stepBy s a e).answer ≡ false → onOffer (stepBy s a e).auction ≡ onOffer a
-unfolding endedByTime
+leaves : (s : Sight) (a : Auction) (e : Event) → is_taken (step_by s a e).answer ≡ false → on_offer (step_by s a e).auction ≡ on_offer a
+unfolding ended_by_time
 leaves s a e =
-    cases a.head e s (λ t. is_taken t.answer ≡ false → t.head.offered ≡ onOffer a)
+    cases a.head e s (λ t. is_taken t.answer ≡ false → t.head.offered ≡ on_offer a)
     (record {
       refused = λ _ _ _. refl;
       late = λ _ _. refl;
-      does = λ _. any-change a.head.terms a.head.quotes s (buyEvent a.head.terms.sell e) (λ o. is_taken (carried a.head e o).answer ≡ false → (carried a.head e o).head.offered ≡ onOffer a) (λ _ _ _. refl) (λ _ g z. was-taken (isOpen g) z);
+      does = λ _. any-change a.head.terms a.head.quotes s (buy_event a.head.terms.sell e) (λ o. is_taken (carried a.head e o).answer ≡ false → (carried a.head e o).head.offered ≡ on_offer a) (λ _ _ _. refl) (λ _ g z. was-taken (is_open g) z);
     })
 
-closing : (a : Auction) → onOffer (closeOf a).auction ≡ onOffer a
-unfolding closeTurn endedByTime
-closing a = by (λ (t : Turn). t.head.offered ≡ onOffer a) (isOpen a.head.ending) _ _ (λ _. refl) (λ _. refl)
+closing : (a : Auction) → on_offer (close_of a).auction ≡ on_offer a
+unfolding close_turn ended_by_time
+closing a = by (λ (t : Turn). t.head.offered ≡ on_offer a) (is_open a.head.ending) _ _ (λ _. refl) (λ _. refl)
 
-market-or-quotes : (s : Sight) (a : Auction) (e : Event) → (e.kind ≡ 4) ⊎ (e.kind ≡ 5) → onOffer (stepBy s a e).auction ≡ onOffer a
-unfolding endedByTime headAfter
+market-or-quotes : (s : Sight) (a : Auction) (e : Event) → (e.kind ≡ 4) ⊎ (e.kind ≡ 5) → on_offer (step_by s a e).auction ≡ on_offer a
+unfolding ended_by_time head_after
 market-or-quotes s a e k =
-    cases a.head e s (λ t. t.head.offered ≡ onOffer a)
+    cases a.head e s (λ t. t.head.offered ≡ on_offer a)
     (record {
       refused = λ _ _. refl;
       late = λ _. refl;
@@ -68,7 +68,7 @@ market-or-quotes s a e k =
       };
     })
   where
-    other : {X : Type 0} {n : ℕ} → (e.kind ≡ 4) ⊎ (e.kind ≡ 5) → (buyEvent a.head.terms.sell e).kind ≡ n → (n ≡ 4 → ⊥) → (n ≡ 5 → ⊥) → X
+    other : {X : Type 0} {n : ℕ} → (e.kind ≡ 4) ⊎ (e.kind ≡ 5) → (buy_event a.head.terms.sell e).kind ≡ n → (n ≡ 4 → ⊥) → (n ≡ 5 → ⊥) → X
     other (inl q) z p r = absurd (p (sym z ∙ buy-kind e a.head.terms.sell ∙ q))
     other (inr q) z p r = absurd (r (sym z ∙ buy-kind e a.head.terms.sell ∙ q))
 
@@ -79,7 +79,7 @@ module _ (s : Sight) (a : Auction) (e : Event) where
   sell = a.head.terms.sell
 
   abbrev m : Event
-  m = buyEvent sell e
+  m = buy_event sell e
 
   -- what a kind brings and takes away
   module _ {n : ℕ} (k : m.kind ≡ n) where
@@ -93,41 +93,41 @@ module _ (s : Sight) (a : Auction) (e : Event) where
     not_is j z = ne_eqb _ _ (λ q. z (sym is-kind ∙ q))
 
   -- an event that leaves the board brings nothing, and takes nothing away
-  left : Leaves a.head.terms m → (takesAway s e ≡ 0) × (brings a.head.terms e ≡ 0)
+  left : Leaves a.head.terms m → (takes_away s e ≡ 0) × (brings a.head.terms e ≡ 0)
   left l =
       let one : eqb e.kind 1 ≡ false = ap (λ (k : ℕ). eqb k 1) (sym (buy-kind e sell)) ∙ l.no-gtx in
       let two : eqb e.kind 2 ≡ false = ap (λ (k : ℕ). eqb k 2) (sym (buy-kind e sell)) ∙ l.no-cancel in
       let six : eqb e.kind 6 ≡ false = ap (λ (k : ℕ). eqb k 6) (sym (buy-kind e sell)) ∙ l.no-amend in
       (simp (two, six), simp (one, placed (eqb e.kind 3) refl, six))
     where
-      placed : (b : Bool) → eqb e.kind 3 ≡ b → (b && (not (eqb m.side 1) && leb (priceOf m) a.head.terms.initiating)) ≡ false
+      placed : (b : Bool) → eqb e.kind 3 ≡ b → (b && (not (eqb m.side 1) && leb (price_of m) a.head.terms.initiating)) ≡ false
       placed true z = l.no_place (ap (λ (k : ℕ). eqb k 3) (buy-kind e sell) ∙ z)
       placed false z = refl
 
   -- of what a turn that is taken makes n: what any auction has, and what a sound one has
   record Moved (n : ℕ) : Type 0 where
-    any : onOffer a ≤ 4294967295 → n ≡ word (onOffer a - takesAway s e + brings a.head.terms e)
-    away-fits : Fits a.board s → Sound a → takesAway s e ≤ onOffer a
+    any : on_offer a ≤ 4294967295 → n ≡ word (on_offer a - takes_away s e + brings a.head.terms e)
+    away-fits : Fits a.board s → Sound a → takes_away s e ≤ on_offer a
     brings-size : brings a.head.terms e ≤ 100000
 
-  none : (n : ℕ) → n ≡ onOffer a → (takesAway s e ≡ 0) × (brings a.head.terms e ≡ 0) → Moved n
+  none : (n : ℕ) → n ≡ on_offer a → (takes_away s e ≡ 0) × (brings a.head.terms e ≡ 0) → Moved n
   none n z h = record { any = λ l. omega (arith, l, z, h.0, h.1); away-fits = λ _ _. omega (arith, h.0); brings-size = omega (arith, h.1) }
 
   -- a response is placed
-  placed : (size : ℕ) → takesAway s e ≡ 0 → brings a.head.terms e ≡ size → size ≤ 100000 → Moved (movedOffer (onOffer a) 0 size)
-  placed size away brought fits = record { any = λ _. ap₂ (λ (x y : ℕ). word (onOffer a - x + y)) (sym away) (sym brought); away-fits = λ _ _. omega (arith, away); brings-size = omega (arith, brought, fits) }
+  placed : (size : ℕ) → takes_away s e ≡ 0 → brings a.head.terms e ≡ size → size ≤ 100000 → Moved (moved_offer (on_offer a) 0 size)
+  placed size away brought fits = record { any = λ _. ap₂ (λ (x y : ℕ). word (on_offer a - x + y)) (sym away) (sym brought); away-fits = λ _ _. omega (arith, away); brings-size = omega (arith, brought, fits) }
 
   -- what was found is gone, and a size may come
-  gone : (size : ℕ) → s.found < 64 → takesAway s e ≡ s.old.size → brings a.head.terms e ≡ size → size ≤ 100000 → Moved (movedOffer (onOffer a) s.old.size size)
+  gone : (size : ℕ) → s.found < 64 → takes_away s e ≡ s.old.size → brings a.head.terms e ≡ size → size ≤ 100000 → Moved (moved_offer (on_offer a) s.old.size size)
   gone size f away brought fits =
       record {
-        any = λ _. ap₂ (λ (x y : ℕ). word (onOffer a - x + y)) (sym away) (sym brought);
+        any = λ _. ap₂ (λ (x y : ℕ). word (on_offer a - x + y)) (sym away) (sym brought);
         away-fits = λ g w. omega (arith, away, w.offered, old-size s a g w f);
         brings-size = omega (arith, brought, fits);
       }
 
   does : InTime a.head e → Outcomes a.head.terms a.head.quotes s m (λ o. is_taken (carried a.head e o).answer ≡ true → Moved (carried a.head e o).head.offered)
-  unfolding headAfter
+  unfolding head_after
   does o =
       record {
         refuses = λ _ _ z. no (sym z);
@@ -143,45 +143,45 @@ module _ (s : Sight) (a : Auction) (e : Event) where
         clear = λ k f _. gone 0 f (simp (is k)) (simp (not_is k 1 (omega arith), not_is k 3 (omega arith), not_is k 6 (omega arith))) (omega arith);
         amend = λ k f _ _.
             let k6 : e.kind ≡ 6 = is-kind k in
-            let same : newSizeOf m ≡ newSizeOf e = amend-size e sell k6 in
-            gone (min (newSizeOf m) a.head.terms.size) f (simp (not_is k 2 (omega arith), is k)) (simp (not_is k 1 (omega arith), not_is k 3 (omega arith), is k, same)) (omega (arith, same, (new-size-of e k6 o.ordinary.formed).1));
+            let same : new_size_of m ≡ new_size_of e = amend-size e sell k6 in
+            gone (min (new_size_of m) a.head.terms.size) f (simp (not_is k 2 (omega arith), is k)) (simp (not_is k 1 (omega arith), not_is k 3 (omega arith), is k, same)) (omega (arith, same, (new-size-of e k6 o.ordinary.formed).1));
         quote = λ _ _ l _. none _ refl (left l);
         sell = λ k _ _. none _ refl (simp (not_is k 2 (omega arith), not_is k 6 (omega arith)), simp (not_is k 1 (omega arith), not_is k 3 (omega arith), not_is k 6 (omega arith)));
       }
 
-  moved : is_taken (stepBy s a e).answer ≡ true → Moved (onOffer (stepBy s a e).auction)
+  moved : is_taken (step_by s a e).answer ≡ true → Moved (on_offer (step_by s a e).auction)
   moved = cases a.head e s (λ t. is_taken t.answer ≡ true → Moved t.head.offered) (record { refused = λ _ _ z. no (sym z); late = λ _ z. no (sym z); does = does })
 
-  moves : Fits a.board s → Sound a → is_taken (stepBy s a e).answer ≡ true → onOffer (stepBy s a e).auction + takesAway s e ≡ onOffer a + brings a.head.terms e
+  moves : Fits a.board s → Sound a → is_taken (step_by s a e).answer ≡ true → on_offer (step_by s a e).auction + takes_away s e ≡ on_offer a + brings a.head.terms e
   moves fits w z =
       let h = moved z in
-      let small : onOffer a ≤ 6400000 = omega (arith, w.offered, sum_fits a w) in
+      let small : on_offer a ≤ 6400000 = omega (arith, w.offered, sum_fits a w) in
       omega (arith, h.any (omega (arith, small)), h.away-fits fits w, h.brings-size, small)
 
 -- never above the largest word
-change-word : (n : ℕ) (c : Change) → n ≤ 4294967295 → offeredAfter n c ≤ 4294967295
+change-word : (n : ℕ) (c : Change) → n ≤ 4294967295 → offered_after n c ≤ 4294967295
 change-word n Nothing h = h
 change-word n (Seat i r gone) h = omega arith
 change-word n (Free i gone) h = omega arith
 change-word n (Quote q) h = h
 change-word n (Sell m) h = h
 
-word-stays : (s : Sight) (a : Auction) (e : Event) → onOffer a ≤ 4294967295 → onOffer (stepBy s a e).auction ≤ 4294967295
-unfolding endedByTime headAfter
+word-stays : (s : Sight) (a : Auction) (e : Event) → on_offer a ≤ 4294967295 → on_offer (step_by s a e).auction ≤ 4294967295
+unfolding ended_by_time head_after
 word-stays s a e h =
     cases a.head e s (λ t. t.head.offered ≤ 4294967295)
     (record {
       refused = λ _ _. h;
       late = λ _. h;
-      does = λ _. any-change a.head.terms a.head.quotes s (buyEvent a.head.terms.sell e) (λ o. (carried a.head e o).head.offered ≤ 4294967295) (λ _ _. h) (λ c _. change-word (onOffer a) c h);
+      does = λ _. any-change a.head.terms a.head.quotes s (buy_event a.head.terms.sell e) (λ o. (carried a.head e o).head.offered ≤ 4294967295) (λ _ _. h) (λ c _. change-word (on_offer a) c h);
     })
 
 pub on-offer : OnOffer
 on-offer =
     record {
-      sums = λ o es h. (sound-run es (acceptOf o).auction (sound-opened o h)).offered;
-      sums-end = λ o es h. (sound-close (run (acceptOf o).auction es) (sound-run es (acceptOf o).auction (sound-opened o h))).offered;
-      fits = λ o es h. let s = sound-run es (acceptOf o).auction (sound-opened o h) in omega (arith, s.offered, sum_fits (run (acceptOf o).auction es) s);
+      sums = λ o es h. (sound-run es (accept_of o).auction (sound-opened o h)).offered;
+      sums-end = λ o es h. (sound-close (run (accept_of o).auction es) (sound-run es (accept_of o).auction (sound-opened o h))).offered;
+      fits = λ o es h. let s = sound-run es (accept_of o).auction (sound-opened o h) in omega (arith, s.offered, sum_fits (run (accept_of o).auction es) s);
       kept = λ h b c. refl;
       moves = λ s a e f w z. moves s a e f w z;
       moves-any = λ s a e h z. (moved s a e z).any h;
@@ -189,5 +189,5 @@ on-offer =
       leaves = leaves;
       closing = closing;
       market-or-quotes = market-or-quotes;
-      stands = λ a es z. (ap onOffer (ended-run es a z), closing (run a es) ∙ ap onOffer (ended-run es a z));
+      stands = λ a es z. (ap on_offer (ended-run es a z), closing (run a es) ∙ ap on_offer (ended-run es a z));
     }

@@ -11,13 +11,13 @@ use borrow.Author.Tests.{le-leb, lt-leb, le-ltb, lt-ltb, eqb-false}
 use Rattle.base.specs.Lists.{In, Every, keep}
 use Rattle.tape.specs.declared.event.Event.{Event}
 use Rattle.tape.specs.declared.order.Order.{Order}
-use Rattle.tape.specs.rules.Form.{eventFormed}
+use Rattle.tape.specs.rules.Form.{event_formed}
 use Rattle.base.proofs.Bools.{by, no}
 use Rattle.base.proofs.ListLaws.{every_in, every_map}
-use Rattle.auction.specs.rules.Accept.{orderRefusal, acceptOf}
+use Rattle.auction.specs.rules.Accept.{order_refusal, accept_of}
 use Rattle.auction.proofs.Accepted.{order-most}
-use Rattle.auction.specs.rules.Range.{isOpen}
-use Rattle.events.specs.rules.Step.{sight_of, eventRefusal, headAfter, endedByTime, turn_of, closeTurn, gives, seatedOn, stepBy, step_of, closeOf}
+use Rattle.auction.specs.rules.Range.{is_open}
+use Rattle.events.specs.rules.Step.{sight_of, event_refusal, head_after, ended_by_time, turn_of, close_turn, gives, seated_on, step_by, step_of, close_of}
 use Rattle.run.specs.rules.Run.{run, is_taken, taken_of}
 use Rattle.run.specs.promises.Demands.{Ordinary, InTime, timed, Rising, RefusedAgain, Keeps}
 use Rattle.auction.specs.declared.Auction.{Auction}
@@ -65,42 +65,42 @@ taken-any false = refl
 
 module _ (s : Sight) (a : Auction) (e : Event) where
   -- P of the step, by cases of the turn
-  abbrev by_cases : (P : Stepped → Type 0) → Cases a.head e s (λ t. P (seatedOn a.board t)) → P (stepBy s a e)
-  by_cases P k = cases a.head e s (λ t. P (seatedOn a.board t)) k
+  abbrev by_cases : (P : Stepped → Type 0) → Cases a.head e s (λ t. P (seated_on a.board t)) → P (step_by s a e)
+  by_cases P k = cases a.head e s (λ t. P (seated_on a.board t)) k
 
-  refused-stays : (n : ℕ) → (stepBy s a e).answer ≡ Refused n → (stepBy s a e).auction ≡ a
+  refused-stays : (n : ℕ) → (step_by s a e).answer ≡ Refused n → (step_by s a e).auction ≡ a
   refused-stays n =
       by_cases (λ p. p.answer ≡ Refused n → p.auction ≡ a)
       (record {
         refused = λ k _ z. refl;
         late = λ o z. no cc;
-        does = λ o. any-change _ _ _ _ _ (λ k _ z. refl) (λ c g z. not-refused (isOpen g) n z);
+        does = λ o. any-change _ _ _ _ _ (λ k _ z. refl) (λ c g z. not-refused (is_open g) n z);
       })
 
-  late-ends : (stepBy s a e).answer ≡ Late → (stepBy s a e).auction ≡ timed a
+  late-ends : (step_by s a e).answer ≡ Late → (step_by s a e).auction ≡ timed a
   late-ends =
       by_cases (λ p. p.answer ≡ Late → p.auction ≡ timed a)
       (record {
         refused = λ k _ z. no cc;
         late = λ o z. refl;
-        does = λ o. any-change _ _ _ _ _ (λ k _ z. no cc) (λ c g z. not_late (isOpen g) z);
+        does = λ o. any-change _ _ _ _ _ (λ k _ z. no cc) (λ c g z. not_late (is_open g) z);
       })
 
-  module _ (opened : isOpen a.head.ending ≡ true) where
-    formless : eventFormed e ≡ false → stepBy s a e ≡ gives (Refused 32) a
-    unfolding turn_of eventRefusal
+  module _ (opened : is_open a.head.ending ≡ true) where
+    formless : event_formed e ≡ false → step_by s a e ≡ gives (Refused 32) a
+    unfolding turn_of event_refusal
     formless f = simp (opened, f)
 
-    before : eventFormed e ≡ true → a.head.sequence < e.sequence → e.time < a.head.clock → stepBy s a e ≡ gives (Refused 34) a
-    unfolding turn_of eventRefusal
+    before : event_formed e ≡ true → a.head.sequence < e.sequence → e.time < a.head.clock → step_by s a e ≡ gives (Refused 34) a
+    unfolding turn_of event_refusal
     before formed newer t = simp (opened, formed, lt-leb _ _ newer, lt-ltb _ _ t)
 
-  when-late : Ordinary a.head e → a.head.terms.interval ≤ e.time → stepBy s a e ≡ gives Late (timed a)
-  unfolding turn_of eventRefusal
+  when-late : Ordinary a.head e → a.head.terms.interval ≤ e.time → step_by s a e ≡ gives Late (timed a)
+  unfolding turn_of event_refusal
   when-late o l = simp (o.opened, o.formed, lt-leb _ _ o.newer, le-ltb _ _ o.later, le-leb _ _ l)
 
-  pub rises : a.head.sequence ≤ (stepBy s a e).auction.head.sequence
-  unfolding headAfter endedByTime
+  pub rises : a.head.sequence ≤ (step_by s a e).auction.head.sequence
+  unfolding head_after ended_by_time
   rises =
       by_cases (λ p. a.head.sequence ≤ p.auction.head.sequence)
       (record {
@@ -109,53 +109,53 @@ module _ (s : Sight) (a : Auction) (e : Event) where
         does = λ o. any-change _ _ _ _ _ (λ k _. le_refl _) (λ c g. le_of_lt o.ordinary.newer);
       })
 
-  ended-refuses : isOpen a.head.ending ≡ false → stepBy s a e ≡ gives (Refused 31) a
-  unfolding turn_of eventRefusal
+  ended-refuses : is_open a.head.ending ≡ false → step_by s a e ≡ gives (Refused 31) a
+  unfolding turn_of event_refusal
   ended-refuses z = simp z
 
   -- what is known of an event that was taken
-  pub taken_is : is_taken (stepBy s a e).answer ≡ true → (eventFormed e ≡ true) × (a.head.sequence < e.sequence) × ((stepBy s a e).auction.head.sequence ≡ e.sequence)
-  unfolding headAfter
+  pub taken_is : is_taken (step_by s a e).answer ≡ true → (event_formed e ≡ true) × (a.head.sequence < e.sequence) × ((step_by s a e).auction.head.sequence ≡ e.sequence)
+  unfolding head_after
   taken_is =
-      by_cases (λ p. is_taken p.answer ≡ true → (eventFormed e ≡ true) × (a.head.sequence < e.sequence) × (p.auction.head.sequence ≡ e.sequence))
+      by_cases (λ p. is_taken p.answer ≡ true → (event_formed e ≡ true) × (a.head.sequence < e.sequence) × (p.auction.head.sequence ≡ e.sequence))
       (record {
         refused = λ k _ z. no (sym z);
         late = λ o z. no (sym z);
         does = λ o. any-change _ _ _ _ _ (λ k _ z. no (sym z)) (λ c g z. (o.ordinary.formed, o.ordinary.newer, refl));
       })
 
-  taken-in-time : is_taken (stepBy s a e).answer ≡ true → InTime a.head e
+  taken-in-time : is_taken (step_by s a e).answer ≡ true → InTime a.head e
   taken-in-time =
       by_cases (λ p. is_taken p.answer ≡ true → InTime a.head e)
       (record { refused = λ k _ z. no (sym z); late = λ o z. no (sym z); does = λ o. any-change _ _ _ _ _ (λ k _ z. no (sym z)) (λ c g z. o) })
 
-  by_kind : (n : ℕ) → (stepBy s a e).answer ≡ Refused n → 35 ≤ n → InTime a.head e
+  by_kind : (n : ℕ) → (step_by s a e).answer ≡ Refused n → 35 ≤ n → InTime a.head e
   by_kind n =
       by_cases (λ p. p.answer ≡ Refused n → 35 ≤ n → InTime a.head e)
       (record {
         refused = λ k h z l. let q : k ≡ n = cc in absurd (omega (arith, h.1, q, l));
         late = λ o z. no cc;
-        does = λ o. any-change _ _ _ _ _ (λ k _ z l. o) (λ c g z. not-refused (isOpen g) n z);
+        does = λ o. any-change _ _ _ _ _ (λ k _ z l. o) (λ c g z. not-refused (is_open g) n z);
       })
 
   -- an event whose sequence is not above the highest taken is refused, whatever else it says: 31 once ended; else 32 where it is out of form, and 33
-  pub old-refused : e.sequence ≤ a.head.sequence → stepBy s a e ≡ gives (Refused (cond (isOpen a.head.ending) (cond (eventFormed e) 33 32) 31)) a
-  unfolding turn_of eventRefusal
-  old-refused h = go (isOpen a.head.ending) (eventFormed e) refl refl
+  pub old-refused : e.sequence ≤ a.head.sequence → step_by s a e ≡ gives (Refused (cond (is_open a.head.ending) (cond (event_formed e) 33 32) 31)) a
+  unfolding turn_of event_refusal
+  old-refused h = go (is_open a.head.ending) (event_formed e) refl refl
     where
-      go : (x y : Bool) → isOpen a.head.ending ≡ x → eventFormed e ≡ y → stepBy s a e ≡ gives (Refused (cond (isOpen a.head.ending) (cond (eventFormed e) 33 32) 31)) a
+      go : (x y : Bool) → is_open a.head.ending ≡ x → event_formed e ≡ y → step_by s a e ≡ gives (Refused (cond (is_open a.head.ending) (cond (event_formed e) 33 32) 31)) a
       go true true p q = simp (p, q, le-leb _ _ h)
       go true false p q = simp (p, q)
       go false y p q = simp p
 
   -- only 31 to 38 refuse an event
-  event-numbers : (n : ℕ) → (stepBy s a e).answer ≡ Refused n → (31 ≤ n) × (n ≤ 38)
+  event-numbers : (n : ℕ) → (step_by s a e).answer ≡ Refused n → (31 ≤ n) × (n ≤ 38)
   event-numbers n =
       by_cases (λ p. p.answer ≡ Refused n → (31 ≤ n) × (n ≤ 38))
       (record {
         refused = λ k h z. let q : k ≡ n = cc in (omega (arith, h.0), omega (arith, h.1));
         late = λ o z. no cc;
-        does = λ o. any-change _ _ _ _ _ (λ k h z. let q : k ≡ n = cc in (omega (arith, h.0), omega (arith, h.1))) (λ c g z. not-refused (isOpen g) n z);
+        does = λ o. any-change _ _ _ _ _ (λ k h z. let q : k ≡ n = cc in (omega (arith, h.0), omega (arith, h.1))) (λ c g z. not-refused (is_open g) n z);
       })
 
 -- what the auction itself sees
@@ -166,39 +166,35 @@ pub run-rises : (es : List Event) (a : Auction) → a.head.sequence ≤ (run a e
 run-rises [] a = le_refl _
 run-rises (e ∷ es) a = le_trans (rises (seen a e) a e) (run-rises es (step_of a e).auction)
 
-pub older : (a : Auction) (e f : Event) (es : List Event) → is_taken (step_of a e).answer ≡ true → eventFormed f ≡ true → f.sequence ≤ e.sequence → RefusedAgain (run (step_of a e).auction es) f
+pub older : (a : Auction) (e f : Event) (es : List Event) → is_taken (step_of a e).answer ≡ true → event_formed f ≡ true → f.sequence ≤ e.sequence → RefusedAgain (run (step_of a e).auction es) f
 older a e f es z formed h =
     let k = taken_is (seen a e) a e z in
     let b : Auction = run (step_of a e).auction es in
     let n : (step_of a e).auction.head.sequence ≤ b.head.sequence = run-rises es (step_of a e).auction in
-    old-refused (seen b f) b f (omega (arith, k.2)) ∙ ap (λ (t : Bool). gives (Refused (cond (isOpen b.head.ending) (cond t 33 32) 31)) b) formed
+    old-refused (seen b f) b f (omega (arith, k.2)) ∙ ap (λ (t : Bool). gives (Refused (cond (is_open b.head.ending) (cond t 33 32) 31)) b) formed
 
 pub again : (a : Auction) (e : Event) (es : List Event) → is_taken (step_of a e).answer ≡ true → RefusedAgain (run (step_of a e).auction es) e
 again a e es z = older a e e es z (taken_is (seen a e) a e z).0 (le_refl _)
 
-closed-stays : (a : Auction) (n : ℕ) → (closeOf a).answer ≡ Refused n → (closeOf a).auction ≡ a
-unfolding closeTurn
-closed-stays a n = by (λ (t : Turn). t.answer ≡ Refused n → (seatedOn a.board t).auction ≡ a) (isOpen a.head.ending) _ _ (λ _ z. no cc) (λ _ z. refl)
+closed-stays : (a : Auction) (n : ℕ) → (close_of a).answer ≡ Refused n → (close_of a).auction ≡ a
+unfolding close_turn
+closed-stays a n = by (λ (t : Turn). t.answer ≡ Refused n → (seated_on a.board t).auction ≡ a) (is_open a.head.ending) _ _ (λ _ z. no cc) (λ _ z. refl)
 
-closed-late : (a : Auction) → isOpen a.head.ending ≡ true → closeOf a ≡ gives Late (timed a)
-unfolding closeTurn
-closed-late a z = simp z
-
-ended-stays : (a : Auction) → isOpen a.head.ending ≡ false → closeOf a ≡ gives (Refused 31) a
-unfolding closeTurn
+ended-stays : (a : Auction) → is_open a.head.ending ≡ false → close_of a ≡ gives (Refused 31) a
+unfolding close_turn
 ended-stays a z = simp z
 
 -- ---- orders
 
-order-numbers : (o : Order) (n : ℕ) → (acceptOf o).answer ≡ NotAccepted n → (1 ≤ n) × (n ≤ 13)
-unfolding acceptOf
+order-numbers : (o : Order) (n : ℕ) → (accept_of o).answer ≡ NotAccepted n → (1 ≤ n) × (n ≤ 13)
+unfolding accept_of
 order-numbers o n =
-    by (λ (p : Opening). p.answer ≡ NotAccepted n → (1 ≤ n) × (n ≤ 13)) (eqb (orderRefusal o) 0) _ _
+    by (λ (p : Opening). p.answer ≡ NotAccepted n → (1 ≤ n) × (n ≤ 13)) (eqb (order_refusal o) 0) _ _
     (λ _ z. no cc)
-    (λ h z. let q : orderRefusal o ≡ n = cc in let s : orderRefusal o ≡ 0 → ⊥ = eqb-false _ _ h in (omega (arith, s), omega (arith, order-most o)))
+    (λ h z. let q : order_refusal o ≡ n = cc in let s : order_refusal o ≡ 0 → ⊥ = eqb-false _ _ h in (omega (arith, s), omega (arith, order-most o)))
 
 pub keeps : Keeps
-keeps = record { refused = refused-stays; not-closed = closed-stays; order-numbers = order-numbers; event-numbers = event-numbers; taken = λ s a e z. (taken-in-time s a e z, (taken_is s a e z).2); by_kind = by_kind; formless = formless; old = old-refused; before = before; rises = rises; when-late = when-late; late = late-ends; when-closed = closed-late; ended = ended-refuses; ended-close = ended-stays }
+keeps = record { refused = refused-stays; not-closed = closed-stays; order-numbers = order-numbers; event-numbers = event-numbers; taken = λ s a e z. (taken-in-time s a e z, (taken_is s a e z).2); by_kind = by_kind; formless = formless; old = old-refused; before = before; rises = rises; when-late = when-late; late = late-ends; ended = ended-refuses; ended-close = ended-stays }
 
 -- ---- the sequences of the events taken rise, so no two are the same
 

@@ -1,7 +1,7 @@
 // Reads one tape on standard input and writes its listing on standard output. A read or a write that fails is said on standard error.
 ghost use Rattle.std.specs.Prelude.{◌≡◌, length};
 ghost use Rattle.io.specs.Counts.{IsPrefixLen};
-ghost use Rattle.listing.specs.rules.Listing.{lengthIn, listed_of, bytes_of};
+ghost use Rattle.listing.specs.rules.Listing.{length_in, listed_of, bytes_of};
 
 use input::MOST;
 use libc::{STDIN_FILENO, STDOUT_FILENO};
@@ -21,7 +21,7 @@ fn listing_buffer() -> [u8; ROOM]
 
 // What stands between reading and writing: the tape's listing at the start of the lent bytes, and its length.
 fn answer(tape: &[u8], out: &mut [u8]) -> usize
-    ensures value { result ≡ lengthIn (listed_of tape.now out.old) }
+    ensures value { result ≡ length_in (listed_of tape.now out.old) }
     ensures out_after { out.new ≡ bytes_of tape.now out.old }
     ensures prefix_len { IsPrefixLen result out.new }
 {

@@ -10,7 +10,7 @@ use borrow.Author.Tests.{leb-true, leb-false, lt-leb, le-leb, lt-ltb, le-ltb}
 use lib.Dec.{leb, ltb}
 use lib.ListN.{length}
 use Rattle.base.specs.Lists.{filter, sum}
-use Rattle.share.specs.rules.Share.{floors, fractions, plus, leftoverCount, howMany, leftovers, sharesBy, shares, in_turn}
+use Rattle.share.specs.rules.Share.{floors, fractions, plus, leftover_count, how_many, leftovers, shares_by, shares, in_turn}
 use Rattle.share.specs.inside.Cut.{Cuts}
 use Rattle.share.specs.promises.Share.{Each, Mark, Marks, Near, Fair, InRank, ByFraction, ProRata}
 use Rattle.share.proofs.CutLaws.{many-pass, many-fail, ones, rank-only, marks-one}
@@ -37,35 +37,35 @@ parts_all R T (s ∷ ss) =
     simp (mul-add, add-mul) (omega (arith, mod-add-div' (R * s) T, parts_all R T ss))
 
 -- they come to as many wholes as there are leftovers
-pub wholes : (R : ℕ) (ss : List ℕ) → 0 < sum ss → sum (fractions R (sum ss) ss) ≡ leftoverCount R ss * sum ss
+pub wholes : (R : ℕ) (ss : List ℕ) → 0 < sum ss → sum (fractions R (sum ss) ss) ≡ leftover_count R ss * sum ss
 wholes R ss h =
     let F = sum (floors R (sum ss) ss) in
-    let e : R ≡ F + leftoverCount R ss = omega (arith, floors-at-most R ss h) in
-    let f : R * sum ss ≡ F * sum ss + leftoverCount R ss * sum ss = ap (λ (n : ℕ). n * sum ss) e ∙ add-mul F (leftoverCount R ss) (sum ss) in
+    let e : R ≡ F + leftover_count R ss = omega (arith, floors-at-most R ss h) in
+    let f : R * sum ss ≡ F * sum ss + leftover_count R ss * sum ss = ap (λ (n : ℕ). n * sum ss) e ∙ add-mul F (leftover_count R ss) (sum ss) in
     omega (arith, parts_all R (sum ss) ss)
 
 -- each is less than a whole, so that there are as many that are not 0 as leftovers
-below-whole : (R T : ℕ) (ss : List ℕ) → 0 < T → sum (fractions R T ss) ≤ howMany (ltb 0) (fractions R T ss) * T
+below-whole : (R T : ℕ) (ss : List ℕ) → 0 < T → sum (fractions R T ss) ≤ how_many (ltb 0) (fractions R T ss) * T
 unfolding sum filter
 below-whole R T [] h = omega arith
 below-whole R T (s ∷ ss) h = go (R * s % T) (mod-lt (R * s) h) (below-whole R T ss h)
   where
-    go : (x : ℕ) → x < T → sum (fractions R T ss) ≤ howMany (ltb 0) (fractions R T ss) * T → x + sum (fractions R T ss) ≤ howMany (ltb 0) (x ∷ fractions R T ss) * T
+    go : (x : ℕ) → x < T → sum (fractions R T ss) ≤ how_many (ltb 0) (fractions R T ss) * T → x + sum (fractions R T ss) ≤ how_many (ltb 0) (x ∷ fractions R T ss) * T
     go zero l i = omega (arith, ap (λ (n : ℕ). n * T) (many-fail (ltb 0) 0 (fractions R T ss) refl))
     go (suc x) l i =
         let e = ap (λ (n : ℕ). n * T) (many-pass (ltb 0) (suc x) (fractions R T ss) (lt-ltb 0 (suc x) (omega arith))) in
-        omega (arith, e, suc-mul (howMany (ltb 0) (fractions R T ss)) T)
+        omega (arith, e, suc-mul (how_many (ltb 0) (fractions R T ss)) T)
 
 -- nor is one above a whole: where there is no leftover, the cut is there
 pub cut-whole : (R T : ℕ) (ss : List ℕ) → 0 < T → Cuts 0 (fractions R T ss) T 0
 unfolding filter
 cut-whole R T ss h = record { counted = omega (arith, none_above ss); enough = omega arith }
   where
-    none_above : (xs : List ℕ) → howMany (ltb T) (fractions R T xs) ≡ 0
+    none_above : (xs : List ℕ) → how_many (ltb T) (fractions R T xs) ≡ 0
     none_above [] = refl
     none_above (x ∷ xs) = many-fail (ltb T) (R * x % T) (fractions R T xs) (le-ltb T (R * x % T) (omega (arith, mod-lt (R * x) h))) ∙ none_above xs
 
-pub left-at-most : (R : ℕ) (ss : List ℕ) → 0 < sum ss → leftoverCount R ss ≤ howMany (ltb 0) (fractions R (sum ss) ss)
+pub left-at-most : (R : ℕ) (ss : List ℕ) → 0 < sum ss → leftover_count R ss ≤ how_many (ltb 0) (fractions R (sum ss) ss)
 left-at-most R ss h = le_of_mul-le-mul_right (omega (arith, wholes R ss h, below-whole R (sum ss) ss h)) h
 
 -- one member's whole part leaves room for one more, where it has a size and R is short of T
@@ -113,7 +113,7 @@ plus-near R T (s ∷ ss) (m ∷ ms) e = (near-one (R * s / T) m e.0.0, plus-near
 -- the rule need be right only where R is short
 module _ (R : ℕ) (ss ms : List ℕ) (right : R < sum ss → Marks R ss ms) where
   -- all of R is given out, or all is filled
-  by-sum : sum (sharesBy ms R ss) ≡ min R (sum ss)
+  by-sum : sum (shares_by ms R ss) ≡ min R (sum ss)
   by-sum = go (leb (sum ss) R) refl
     where
       go : (b : Bool) → leb (sum ss) R ≡ b → sum (cond b ss (plus (floors R (sum ss) ss) ms)) ≡ min R (sum ss)
@@ -124,7 +124,7 @@ module _ (R : ℕ) (ss ms : List ℕ) (right : R < sum ss → Marks R ss ms) whe
           omega (arith, sum-plus R (sum ss) ss ms (right h).each, (right h).total)
 
   -- no share is above its size
-  by_fits : Each ◌≤◌ (sharesBy ms R ss) ss
+  by_fits : Each ◌≤◌ (shares_by ms R ss) ss
   by_fits = go (leb (sum ss) R) refl
     where
       go : (b : Bool) → leb (sum ss) R ≡ b → Each ◌≤◌ (cond b ss (plus (floors R (sum ss) ss) ms)) ss
@@ -134,10 +134,10 @@ module _ (R : ℕ) (ss ms : List ℕ) (right : R < sum ss → Marks R ss ms) whe
           plus-fits R (sum ss) ss ms h (right h).each
 
   -- where R is short, each share is the whole part of R * s / T, or one more
-  by_near : R < sum ss → Each (Near R (sum ss)) ss (sharesBy ms R ss)
+  by_near : R < sum ss → Each (Near R (sum ss)) ss (shares_by ms R ss)
   by_near h = rw (lt-leb (sum ss) R h) (plus-near R (sum ss) ss ms (right h).each)
 
-  by-fair : Fair R ss (sharesBy ms R ss)
+  by-fair : Fair R ss (shares_by ms R ss)
   by-fair = record { adds-up = by-sum; fits = by_fits; all = λ h. rw (le-leb (sum ss) R h); near = by_near }
 
 -- ---- the rule: the largest fractions
@@ -156,7 +156,7 @@ all-sized R T (s ∷ ss) (m ∷ ms) e = (one-sized R T s m e.0, all-sized R T ss
 by_fraction : (R : ℕ) (ss : List ℕ) → R < sum ss → ByFraction R ss
 by_fraction R ss h =
     let p : 0 < sum ss = omega arith in
-    let o = ones (leftoverCount R ss) (fractions R (sum ss) ss) (left-at-most R ss p) in
+    let o = ones (leftover_count R ss) (fractions R (sum ss) ss) (left-at-most R ss p) in
     record {
       marks = record { each = all-sized R (sum ss) ss (leftovers R ss) o.each; total = o.total };
       in-rank = o.in-rank;
@@ -185,6 +185,9 @@ shares_sum R ss = (fair-shares R ss).adds-up
 
 pub shares-fit : (R : ℕ) (ss : List ℕ) → Each ◌≤◌ (shares R ss) ss
 shares-fit R ss = (fair-shares R ss).fits
+
+pub shares-near : (R : ℕ) (ss : List ℕ) → R < sum ss → Each (Near R (sum ss)) ss (shares R ss)
+shares-near R ss = (fair-shares R ss).near
 
 -- a whole part is at most its size
 pub floor-le : (R T s : ℕ) → R < T → R * s / T ≤ s

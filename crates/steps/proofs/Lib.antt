@@ -1,3 +1,2 @@
--- Theorems of `steps`, and what the walks of its front share.
-pub mod Lies
+-- Theorems of `steps`.
 pub mod Settled

@@ -3,8 +3,8 @@ use mathlib.Core.Path.{refl, sym, ◌∙◌}
 use Rattle.base.specs.Settled.{Settled}
 use Rattle.steps.proofs as contracts
 
+pub step : Settled contracts.by_value.step.ended contracts.by_value.step.Reads.Asked contracts.by_value.step.Reads.Learnt
+step κs a = (tt, λ y z v w p q. (p ∙ sym q, refl))
+
 pub close : Settled contracts.by_value.close.ended contracts.by_value.close.Reads.Asked contracts.by_value.close.Reads.Learnt
 close κs a = (tt, λ y z v w p q. (p ∙ sym q, refl))
-
-pub step : Settled contracts.front.step.ended contracts.front.step.Reads.Asked contracts.front.step.Reads.Learnt
-step κs a = (tt, λ y z v w p q. (p ∙ sym q, refl))

@@ -1,6 +1,6 @@
-// The event step, covered, and closing by hand: a turn seated on the board.
+// The event step, by value, and closing by hand: a turn seated on the board.
 ghost use Rattle.std.specs.Prelude.{◌≡◌};
-ghost use Rattle.events.specs.rules.Step.{boardAfter, seatedOn, step_of, closeOf};
+ghost use Rattle.events.specs.rules.Step.{board_after, seated_on, step_of, close_of};
 
 use auction::Auction;
 use board::Board;
@@ -11,12 +11,12 @@ use tape::Event;
 
 // The board after a change.
 fn board_after(b: Board, c: Change) -> Board
-    ensures { result ≡ boardAfter b c }
+    ensures { result ≡ board_after b c }
 {
     match c {
         Change::Nothing => b,
-        Change::Seat(i, r, _) => board::seated(b, i as usize, r),
-        Change::Free(i, _) => board::clear(b, i as usize),
+        Change::Seat(i, r, _) => board::seated(b, i, r),
+        Change::Free(i, _) => board::clear(b, i),
         Change::Quote(_) => b,
         Change::Sell(_) => b,
     }
@@ -24,7 +24,7 @@ fn board_after(b: Board, c: Change) -> Board
 
 // A turn seated on the board: its answer, and the auction after it.
 fn seat(b: Board, t: Turn) -> Stepped
-    ensures { result ≡ seatedOn b t }
+    ensures { result ≡ seated_on b t }
 {
     let answer = t.answer;
     let head = t.head;
@@ -37,7 +37,7 @@ fn seat(b: Board, t: Turn) -> Stepped
 }
 
 // One event: the answer, and the auction after it.
-pub(crate) fn step(a: Auction, e: Event) -> Stepped
+pub fn step(a: Auction, e: Event) -> Stepped
     ensures { result ≡ step_of a e }
 {
     let h = a.head;
@@ -47,7 +47,7 @@ pub(crate) fn step(a: Auction, e: Event) -> Stepped
 
 // Closing by hand: as an event at time L.
 pub fn close(a: Auction) -> Stepped
-    ensures { result ≡ closeOf a }
+    ensures { result ≡ close_of a }
 {
     let h = a.head;
     seat(a.board, close_turn(h))

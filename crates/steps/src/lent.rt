@@ -1,7 +1,7 @@
 // The auction lent and updated in place: one event, and a cancel by its numbers, each over the step by value. Only these take the reference.
 ghost use Rattle.std.specs.Prelude.{◌≡◌};
 ghost use Rattle.events.specs.rules.Step.{step_of};
-ghost use Rattle.steps.specs.rules.Lent.{cancelEvent};
+ghost use Rattle.steps.specs.rules.Lent.{cancel_event};
 
 use crate::by_value::step;
 use auction::Auction;
@@ -19,7 +19,7 @@ pub fn apply(a: &mut Auction, e: Event) -> Answer
 
 // The step of a cancel that is given by its numbers.
 fn cancel_step(a: Auction, sequence: u32, time: u32, named: u32) -> Stepped
-    ensures { result ≡ step_of a (cancelEvent sequence time named) }
+    ensures { result ≡ step_of a (cancel_event sequence time named) }
 {
     let e = Event {
         sequence,
@@ -38,7 +38,7 @@ fn cancel_step(a: Auction, sequence: u32, time: u32, named: u32) -> Stepped
 
 // A cancel of the GTX response whose sequence is `named`: the lent auction becomes the one after it.
 pub fn cancel(a: &mut Auction, sequence: u32, time: u32, named: u32) -> Answer
-    ensures { (result ≡ (step_of a.old (cancelEvent sequence time named)).answer) × (a.new ≡ (step_of a.old (cancelEvent sequence time named)).auction) }
+    ensures { (result ≡ (step_of a.old (cancel_event sequence time named)).answer) × (a.new ≡ (step_of a.old (cancel_event sequence time named)).auction) }
 {
     let s = cancel_step(*a, sequence, time, named);
     *a = s.auction;

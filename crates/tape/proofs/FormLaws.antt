@@ -11,7 +11,7 @@ use borrow.Author.Tests.{le-leb, lt-ltb, leb-true, ltb-true, eqb-true}
 use Rattle.tape.specs.declared.order.Order.{Order}
 use Rattle.tape.specs.declared.form.Shape.{Shape}
 use Rattle.tape.specs.declared.form.Range.{Range}
-use Rattle.tape.specs.rules.Form.{all_from, within, collarResult, collarFormed, orderTests, orderFormed, range, inside, unused, sides, sizes, prices, anyNumber, bids, offers, row, shape_of}
+use Rattle.tape.specs.rules.Form.{all_from, within, collar_result, collar_formed, order_tests, order_formed, range, inside, unused, sides, sizes, prices, any_number, bids, offers, row, shape_of}
 use Rattle.base.proofs.Bools.{and_left, and_right, and_both, or-either, same_test}
 
 all_start : (ts : List Bool) (b : Bool) → all_from b ts ≡ true → b ≡ true
@@ -49,15 +49,15 @@ stop-some s false e h = within-ge s 1 999999 h
 -- what the form of a collared order says: there is none, or its displayed price, the collar and the result are prices
 pub data CollarForm (side displayed collar : ℕ) : Type 0 where
   without : displayed ≡ 0 → collar ≡ 0 → CollarForm side displayed collar
-  with : within displayed 1 999999 ≡ true → within collar 1 999999 ≡ true → within (collarResult side displayed collar) 1 999999 ≡ true → CollarForm side displayed collar
+  with : within displayed 1 999999 ≡ true → within collar 1 999999 ≡ true → within (collar_result side displayed collar) 1 999999 ≡ true → CollarForm side displayed collar
 
-pub collar-form : (side displayed collar : ℕ) → collarFormed side displayed collar ≡ true → CollarForm side displayed collar
+pub collar-form : (side displayed collar : ℕ) → collar_formed side displayed collar ≡ true → CollarForm side displayed collar
 collar-form side displayed collar h =
     ⊎_elim
     (λ z. without (eqb-true _ _ (and_left (eqb displayed 0) (eqb collar 0) z)) (eqb-true _ _ (and_right (eqb displayed 0) (eqb collar 0) z)))
     (λ p.
-    let both = and_left (within displayed 1 999999 && within collar 1 999999) (within (collarResult side displayed collar) 1 999999) p in
-    with (and_left (within displayed 1 999999) (within collar 1 999999) both) (and_right (within displayed 1 999999) (within collar 1 999999) both) (and_right (within displayed 1 999999 && within collar 1 999999) (within (collarResult side displayed collar) 1 999999) p))
+    let both = and_left (within displayed 1 999999 && within collar 1 999999) (within (collar_result side displayed collar) 1 999999) p in
+    with (and_left (within displayed 1 999999) (within collar 1 999999) both) (and_right (within displayed 1 999999) (within collar 1 999999) both) (and_right (within displayed 1 999999 && within collar 1 999999) (within (collar_result side displayed collar) 1 999999) p))
     (or-either (eqb displayed 0 && eqb collar 0) _ h)
 
 -- the same in fewer tests: where the displayed price and the result are prices, and the collar is not 0, the collar is one
@@ -94,7 +94,7 @@ module _ (d c : ℕ) where
       let below : c < d = ltb-true c d (and_right (within d 1 999999 && leb 1 c) (ltb c d) h) in
       and_both (and_both w (price-if c low (omega arith))) (price-if (d - c) (omega arith) (omega arith)))
 
-  pub collar-tests : (side : ℕ) → collarFormed side d c ≡ ((eqb d 0 && eqb c 0) || (within d 1 999999 && leb 1 c && ((eqb side 2 && leb (d + c) 999999) || (not (eqb side 2) && ltb c d))))
+  pub collar-tests : (side : ℕ) → collar_formed side d c ≡ ((eqb d 0 && eqb c 0) || (within d 1 999999 && leb 1 c && ((eqb side 2 && leb (d + c) 999999) || (not (eqb side 2) && ltb c d))))
   collar-tests side = ap (λ (b : Bool). (eqb d 0 && eqb c 0) || b) (go (eqb side 2))
     where
       go : (t : Bool) → (within d 1 999999 && within c 1 999999 && within (cond t (d + c) (d - c)) 1 999999) ≡ (within d 1 999999 && leb 1 c && ((t && leb (d + c) 999999) || (not t && ltb c d)))
@@ -138,10 +138,10 @@ pub record OrderBounds (o : Order) : Type 0 where
   pub collar : o.collar ≤ 999999
   pub collar-form : CollarForm o.side o.displayed o.collar
 
-pub order-bounds : (o : Order) → orderFormed o ≡ true → OrderBounds o
-unfolding orderFormed orderTests
+pub order-bounds : (o : Order) → order_formed o ≡ true → OrderBounds o
+unfolding order_formed order_tests
 order-bounds o h =
-    let t : (i : ℕ) → get_or (orderTests o) i true ≡ true = each (orderTests o) true h in
+    let t : (i : ℕ) → get_or (order_tests o) i true ≡ true = each (order_tests o) true h in
     let k : CollarForm o.side o.displayed o.collar = collar-form o.side o.displayed o.collar (t 14) in
     record {
       some-side = within-ge o.side 1 2 (t 0);
@@ -199,9 +199,9 @@ pub row-bounds : (k : ℕ) → RowBounds k (shape_of k)
 unfolding shape_of
 row-bounds k =
     choose RowBounds k 1 _ _ (known (range 0 1) true sides sizes prices unused unused (omega arith) (omega arith) (omega arith) (omega arith) (omega arith) (omega arith) (omega arith))
-    (choose RowBounds k 2 _ _ (known unused true unused anyNumber unused unused unused (omega arith) (omega arith) (omega arith) (omega arith) (omega arith) (omega arith) (omega arith))
+    (choose RowBounds k 2 _ _ (known unused true unused any_number unused unused unused (omega arith) (omega arith) (omega arith) (omega arith) (omega arith) (omega arith) (omega arith))
     (choose RowBounds k 3 _ _ (known (range 0 3) true sides sizes prices unused unused (omega arith) (omega arith) (omega arith) (omega arith) (omega arith) (omega arith) (omega arith))
     (choose RowBounds k 4 _ _ (known (range 0 1) true sides sizes unused unused unused (omega arith) (omega arith) (omega arith) (omega arith) (omega arith) (omega arith) (omega arith))
     (choose RowBounds k 5 _ _ (known (range 0 15) false unused prices prices bids offers (omega arith) (omega arith) (omega arith) (omega arith) (omega arith) (omega arith) (omega arith))
-    (choose RowBounds k 6 _ _ (known unused true unused anyNumber sizes prices unused (omega arith) (omega arith) (omega arith) (omega arith) (omega arith) (omega arith) (omega arith))
+    (choose RowBounds k 6 _ _ (known unused true unused any_number sizes prices unused (omega arith) (omega arith) (omega arith) (omega arith) (omega arith) (omega arith) (omega arith))
     (record { kind = λ m h. absurd (omega (arith, within-ge m 1 0 h, within-le m 1 0 h)); marks = omega arith; side = omega arith; f12 = omega arith; f16 = omega arith; f20 = omega arith; f24 = omega arith }))))))

@@ -14,9 +14,9 @@ use Rattle.tape.specs.declared.trailer.Trailer.{Trailer}
 use Rattle.tape.specs.declared.trailer.ReadTrailer.{ReadTrailer}
 use Rattle.tape.specs.declared.trailer.ReadTrailer.TheVariants.{Trailer as GotTrailer, Refused as NoTrailer}
 use Rattle.tape.specs.declared.trailer.Opened.TheVariants.{Tape, Refused}
-use Rattle.tape.specs.rules.Form.{eventFormed, shape_of, shapeTests}
-use Rattle.tape.specs.rules.Records.{width_of, eventOf, eventSpare, ofNoKind, recordAt, readEvent, eventHeld, readTrailer}
-use Rattle.tape.specs.rules.Tape.{length_of, openedWith, lastTrailer, openTape, recordIn, recordsFrom, recordsOf}
+use Rattle.tape.specs.rules.Form.{event_formed, shape_of, shape_tests}
+use Rattle.tape.specs.rules.Records.{width_of, event_of, event_spare, of_no_kind, record_at, read_event, event_held, read_trailer}
+use Rattle.tape.specs.rules.Tape.{length_of, opened_with, last_trailer, open_tape, record_in, records_from, records_of}
 use Rattle.tape.specs.promises.Holds.{Holds, Recorded}
 use Rattle.base.proofs.Bools.{and_left, and_right, and_both, or_right}
 use Rattle.tape.proofs.RecordLaws.{next_place}
@@ -30,73 +30,73 @@ took false false x e h = (cc, cc, cc)
 
 -- the tests that led to it
 module _ (wide : Bool) (s : List ℕ) (e : Event) where
-  pub event-took : readEvent wide s ≡ GotEvent e → (ltb (length s) (width_of wide) ≡ false) × ((eventSpare wide s && eventFormed (eventOf wide s)) ≡ true) × (eventOf wide s ≡ e)
-  unfolding readEvent
-  event-took h = took (ltb (length s) (width_of wide)) (eventSpare wide s && eventFormed (eventOf wide s)) (eventOf wide s) e h
+  pub event-took : read_event wide s ≡ GotEvent e → (ltb (length s) (width_of wide) ≡ false) × ((event_spare wide s && event_formed (event_of wide s)) ≡ true) × (event_of wide s ≡ e)
+  unfolding read_event
+  event-took h = took (ltb (length s) (width_of wide)) (event_spare wide s && event_formed (event_of wide s)) (event_of wide s) e h
 
-  event-formed : readEvent wide s ≡ GotEvent e → eventFormed e ≡ true
-  event-formed h = let t = event-took h in ap eventFormed (sym t.2) ∙ and_right (eventSpare wide s) (eventFormed (eventOf wide s)) t.1
+  event-formed : read_event wide s ≡ GotEvent e → event_formed e ≡ true
+  event-formed h = let t = event-took h in ap event_formed (sym t.2) ∙ and_right (event_spare wide s) (event_formed (event_of wide s)) t.1
 
   -- an event that is read stands there
-  pub event-stands : readEvent wide s ≡ GotEvent e → recordAt wide s ≡ e
-  unfolding recordAt
-  event-stands h = let t = event-took h in simp (t.0, and_left (eventSpare wide s) (eventFormed (eventOf wide s)) t.1) t.2
+  pub event-stands : read_event wide s ≡ GotEvent e → record_at wide s ≡ e
+  unfolding record_at
+  event-stands h = let t = event-took h in simp (t.0, and_left (event_spare wide s) (event_formed (event_of wide s)) t.1) t.2
 
 -- an event that a record can hold is in form, and one that is read can be held
-pub held-formed : (wide : Bool) (e : Event) → eventHeld wide e ≡ true → eventFormed e ≡ true
-unfolding eventHeld
-held-formed wide e h = and_left (eventFormed e) _ h
+pub held-formed : (wide : Bool) (e : Event) → event_held wide e ≡ true → event_formed e ≡ true
+unfolding event_held
+held-formed wide e h = and_left (event_formed e) _ h
 
-pub event-held : (wide : Bool) (s : List ℕ) (e : Event) → readEvent wide s ≡ GotEvent e → eventHeld wide e ≡ true
-unfolding eventHeld eventOf
+pub event-held : (wide : Bool) (s : List ℕ) (e : Event) → read_event wide s ≡ GotEvent e → event_held wide e ≡ true
+unfolding event_held event_of
 event-held wide s e h = and_both (event-formed wide s e h) (ap (λ (x : Event). wide || eqb x.participant 0) (sym (event-took wide s e h).2) ∙ nobody wide)
   where
-    nobody : (wide : Bool) → (wide || eqb (eventOf wide s).participant 0) ≡ true
+    nobody : (wide : Bool) → (wide || eqb (event_of wide s).participant 0) ≡ true
     nobody true = refl
     nobody false = refl
 
 -- and so can another event in form, with the same participant
-pub held_by : (wide : Bool) (e x : Event) → x.participant ≡ e.participant → eventHeld wide e ≡ true → eventFormed x ≡ true → eventHeld wide x ≡ true
-unfolding eventHeld
-held_by wide e x p h f = and_both f (ap (λ (n : ℕ). wide || eqb n 0) p ∙ and_right (eventFormed e) _ h)
+pub held_by : (wide : Bool) (e x : Event) → x.participant ≡ e.participant → event_held wide e ≡ true → event_formed x ≡ true → event_held wide x ≡ true
+unfolding event_held
+held_by wide e x p h f = and_both f (ap (λ (n : ℕ). wide || eqb n 0) p ∙ and_right (event_formed e) _ h)
 
 -- nothing is of no kind
-no_kind : (q : ℕ) → eventFormed (ofNoKind q) ≡ false
-unfolding eventFormed shapeTests shape_of
+no_kind : (q : ℕ) → event_formed (of_no_kind q) ≡ false
+unfolding event_formed shape_tests shape_of
 no_kind q = refl
 
 pub recorded : (wide : Bool) (s : List ℕ) → Recorded wide s
-unfolding readEvent recordAt eventOf
-recorded wide s = record { reads = λ h. rw (le-ltb (length s) (width_of wide) h) (reads (eventSpare wide s)); sequence = same (ltb (length s) (width_of wide)) (eventSpare wide s) }
+unfolding read_event record_at event_of
+recorded wide s = record { reads = λ h. rw (le-ltb (length s) (width_of wide) h) (reads (event_spare wide s)); sequence = same (ltb (length s) (width_of wide)) (event_spare wide s) }
   where
-    reads : (b : Bool) → cond (b && eventFormed (eventOf wide s)) (GotEvent (eventOf wide s)) (NoEvent 32)
-        ≡ cond (eventFormed (cond b (eventOf wide s) (ofNoKind (word_at s 0)))) (GotEvent (cond b (eventOf wide s) (ofNoKind (word_at s 0)))) (NoEvent 32)
+    reads : (b : Bool) → cond (b && event_formed (event_of wide s)) (GotEvent (event_of wide s)) (NoEvent 32)
+        ≡ cond (event_formed (cond b (event_of wide s) (of_no_kind (word_at s 0)))) (GotEvent (cond b (event_of wide s) (of_no_kind (word_at s 0)))) (NoEvent 32)
     reads true = refl
     reads false = rw (no_kind (word_at s 0)) refl
 
-    same : (b c : Bool) → (cond b (ofNoKind (word_at s 0)) (cond c (eventOf wide s) (ofNoKind (word_at s 0)))).sequence ≡ word_at s 0
+    same : (b c : Bool) → (cond b (of_no_kind (word_at s 0)) (cond c (event_of wide s) (of_no_kind (word_at s 0)))).sequence ≡ word_at s 0
     same true c = refl
     same false true = refl
     same false false = refl
 
 -- ---- a tape's records, step by step
 
-pub records-none : (s : List ℕ) (t : Trailer) (k : ℕ) → recordsFrom s t k 0 ≡ []
-unfolding recordsFrom
+pub records-none : (s : List ℕ) (t : Trailer) (k : ℕ) → records_from s t k 0 ≡ []
+unfolding records_from
 records-none s t k = refl
 
-pub records-more : (s : List ℕ) (t : Trailer) (k n : ℕ) → recordsFrom s t k (suc n) ≡ recordIn s t k ∷ recordsFrom s t (k + 1) n
-unfolding recordsFrom
+pub records-more : (s : List ℕ) (t : Trailer) (k n : ℕ) → records_from s t k (suc n) ≡ record_in s t k ∷ records_from s t (k + 1) n
+unfolding records_from
 records-more s t k n = refl
 
-records-long : (s : List ℕ) (t : Trailer) (k n : ℕ) → length (recordsFrom s t k n) ≡ n
-unfolding recordsFrom
+records-long : (s : List ℕ) (t : Trailer) (k n : ℕ) → length (records_from s t k n) ≡ n
+unfolding records_from
 records-long s t k zero = refl
 records-long s t k (suc n) = ap suc (records-long s t (k + 1) n)
 
 -- as many as the trailer says
-pub records-length : (s : List ℕ) (t : Trailer) → length (recordsOf s t) ≡ t.events
-unfolding recordsOf
+pub records-length : (s : List ℕ) (t : Trailer) → length (records_of s t) ≡ t.events
+unfolding records_of
 records-length s t = records-long s t 0 t.events
 
 -- ---- a tape that opens
@@ -106,14 +106,14 @@ took-last : (a : Bool) (r : ReadTrailer) (t : Trailer) → cond a (NoTrailer 21)
 took-last true r t h = (cc, cc)
 took-last false r t h = (refl, h)
 
-pub trailer-took : (s : List ℕ) (t : Trailer) → lastTrailer s ≡ GotTrailer t → (length s ≤ 65536) × (readTrailer (drop (length s - 16) s) ≡ GotTrailer t)
-unfolding lastTrailer
+pub trailer-took : (s : List ℕ) (t : Trailer) → last_trailer s ≡ GotTrailer t → (length s ≤ 65536) × (read_trailer (drop (length s - 16) s) ≡ GotTrailer t)
+unfolding last_trailer
 trailer-took s t h =
-    let k = took-last (ltb (length s) 16 || ltb 65536 (length s)) (readTrailer (drop (length s - 16) s)) t h in
+    let k = took-last (ltb (length s) 16 || ltb 65536 (length s)) (read_trailer (drop (length s - 16) s)) t h in
     (ltb-false 65536 (length s) (or_right (ltb (length s) 16) (ltb 65536 (length s)) k.0), k.1)
 
 -- and to the tape
-took-tape : (n : ℕ) (r : ReadTrailer) (t : Trailer) → openedWith n r ≡ Tape t → (length_of t ≡ n) × (r ≡ GotTrailer t)
+took-tape : (n : ℕ) (r : ReadTrailer) (t : Trailer) → opened_with n r ≡ Tape t → (length_of t ≡ n) × (r ≡ GotTrailer t)
 took-tape n (NoTrailer k) t h = (cc, cc)
 took-tape n (GotTrailer x) t h = let k = go (eqb (length_of x) n) refl h in (ap length_of (sym k.1) ∙ k.0, ap GotTrailer k.1)
   where
@@ -122,20 +122,20 @@ took-tape n (GotTrailer x) t h = let k = go (eqb (length_of x) n) refl h in (ap 
     go false e k = (cc, cc)
 
 -- its length is what its trailer says
-pub tape-last : (s : List ℕ) (t : Trailer) → openTape s ≡ Tape t → (length_of t ≡ length s) × (lastTrailer s ≡ GotTrailer t)
-unfolding openTape
-tape-last s t h = took-tape (length s) (lastTrailer s) t h
+pub tape-last : (s : List ℕ) (t : Trailer) → open_tape s ≡ Tape t → (length_of t ≡ length s) × (last_trailer s ≡ GotTrailer t)
+unfolding open_tape
+tape-last s t h = took-tape (length s) (last_trailer s) t h
 
-pub tape-opens : (s : List ℕ) (t : Trailer) → lastTrailer s ≡ GotTrailer t → length_of t ≡ length s → openTape s ≡ Tape t
-unfolding openTape
+pub tape-opens : (s : List ℕ) (t : Trailer) → last_trailer s ≡ GotTrailer t → length_of t ≡ length s → open_tape s ≡ Tape t
+unfolding open_tape
 tape-opens s t e n = simp (e, eq-eqb (length_of t) (length s) n)
 
 -- and its last 16 bytes are that
-pub tape-took : (s : List ℕ) (t : Trailer) → openTape s ≡ Tape t → (length s ≤ 65536) × (length_of t ≡ length s) × (readTrailer (drop (length s - 16) s) ≡ GotTrailer t)
+pub tape-took : (s : List ℕ) (t : Trailer) → open_tape s ≡ Tape t → (length s ≤ 65536) × (length_of t ≡ length s) × (read_trailer (drop (length s - 16) s) ≡ GotTrailer t)
 tape-took s t h =
     let k = tape-last s t h in
     let l = trailer-took s t k.1 in
     (l.0, k.0, l.1)
 
-pub holds : (s : List ℕ) (t : Trailer) → openTape s ≡ Tape t → Holds s t
+pub holds : (s : List ℕ) (t : Trailer) → open_tape s ≡ Tape t → Holds s t
 holds s t h = let k = tape-took s t h in record { short = k.0; order = omega (arith, k.1); event = λ i below. omega (arith, k.1, next_place t.wide i t.events below) }

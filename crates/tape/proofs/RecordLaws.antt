@@ -8,8 +8,8 @@ use lib.ListN.{length, get_or, take, drop, length-append, length-drop, drop_of_l
 use borrow.Author.Tests.{le-ltb, lt-ltb}
 use Rattle.words.specs.rules.Bytes.{joined, word_at, with_words}
 use Rattle.words.proofs.ByteLaws.{row-front, word-alone}
-use Rattle.tape.specs.rules.Tape.{eventPlace, order_in, recordIn}
-use Rattle.tape.specs.rules.Records.{wroteAnswer, wroteBytes, width_of, newWord, eventWords, order_of, orderSpare, readOrder, eventOf, eventSpare, ofNoKind, recordAt}
+use Rattle.tape.specs.rules.Tape.{event_place, order_in, record_in}
+use Rattle.tape.specs.rules.Records.{wrote_answer, wrote_bytes, width_of, new_word, event_words, order_of, order_spare, read_order, event_of, event_spare, of_no_kind, record_at}
 use Rattle.tape.specs.declared.order.ReadOrder.{ReadOrder}
 use Rattle.tape.specs.declared.order.ReadOrder.TheVariants.{Refused as NoOrder}
 use Rattle.tape.specs.declared.event.Event.{Event}
@@ -47,36 +47,36 @@ records-over true k room h = omega arith
 records-over false k room h = omega arith
 
 -- the words of a record are as long as it is
-pub words_long : (wide : Bool) (e : Event) → length (eventWords wide e) * 4 ≡ width_of wide
-unfolding eventWords width_of
+pub words_long : (wide : Bool) (e : Event) → length (event_words wide e) * 4 ≡ width_of wide
+unfolding event_words width_of
 words_long true e = refl
 words_long false e = refl
 
 -- and are the first of those of a new one
 pub words-held : (wide : Bool) (e : Event) {n j : ℕ} → n ≡ width_of wide → j ≡ joined e.kind e.marks e.side 0
-    → take (n / 4) (e.sequence ∷ e.time ∷ j ∷ e.f12 ∷ e.f16 ∷ e.f20 ∷ e.f24 ∷ 0 ∷ e.participant ∷ 0 ∷ []) ≡ eventWords wide e
-unfolding eventWords width_of
+    → take (n / 4) (e.sequence ∷ e.time ∷ j ∷ e.f12 ∷ e.f16 ∷ e.f20 ∷ e.f24 ∷ 0 ∷ e.participant ∷ 0 ∷ []) ≡ event_words wide e
+unfolding event_words width_of
 words-held true e n j = simp (n, j)
 words-held false e n j = simp (n, j)
 
 -- ---- writers: the answer, and the bytes
 
 pub wrote-formless : {formed : Bool} (number : ℕ) (ws out : List ℕ) → formed ≡ false
-    → (Refused number ≡ wroteAnswer formed number ws out) × (out ≡ wroteBytes formed ws out)
+    → (Refused number ≡ wrote_answer formed number ws out) × (out ≡ wrote_bytes formed ws out)
 wrote-formless number ws out e = (simp e, simp e)
 
 pub wrote-short : {formed : Bool} (number : ℕ) (ws out : List ℕ) → formed ≡ true → length out < length ws * 4
-    → (Refused 24 ≡ wroteAnswer formed number ws out) × (out ≡ wroteBytes formed ws out)
+    → (Refused 24 ≡ wrote_answer formed number ws out) × (out ≡ wrote_bytes formed ws out)
 wrote-short number ws out e h = (simp (e, lt-ltb _ _ h), simp (e, lt-ltb _ _ h))
 
 pub wrote-done : {formed : Bool} {after : List ℕ} (number : ℕ) (ws out : List ℕ) → formed ≡ true → length ws * 4 ≤ length out → after ≡ with_words out 0 ws
-    → (Done ≡ wroteAnswer formed number ws out) × (after ≡ wroteBytes formed ws out)
+    → (Done ≡ wrote_answer formed number ws out) × (after ≡ wrote_bytes formed ws out)
 wrote-done number ws out e h w = (simp (e, le-ltb _ _ h), w ∙ row-front out ws h ∙ simp (e, le-ltb _ _ h))
 
 -- ---- readers: too few bytes
 
-pub order-short : (s : List ℕ) → length s < 64 → readOrder s ≡ NoOrder 24
-unfolding readOrder
+pub order-short : (s : List ℕ) → length s < 64 → read_order s ≡ NoOrder 24
+unfolding read_order
 order-short s h = simp (lt-ltb _ _ h)
 
 -- fewer than n bytes from a place on
@@ -85,21 +85,21 @@ few s at n h p = omega (arith, length-drop at s)
 
 -- ---- readers: what stands after a record's own bytes is not looked at
 
-pub order-alone : (r l : List ℕ) → length r ≡ 64 → readOrder (r ++ l) ≡ readOrder r
-unfolding readOrder order_of orderSpare
+pub order-alone : (r l : List ℕ) → length r ≡ 64 → read_order (r ++ l) ≡ read_order r
+unfolding read_order order_of order_spare
 order-alone r l n =
     let g : (i : ℕ) → i < length r → get_or (r ++ l) i 0 ≡ get_or r i 0 = get_or-append r l 0 in
     let w : (at : ℕ) → at + 4 ≤ length r → word_at (r ++ l) at ≡ word_at r at = word-alone r l in
     simp (le-ltb (length (r ++ l)) 64 (omega (arith, length-append r l)), le-ltb (length r) 64 (omega arith), g 0 (omega arith), g 1 (omega arith), g 2 (omega arith), g 3 (omega arith), w 4 (omega arith), w 8 (omega arith), w 12 (omega arith), w 16 (omega arith), w 20 (omega arith), w 24 (omega arith), w 28 (omega arith), w 32 (omega arith), w 36 (omega arith), w 40 (omega arith), w 44 (omega arith), w 48 (omega arith), w 52 (omega arith), w 56 (omega arith), w 60 (omega arith))
 
 -- a word of a new record too
-new-alone : (wide : Bool) (r l : List ℕ) (at : ℕ) → at + 4 ≤ 40 → length r ≡ width_of wide → newWord wide (r ++ l) at ≡ newWord wide r at
+new-alone : (wide : Bool) (r l : List ℕ) (at : ℕ) → at + 4 ≤ 40 → length r ≡ width_of wide → new_word wide (r ++ l) at ≡ new_word wide r at
 unfolding width_of
 new-alone true r l at h n = word-alone r l at (omega arith)
 new-alone false r l at h n = refl
 
-pub record-alone : (wide : Bool) (r l : List ℕ) → length r ≡ width_of wide → recordAt wide (r ++ l) ≡ recordAt wide r
-unfolding recordAt eventOf eventSpare
+pub record-alone : (wide : Bool) (r l : List ℕ) → length r ≡ width_of wide → record_at wide (r ++ l) ≡ record_at wide r
+unfolding record_at event_of event_spare
 record-alone wide r l n =
     let g : (i : ℕ) → i < length r → get_or (r ++ l) i 0 ≡ get_or r i 0 = get_or-append r l 0 in
     let w : (at : ℕ) → at + 4 ≤ length r → word_at (r ++ l) at ≡ word_at r at = word-alone r l in
@@ -107,8 +107,8 @@ record-alone wide r l n =
     simp (le-ltb (length (r ++ l)) (width_of wide) (omega (arith, length-append r l)), le-ltb (length r) (width_of wide) (omega arith), new-alone wide r l 32 (omega arith) n, new-alone wide r l 36 (omega arith) n, g 8 (omega arith), g 9 (omega arith), g 10 (omega arith), g 11 (omega arith), w 0 (omega arith), w 4 (omega arith), w 12 (omega arith), w 16 (omega arith), w 20 (omega arith), w 24 (omega arith), w 28 (omega arith))
 
 -- nothing stands in no bytes
-nothing-at : (wide : Bool) → recordAt wide [] ≡ ofNoKind 0
-unfolding recordAt width_of word_at
+nothing-at : (wide : Bool) → record_at wide [] ≡ of_no_kind 0
+unfolding record_at width_of word_at
 nothing-at true = refl
 nothing-at false = refl
 
@@ -119,15 +119,15 @@ module _ (s : List ℕ) (t : Trailer) where
   unfolding order_in
   order-past h = sym (order-short (drop t.order s) (few s t.order 64 (omega arith) (omega arith)))
 
-  pub order-there : {r : ReadOrder} → r ≡ readOrder (take (length s - t.order) (drop t.order s)) → r ≡ order_in s t
+  pub order-there : {r : ReadOrder} → r ≡ read_order (take (length s - t.order) (drop t.order s)) → r ≡ order_in s t
   unfolding order_in
-  order-there e = e ∙ ap readOrder (rest-is s t.order)
+  order-there e = e ∙ ap read_order (rest-is s t.order)
 
   -- nothing is left to read
-  pub record-past : (k : ℕ) → length s < eventPlace t.wide t.order k → ofNoKind 0 ≡ recordIn s t k
-  unfolding recordIn
-  record-past k h = let past : length s ≤ eventPlace t.wide t.order k = omega arith in sym (nothing-at t.wide) ∙ ap (recordAt t.wide) (sym (drop_of_length-le s past))
+  pub record-past : (k : ℕ) → length s < event_place t.wide t.order k → of_no_kind 0 ≡ record_in s t k
+  unfolding record_in
+  record-past k h = let past : length s ≤ event_place t.wide t.order k = omega arith in sym (nothing-at t.wide) ∙ ap (record_at t.wide) (sym (drop_of_length-le s past))
 
-  pub record-there : (k : ℕ) {r : Event} → r ≡ recordAt t.wide (take (length s - eventPlace t.wide t.order k) (drop (eventPlace t.wide t.order k) s)) → r ≡ recordIn s t k
-  unfolding recordIn
-  record-there k e = e ∙ ap (recordAt t.wide) (rest-is s (eventPlace t.wide t.order k))
+  pub record-there : (k : ℕ) {r : Event} → r ≡ record_at t.wide (take (length s - event_place t.wide t.order k) (drop (event_place t.wide t.order k) s)) → r ≡ record_in s t k
+  unfolding record_in
+  record-there k e = e ∙ ap (record_at t.wide) (rest-is s (event_place t.wide t.order k))

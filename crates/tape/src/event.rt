@@ -1,6 +1,6 @@
 // The event record: 32 bytes on an old tape; 40 on a new one, which is `wide` and has the participant.
 ghost use Rattle.std.specs.Prelude.{◌≡◌, ◌≤◌, length};
-ghost use Rattle.tape.specs.rules.Records.{width_of, newWord, eventOf, eventSpare, ofNoKind, recordAt, readEvent, eventHeld, eventAnswer, eventWrote};
+ghost use Rattle.tape.specs.rules.Records.{width_of, new_word, event_of, event_spare, of_no_kind, record_at, read_event, event_held, event_answer, event_wrote};
 
 use crate::Written;
 use crate::form::event_form;
@@ -37,7 +37,7 @@ pub fn event_bytes(wide: bool) -> usize
 
 // A word that only a new record has; 0 in an old one.
 fn new_word(wide: bool, s: &[u8], at: usize) -> u32
-    ensures { result ≡ newWord wide s.now at }
+    ensures { result ≡ new_word wide s.now at }
 {
     if wide { read_word(s, at) } else { 0 }
 }
@@ -45,7 +45,7 @@ fn new_word(wide: bool, s: &[u8], at: usize) -> u32
 // The bytes that no field has are zero.
 fn event_spare(wide: bool, s: &[u8]) -> bool
     requires { 32 ≤ length s.now }
-    ensures { result ≡ eventSpare wide s.now }
+    ensures { result ≡ event_spare wide s.now }
 {
     (s[11] == 0) & (read_word(s, 28) == 0) & (new_word(wide, s, 36) == 0)
 }
@@ -53,7 +53,7 @@ fn event_spare(wide: bool, s: &[u8]) -> bool
 // The fields, in their places.
 fn event_of(wide: bool, s: &[u8]) -> Event
     requires { 32 ≤ length s.now }
-    ensures { result ≡ eventOf wide s.now }
+    ensures { result ≡ event_of wide s.now }
 {
     Event {
         sequence: read_word(s, 0),
@@ -71,7 +71,7 @@ fn event_of(wide: bool, s: &[u8]) -> Event
 
 // An event of no kind, which no auction takes.
 pub(crate) fn of_no_kind(sequence: u32) -> Event
-    ensures { result ≡ ofNoKind sequence }
+    ensures { result ≡ of_no_kind sequence }
 {
     Event {
         sequence,
@@ -89,7 +89,7 @@ pub(crate) fn of_no_kind(sequence: u32) -> Event
 
 // The event that stands in the record at the start of lent bytes, in form or not.
 pub fn record_at(wide: bool, s: &[u8]) -> Event
-    ensures { result ≡ recordAt wide s.now }
+    ensures { result ≡ record_at wide s.now }
 {
     if s.len() < event_bytes(wide) {
         return of_no_kind(read_word(s, 0));
@@ -102,7 +102,7 @@ pub fn record_at(wide: bool, s: &[u8]) -> Event
 
 // The event at the start of lent bytes: 24, then 32.
 pub fn read_event(wide: bool, s: &[u8]) -> ReadEvent
-    ensures { result ≡ readEvent wide s.now }
+    ensures { result ≡ read_event wide s.now }
 {
     if s.len() < event_bytes(wide) {
         return ReadEvent::Refused(24);
@@ -117,15 +117,15 @@ pub fn read_event(wide: bool, s: &[u8]) -> ReadEvent
 
 // Whether a record can hold an event: it is in form, and an old record has no participant.
 fn event_held(wide: bool, e: Event) -> bool
-    ensures { result ≡ eventHeld wide e }
+    ensures { result ≡ event_held wide e }
 {
     event_form(e) & (wide | (e.participant == 0))
 }
 
 // The event into the start of lent bytes: 32, then 24; a refusal changes no byte.
 pub fn write_event(wide: bool, e: Event, out: &mut [u8]) -> Written
-    ensures value { result ≡ eventAnswer wide e out.old }
-    ensures out_after { out.new ≡ eventWrote wide e out.old }
+    ensures value { result ≡ event_answer wide e out.old }
+    ensures out_after { out.new ≡ event_wrote wide e out.old }
 {
     if !event_held(wide, e) {
         return Written::Refused(32);

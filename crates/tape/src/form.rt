@@ -1,6 +1,6 @@
 // The stated form of an order and of an event.
 ghost use Rattle.std.specs.Prelude.{◌≡◌, true};
-ghost use Rattle.tape.specs.rules.Form.{all_from, collarFormed, orderFormed, inside, shapeTests, eventFormed};
+ghost use Rattle.tape.specs.rules.Form.{all_from, collar_formed, order_formed, inside, shape_tests, event_formed};
 
 use crate::event::Event;
 use crate::order::Order;
@@ -8,7 +8,7 @@ use words::bits::mark;
 
 // There is no collared order, or its displayed price, the collar and the result are prices. The result of a sell is their sum; that of a buy, the difference, is a price where the collar is below the displayed price.
 fn collar_form(side: u8, displayed: u32, collar: u32) -> bool
-    ensures { result ≡ collarFormed side displayed collar }
+    ensures { result ≡ collar_formed side displayed collar }
 {
     let sum = base::wide(displayed) + base::wide(collar);
     ((displayed == 0) & (collar == 0))
@@ -19,7 +19,7 @@ fn collar_form(side: u8, displayed: u32, collar: u32) -> bool
 
 // Every field of an order is in its range: one test with no branch.
 pub fn order_form(o: Order) -> bool
-    ensures { result ≡ orderFormed o }
+    ensures { result ≡ order_formed o }
 {
     ((1 <= o.side) & (o.side <= 2))
         & ((1 <= o.mode) & (o.mode <= 3))
@@ -172,7 +172,7 @@ fn wide(x: u8) -> u32
 
 // An event's fields fit a row of the table.
 fn fits(e: Event, s: Shape) -> bool
-    ensures { result ≡ all_from true (shapeTests s e) }
+    ensures { result ≡ all_from true (shape_tests s e) }
 {
     (e.time <= 86400000)
         & within(wide(e.marks), s.marks)
@@ -186,7 +186,7 @@ fn fits(e: Event, s: Shape) -> bool
 
 // An event is in the form of its kind: the kind is told first, so that each row is tested on constants.
 pub fn event_form(e: Event) -> bool
-    ensures { result ≡ eventFormed e }
+    ensures { result ≡ event_formed e }
 {
     if e.kind == 1 {
         return fits(e, GTX);

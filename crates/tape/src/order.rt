@@ -1,6 +1,6 @@
 // The order record, 64 bytes.
 ghost use Rattle.std.specs.Prelude.{◌≡◌, ◌≤◌, length};
-ghost use Rattle.tape.specs.rules.Records.{order_of, orderSpare, readOrder, orderAnswer, orderWrote};
+ghost use Rattle.tape.specs.rules.Records.{order_of, order_spare, read_order, order_answer, order_wrote};
 
 use crate::form::order_form;
 use crate::{ORDER_BYTES, Written};
@@ -37,7 +37,7 @@ pub enum ReadOrder {
 // The bytes that no field has are zero.
 fn order_spare(s: &[u8]) -> bool
     requires { 64 ≤ length s.now }
-    ensures { result ≡ orderSpare s.now }
+    ensures { result ≡ order_spare s.now }
 {
     (s[3] == 0) & (read_word(s, 56) == 0) & (read_word(s, 60) == 0)
 }
@@ -69,7 +69,7 @@ fn order_of(s: &[u8]) -> Order
 
 // The order at the start of lent bytes: 24, then 1.
 pub fn read_order(s: &[u8]) -> ReadOrder
-    ensures { result ≡ readOrder s.now }
+    ensures { result ≡ read_order s.now }
 {
     if s.len() < ORDER_BYTES {
         return ReadOrder::Refused(24);
@@ -84,8 +84,8 @@ pub fn read_order(s: &[u8]) -> ReadOrder
 
 // The order into the start of lent bytes: 1, then 24; a refusal changes no byte.
 pub fn write_order(o: Order, out: &mut [u8]) -> Written
-    ensures value { result ≡ orderAnswer o out.old }
-    ensures out_after { out.new ≡ orderWrote o out.old }
+    ensures value { result ≡ order_answer o out.old }
+    ensures out_after { out.new ≡ order_wrote o out.old }
 {
     if !order_form(o) {
         return Written::Refused(1);

@@ -1,7 +1,7 @@
 // A tape's records one by one, where its trailer says that they stand. No other crate knows those places.
 ghost use Rattle.std.specs.Prelude.{◌≡◌, ◌/◌};
 ghost use Rattle.tape.specs.rules.Records.{width_of};
-ghost use Rattle.tape.specs.rules.Tape.{order_in, recordIn};
+ghost use Rattle.tape.specs.rules.Tape.{order_in, record_in};
 
 use crate::ORDER_BYTES;
 use crate::event::{Event, event_bytes, of_no_kind, record_at};
@@ -28,7 +28,7 @@ fn whole_records(wide: bool, room: usize) -> usize
 
 // The event that stands in record k, counted from 0, in form or not: one of no kind where the bytes that should be zero are not, or end before the record does.
 pub fn record_in(s: &[u8], t: Trailer, k: usize) -> Event
-    ensures { result ≡ recordIn s.now t k }
+    ensures { result ≡ record_in s.now t k }
 {
     let n = s.len();
     let first = (t.order as usize) + ORDER_BYTES;

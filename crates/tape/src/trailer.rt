@@ -1,7 +1,7 @@
 // The trailer, 16 bytes, and a tape's opening by it.
 ghost use Rattle.std.specs.Prelude.{◌≡◌};
-ghost use Rattle.tape.specs.rules.Records.{first_word, readTrailer, trailerAnswer, trailerWrote};
-ghost use Rattle.tape.specs.rules.Tape.{length_of, lastTrailer, openTape};
+ghost use Rattle.tape.specs.rules.Records.{first_word, read_trailer, trailer_answer, trailer_wrote};
+ghost use Rattle.tape.specs.rules.Tape.{length_of, last_trailer, open_tape};
 
 use crate::Written;
 use crate::event::event_bytes;
@@ -36,7 +36,7 @@ const CUB2: u32 = 843208003;
 
 // The trailer at the start of lent bytes: 24, then 22.
 pub fn read_trailer(s: &[u8]) -> ReadTrailer
-    ensures { result ≡ readTrailer s.now }
+    ensures { result ≡ read_trailer s.now }
 {
     if s.len() < 16 {
         return ReadTrailer::Refused(24);
@@ -62,8 +62,8 @@ fn first_word(wide: bool) -> u32
 
 // Any trailer into the start of lent bytes: 24 alone refuses it, and changes no byte.
 pub fn write_trailer(t: Trailer, out: &mut [u8]) -> Written
-    ensures value { result ≡ trailerAnswer t out.old }
-    ensures out_after { out.new ≡ trailerWrote t out.old }
+    ensures value { result ≡ trailer_answer t out.old }
+    ensures out_after { out.new ≡ trailer_wrote t out.old }
 {
     if out.len() < 16 {
         return Written::Refused(24);
@@ -82,7 +82,7 @@ pub fn length_of(t: Trailer) -> u64
 
 // A tape's trailer, its last 16 bytes: 21, 22.
 pub fn last_trailer(s: &[u8]) -> ReadTrailer
-    ensures { result ≡ lastTrailer s.now }
+    ensures { result ≡ last_trailer s.now }
 {
     let n = s.len();
     if (n < 16) | (65536 < n) {
@@ -94,7 +94,7 @@ pub fn last_trailer(s: &[u8]) -> ReadTrailer
 
 // Where a tape's order is, how many events it has and of which form, by its last 16 bytes: 21, 22, 23.
 pub fn open_tape(s: &[u8]) -> Opened
-    ensures { result ≡ openTape s.now }
+    ensures { result ≡ open_tape s.now }
 {
     match last_trailer(s) {
         ReadTrailer::Trailer(t) => {

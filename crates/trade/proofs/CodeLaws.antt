@@ -7,51 +7,51 @@ use native.Mathlib.Omega.{arith}
 use borrow.Author.Tests.{ne_eqb}
 use lib.Dec.{eqb}
 use lib.ListN.{length, get_or}
-use Rattle.words.specs.rules.Bits.{bit_at, withoutBit, count_trailing_zeros}
+use Rattle.words.specs.rules.Bits.{bit_at, without_bit, count_trailing_zeros}
 use Rattle.words.proofs.BitLaws.{without-lt, lowest_set}
 use Rattle.board.specs.declared.Response.{Response}
 use Rattle.base.specs.Lists.{keep, filter, sum}
-use Rattle.board.specs.rules.Board.{noResponse, live_in}
+use Rattle.board.specs.rules.Board.{no_response, live_in}
 use Rattle.board.proofs.LiveLaws.{none-live, first_live}
 use Rattle.share.specs.rules.Share.{fractions}
 use Rattle.share.specs.rules.Fills.{sizes}
-use Rattle.trade.specs.rules.Trade.{guaranteeOf}
-use Rattle.trade.specs.inside.Code.{sharedOf, contraOf, leastOf, fractionsIn}
+use Rattle.trade.specs.rules.Trade.{guarantee_of}
+use Rattle.trade.specs.inside.Code.{shared_of, contra_of, least_of, fractions_in}
 
 -- ---- numbers
 
-pub shared-is : (left C want a b : ℕ) → a ≡ min left C → b ≡ min (left - a) want → left - a - b ≡ sharedOf left C want
-unfolding sharedOf
+pub shared-is : (left C want a b : ℕ) → a ≡ min left C → b ≡ min (left - a) want → left - a - b ≡ shared_of left C want
+unfolding shared_of
 shared-is left C want a b e f = let x : left - a ≡ left - C = omega arith in rw (f, x)
 
-pub shared-le : (left C want : ℕ) → sharedOf left C want ≤ left
-unfolding sharedOf
+pub shared-le : (left C want : ℕ) → shared_of left C want ≤ left
+unfolding shared_of
 shared-le left C want = omega arith
 
 -- the Contra Order's first part, and all the rest where it is to have it
-pub contra-last : (left C T want a b s c : ℕ) → a ≡ min left C → b ≡ min (left - a) want → s ≡ sharedOf left C want → c ≡ min s T → b + (s - c) ≡ contraOf left C T want true
-unfolding contraOf
+pub contra-last : (left C T want a b s c : ℕ) → a ≡ min left C → b ≡ min (left - a) want → s ≡ shared_of left C want → c ≡ min s T → b + (s - c) ≡ contra_of left C T want true
+unfolding contra_of
 contra-last left C T want a b s c e f g h =
     let x : left - a ≡ left - C = omega arith in
     let y : b ≡ min (left - C) want = f ∙ ap (λ (n : ℕ). min n want) x in
     let z : s - c ≡ s - T = omega arith in
     rw (y, z, g)
 
-pub contra-open : (left C T want a b : ℕ) → a ≡ min left C → b ≡ min (left - a) want → b ≡ contraOf left C T want false
-unfolding contraOf
+pub contra-open : (left C T want a b : ℕ) → a ≡ min left C → b ≡ min (left - a) want → b ≡ contra_of left C T want false
+unfolding contra_of
 contra-open left C T want a b e f =
     let x : left - a ≡ left - C = omega arith in
     f ∙ ap (λ (n : ℕ). min n want) x ∙ omega arith
 
-pub contra-fits : (left C want a b s : ℕ) → a ≡ min left C → b ≡ min (left - a) want → s ≡ sharedOf left C want → b + s ≤ left
-unfolding sharedOf
+pub contra-fits : (left C want a b s : ℕ) → a ≡ min left C → b ≡ min (left - a) want → s ≡ shared_of left C want → b + s ≤ left
+unfolding shared_of
 contra-fits left C want a b s e f g =
     let x : left - a ≡ left - C = omega arith in
     let y : b ≡ min (left - C) want = f ∙ ap (λ (n : ℕ). min n want) x in
     omega arith
 
-pub guarantee-is : (size n g : ℕ) → g ≡ cond (eqb n 1) (size * 5 / 10) (size * 4 / 10) → max 1 g ≡ guaranteeOf size n
-unfolding guaranteeOf
+pub guarantee-is : (size n g : ℕ) → g ≡ cond (eqb n 1) (size * 5 / 10) (size * 4 / 10) → max 1 g ≡ guarantee_of size n
+unfolding guarantee_of
 guarantee-is size n g e = rw e
 
 -- ---- a turn of a loop over the places of a word: i is the lowest of rest
@@ -59,13 +59,13 @@ guarantee-is size n g e = rw e
 pub record Turn (ps : List Response) (rest i : ℕ) : Type 0 where
   pub low : i < 64
   pub set : bit_at rest i ≡ true
-  pub less : withoutBit rest i < rest
-  pub cons : live_in rest ps ≡ get_or ps i noResponse ∷ live_in (withoutBit rest i) ps
+  pub less : without_bit rest i < rest
+  pub cons : live_in rest ps ≡ get_or ps i no_response ∷ live_in (without_bit rest i) ps
 
 pub turn-of : (ps : List Response) (rest i : ℕ) → length ps ≡ 64 → 0 < rest → rest < 2 ^ 64 → i ≡ count_trailing_zeros 64 rest → Turn ps rest i
 turn-of ps rest i e p h q =
     let t = lowest_set rest i p h q in
-    record { low = t.place; set = t.set; less = without-lt rest i t.set; cons = first_live rest i ps noResponse (omega (arith, t.place)) t }
+    record { low = t.place; set = t.set; less = without-lt rest i t.set; cons = first_live rest i ps no_response (omega (arith, t.place)) t }
 
 -- ---- the places to look at: none, where what is looked for is known
 
@@ -79,37 +79,37 @@ unseen-all n w h = ap (λ (b : Bool). cond b 0 w) (ne_eqb n 0 (λ z. omega arith
 
 -- ---- what a scan has to go
 
-pub least-none : (bound last : ℕ) (ps : List Response) → leastOf bound last (live_in 0 ps) ≡ last
-unfolding leastOf
+pub least-none : (bound last : ℕ) (ps : List Response) → least_of bound last (live_in 0 ps) ≡ last
+unfolding least_of
 least-none bound last ps = rw (none-live ps)
 
 pub least-turn : (bound last best : ℕ) (ps : List Response) (rest i : ℕ) → Turn ps rest i
-    → min best (leastOf bound last (live_in rest ps)) ≡ min (min (max (get_or ps i noResponse).price bound) best) (leastOf bound last (live_in (withoutBit rest i) ps))
-unfolding leastOf
+    → min best (least_of bound last (live_in rest ps)) ≡ min (min (max (get_or ps i no_response).price bound) best) (least_of bound last (live_in (without_bit rest i) ps))
+unfolding least_of
 least-turn bound last best ps rest i t = rw t.cons (omega arith)
 
-pub least-le : (bound last : ℕ) (rs : List Response) → leastOf bound last rs ≤ last
-unfolding leastOf
+pub least-le : (bound last : ℕ) (rs : List Response) → least_of bound last rs ≤ last
+unfolding least_of
 least-le bound last [] = omega arith
 least-le bound last (r ∷ rs) = omega (arith, least-le bound last rs)
 
 pub sizes-turn : (t : Response → Bool) (ps : List Response) (rest i : ℕ) → Turn ps rest i
-    → sum (sizes (filter t (live_in rest ps))) ≡ cond (t (get_or ps i noResponse)) (get_or ps i noResponse).size 0 + sum (sizes (filter t (live_in (withoutBit rest i) ps)))
+    → sum (sizes (filter t (live_in rest ps))) ≡ cond (t (get_or ps i no_response)) (get_or ps i no_response).size 0 + sum (sizes (filter t (live_in (without_bit rest i) ps)))
 unfolding sum filter
-sizes-turn t ps rest i k = rw k.cons (go (t (get_or ps i noResponse)))
+sizes-turn t ps rest i k = rw k.cons (go (t (get_or ps i no_response)))
   where
-    go : (b : Bool) → sum (sizes (keep b (get_or ps i noResponse) (filter t (live_in (withoutBit rest i) ps)))) ≡ cond b (get_or ps i noResponse).size 0 + sum (sizes (filter t (live_in (withoutBit rest i) ps)))
+    go : (b : Bool) → sum (sizes (keep b (get_or ps i no_response) (filter t (live_in (without_bit rest i) ps)))) ≡ cond b (get_or ps i no_response).size 0 + sum (sizes (filter t (live_in (without_bit rest i) ps)))
     go true = refl
     go false = omega arith
 
-pub fractions-turn : (R T : ℕ) (ps : List Response) (rest i : ℕ) → Turn ps rest i → fractionsIn R T ps rest ≡ (R * (get_or ps i noResponse).size % T) ∷ fractionsIn R T ps (withoutBit rest i)
+pub fractions-turn : (R T : ℕ) (ps : List Response) (rest i : ℕ) → Turn ps rest i → fractions_in R T ps rest ≡ (R * (get_or ps i no_response).size % T) ∷ fractions_in R T ps (without_bit rest i)
 fractions-turn R T ps rest i t = ap (λ (rs : List Response). fractions R T (sizes rs)) t.cons
 
 pub sizes-none : (t : Response → Bool) (ps : List Response) → sum (sizes (filter t (live_in 0 ps))) ≡ 0
 unfolding sum filter
 sizes-none t ps = rw (none-live ps)
 
-pub fractions-none : (R T : ℕ) (ps : List Response) → fractionsIn R T ps 0 ≡ []
+pub fractions-none : (R T : ℕ) (ps : List Response) → fractions_in R T ps 0 ≡ []
 fractions-none R T ps = rw (none-live ps)
 
 pub fractions-length : (R T : ℕ) (rs : List Response) → length (fractions R T (sizes rs)) ≡ length rs
@@ -117,7 +117,7 @@ fractions-length R T [] = refl
 fractions-length R T (r ∷ rs) = omega (arith, fractions-length R T rs)
 
 -- one place less to go
-pub count_turn : (ps : List Response) (rest i : ℕ) → Turn ps rest i → length (live_in rest ps) ≡ suc (length (live_in (withoutBit rest i) ps))
+pub count_turn : (ps : List Response) (rest i : ℕ) → Turn ps rest i → length (live_in rest ps) ≡ suc (length (live_in (without_bit rest i) ps))
 count_turn ps rest i t = rw t.cons
 
 pub live-short : {A : Type 0} (w : ℕ) (ps : List A) → length (live_in w ps) ≤ length ps

@@ -9,17 +9,17 @@ use lib.Dec.{ltb}
 use lib.ListN.{length}
 use Rattle.board.specs.declared.Response.{Response}
 use Rattle.base.specs.Lists.{keep, filter, sum}
-use Rattle.share.specs.rules.Fills.{Fill, fillOf, fillsBy, sizes}
-use Rattle.trade.specs.rules.Trade.{fromCustomer, fromOther, others, traded, fills}
+use Rattle.share.specs.rules.Fills.{Fill, fill_of, fills_by, sizes}
+use Rattle.trade.specs.rules.Trade.{from_customer, from_other, others, traded, fills}
 
 -- Customers and others together are all
-pub sizes-split : (os : List Response) → sum (sizes (filter fromCustomer os)) + sum (sizes (filter fromOther os)) ≡ sum (sizes os)
+pub sizes-split : (os : List Response) → sum (sizes (filter from_customer os)) + sum (sizes (filter from_other os)) ≡ sum (sizes os)
 unfolding filter sum
 sizes-split [] = refl
 sizes-split (o ∷ os) = go o.customer (sizes-split os)
   where
-    go : (b : Bool) → sum (sizes (filter fromCustomer os)) + sum (sizes (filter fromOther os)) ≡ sum (sizes os)
-        → sum (sizes (keep b o (filter fromCustomer os))) + sum (sizes (keep (not b) o (filter fromOther os))) ≡ o.size + sum (sizes os)
+    go : (b : Bool) → sum (sizes (filter from_customer os)) + sum (sizes (filter from_other os)) ≡ sum (sizes os)
+        → sum (sizes (keep b o (filter from_customer os))) + sum (sizes (keep (not b) o (filter from_other os))) ≡ o.size + sum (sizes os)
     go true h = omega arith
     go false h = omega arith
 
@@ -27,17 +27,17 @@ pub total-append : (fs gs : List Fill) → traded (fs ++ gs) ≡ traded fs + tra
 total-append [] gs = omega arith
 total-append (f ∷ fs) gs = omega (arith, total-append fs gs)
 
-pub total-fill : (k p q : ℕ) → traded (fillOf k p q) ≡ q
+pub total-fill : (k p q : ℕ) → traded (fill_of k p q) ≡ q
 total-fill k p q = go (ltb 0 q) refl
   where
     go : (b : Bool) → ltb 0 q ≡ b → traded (keep b (record { party = k; price = p; quantity = q }) []) ≡ q
     go true e = omega arith
     go false e = omega (arith, ltb-false 0 q e)
 
-pub total-by : (p : ℕ) (os : List Response) (qs : List ℕ) → length qs ≡ length (sizes os) → traded (fillsBy p os qs) ≡ sum qs
+pub total-by : (p : ℕ) (os : List Response) (qs : List ℕ) → length qs ≡ length (sizes os) → traded (fills_by p os qs) ≡ sum qs
 unfolding sum
 total-by p [] [] e = refl
 total-by p [] (q ∷ qs) e = let f : ⊥ = omega arith in absurd f
 total-by p (o ∷ os) [] e = let f : ⊥ = omega arith in absurd f
 total-by p (o ∷ os) (q ∷ qs) e =
-    omega (arith, total-append (fillOf o.sequence p q) (fillsBy p os qs), total-fill o.sequence p q, total-by p os qs (omega arith))
+    omega (arith, total-append (fill_of o.sequence p q) (fills_by p os qs), total-fill o.sequence p q, total-by p os qs (omega arith))

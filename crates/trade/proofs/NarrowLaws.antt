@@ -9,43 +9,43 @@ use native.Mathlib.Omega.{arith}
 use borrow.Author.Tests.{le-leb, lt-leb, eqb-true, eqb-false}
 use lib.Dec.{leb, ltb, eqb}
 use lib.ListN.{length, get_or}
-use Rattle.words.specs.rules.Bits.{withBit, withoutBit, ones_in}
+use Rattle.words.specs.rules.Bits.{with_bit, without_bit, ones_in}
 use Rattle.base.specs.Lists.{keep, filter, sum}
 use Rattle.base.proofs.Numbers.{le-or-lt}
 use Rattle.base.proofs.ListLaws.{filter-length}
 use Rattle.board.specs.declared.Response.{Response}
-use Rattle.board.specs.rules.Board.{noResponse, live_in}
+use Rattle.board.specs.rules.Board.{no_response, live_in}
 use Rattle.board.specs.inside.Places.{word_of}
 use Rattle.board.proofs.LiveLaws.{none-live, count-live, word-filters, Sifted, sift-start, sift-step, sift-end}
-use Rattle.share.specs.rules.Share.{fractions, leftoverCount, howMany}
+use Rattle.share.specs.rules.Share.{fractions, leftover_count, how_many}
 use Rattle.share.specs.rules.Fills.{sizes}
 use Rattle.share.specs.inside.Cut.{Cuts}
 use Rattle.share.proofs.ShareLaws.{wholes, left-at-most, cut-whole}
 use Rattle.share.proofs.CutLaws.{cut-upper, cut-lower, cut_level, some_upper, upper-lower}
 use Rattle.trade.specs.declared.Among.{Among}
 use Rattle.trade.specs.declared.Upper.{Upper}
-use Rattle.trade.specs.inside.Code.{fractionsIn, Short, noCut, meanOf, amongOf, countedOf, narrowedOf}
+use Rattle.trade.specs.inside.Code.{fractions_in, Short, no_cut, mean_of, among_of, counted_of, narrowed_of}
 use Rattle.trade.proofs.CodeLaws.{Turn, fractions-turn, fractions-none, fractions-length, live-short}
 use Rattle.trade.proofs.StepLaws.{word-le, word-rest}
 
 -- ---- the mean of n numbers, rounded up
 
-mean-enough : (total n : ℕ) → 0 < n → total ≤ meanOf total n * n
-unfolding meanOf
+mean-enough : (total n : ℕ) → 0 < n → total ≤ mean_of total n * n
+unfolding mean_of
 mean-enough total n h = omega (arith, div-add-mod' (total + n - 1) n, mod-lt (total + n - 1) h)
 
-mean-least : (total n : ℕ) → 0 < n → meanOf total n * n < total + n
-unfolding meanOf
+mean-least : (total n : ℕ) → 0 < n → mean_of total n * n < total + n
+unfolding mean_of
 mean-least total n h = omega (arith, div-add-mod' (total + n - 1) n)
 
 -- ---- the half that has the cut
 
-pub narrowed-upper : (a : Among) (u : Upper) → a.leftovers ≤ ones_in 64 u.word → amongOf u.word u.sum a.leftovers ≡ narrowedOf a u
-unfolding narrowedOf
+pub narrowed-upper : (a : Among) (u : Upper) → a.leftovers ≤ ones_in 64 u.word → among_of u.word u.sum a.leftovers ≡ narrowed_of a u
+unfolding narrowed_of
 narrowed-upper a u h = rw (le-leb a.leftovers (ones_in 64 u.word) h)
 
-pub narrowed-lower : (a : Among) (u : Upper) → ones_in 64 u.word < a.leftovers → amongOf (a.word - u.word) (a.sum - u.sum) (a.leftovers - ones_in 64 u.word) ≡ narrowedOf a u
-unfolding narrowedOf
+pub narrowed-lower : (a : Among) (u : Upper) → ones_in 64 u.word < a.leftovers → among_of (a.word - u.word) (a.sum - u.sum) (a.leftovers - ones_in 64 u.word) ≡ narrowed_of a u
+unfolding narrowed_of
 narrowed-lower a u h = rw (lt-leb a.leftovers (ones_in 64 u.word) h)
 
 -- ---- sums by a test
@@ -71,10 +71,10 @@ sum-cons t x xs = go (t x)
 
 module _ (R T : ℕ) (ps : List Response) where
   abbrev fs : ℕ → List ℕ
-  fs w = fractionsIn R T ps w
+  fs w = fractions_in R T ps w
 
-  abbrev isUpper : ℕ → Response → Bool
-  isUpper mean r = leb mean (R * r.size % T)
+  abbrev is_upper : ℕ → Response → Bool
+  is_upper mean r = leb mean (R * r.size % T)
 
   -- places among which the cut of k over the word is looked for
   pub record Seeks (word k : ℕ) (a : Among) : Type 0 where
@@ -83,14 +83,14 @@ module _ (R T : ℕ) (ps : List Response) where
     pub low : a.sum ≤ 70368744161280
     pub some : 0 < a.leftovers
     pub enough : a.leftovers ≤ ones_in 64 a.word
-    pub mean-is : a.mean ≡ meanOf a.sum (ones_in 64 a.word)
+    pub mean-is : a.mean ≡ mean_of a.sum (ones_in 64 a.word)
     -- a cut among them is the one
     pub leads : (c s : ℕ) → 0 < s → Cuts a.leftovers (fs a.word) c s → Cuts k (fs word) c s
 
   -- of these, u has the upper ones, but for those of rest, which are still to be looked at
   pub record Looked (a : Among) (u : Upper) (rest : ℕ) : Type 0 where
     pub fit : rest < 2 ^ 64
-    pub sifted : Sifted (isUpper a.mean) ps a.word u.word rest
+    pub sifted : Sifted (is_upper a.mean) ps a.word u.word rest
     pub upper : sum (filter (leb a.mean) (fs a.word)) ≡ u.sum + sum (filter (leb a.mean) (fs rest))
 
   -- the upper ones and the others are some each, and the half that has the cut is less than all
@@ -99,8 +99,8 @@ module _ (R T : ℕ) (ps : List Response) where
     pub upper-low : u.sum ≤ a.sum
     pub upper-some : 0 < ones_in 64 u.word
     pub others-some : ones_in 64 u.word < a.leftovers → 0 < ones_in 64 (a.word - u.word)
-    pub seeks : Seeks word k (narrowedOf a u)
-    pub less : (narrowedOf a u).word < a.word
+    pub seeks : Seeks word k (narrowed_of a u)
+    pub less : (narrowed_of a u).word < a.word
 
 module _ (R T : ℕ) (ps : List Response) (e : length ps ≡ 64) where
   fractions-filter : (t : ℕ → Bool) (rs : List Response) → fractions R T (sizes (filter (λ r. t (R * r.size % T)) rs)) ≡ filter t (fractions R T (sizes rs))
@@ -117,14 +117,14 @@ module _ (R T : ℕ) (ps : List Response) (e : length ps ≡ 64) where
   many w = fractions-length R T (live_in w ps) ∙ sym (ap (λ (n : ℕ). ones_in n w) (sym e) ∙ count-live w ps)
 
   seeks-of : (word k w total leftovers : ℕ) → w < 2 ^ 64 → total ≡ sum (fs R T ps w) → total ≤ 70368744161280 → 0 < leftovers → leftovers ≤ ones_in 64 w
-      → ((c s : ℕ) → 0 < s → Cuts leftovers (fs R T ps w) c s → Cuts k (fs R T ps word) c s) → Seeks R T ps word k (amongOf w total leftovers)
-  unfolding amongOf
+      → ((c s : ℕ) → 0 < s → Cuts leftovers (fs R T ps w) c s → Cuts k (fs R T ps word) c s) → Seeks R T ps word k (among_of w total leftovers)
+  unfolding among_of
   seeks-of word k w total leftovers f s l p n g = record { fit = f; sum_is = s; low = l; some = p; enough = n; mean-is = refl; leads = g }
 
   -- all of the word, at the start: their fractions come to total
   module _ (word total : ℕ) (v : Short ps word R T) (q : total ≡ sum (fs R T ps word)) where
     abbrev left : ℕ
-    left = leftoverCount R (sizes (live_in word ps))
+    left = leftover_count R (sizes (live_in word ps))
 
     positive : 0 < sum (sizes (live_in word ps))
     positive = omega (arith, v.total-is, v.short)
@@ -137,27 +137,27 @@ module _ (R T : ℕ) (ps : List Response) (e : length ps ≡ 64) where
 
     start-many : left ≤ ones_in 64 word
     start-many =
-        let m : left ≤ howMany (ltb 0) (fs R T ps word) = rw v.total-is (left-at-most R (sizes (live_in word ps)) positive) in
+        let m : left ≤ how_many (ltb 0) (fs R T ps word) = rw v.total-is (left-at-most R (sizes (live_in word ps)) positive) in
         omega (arith, m, filter-length (ltb 0) (fs R T ps word), many word)
 
     pub start-some : 0 < total / T → 0 < ones_in 64 word
     start-some p = omega (arith, start-many, wholes-left)
 
-    pub seeks-start : total ≤ 70368744161280 → 0 < total / T → word < 2 ^ 64 → Seeks R T ps word left (amongOf word total (total / T))
+    pub seeks-start : total ≤ 70368744161280 → 0 < total / T → word < 2 ^ 64 → Seeks R T ps word left (among_of word total (total / T))
     seeks-start l p h = rw wholes-left (seeks-of word left word total left h q l (rw wholes-left at p) start-many (λ c s _ g. g))
 
   pub looked-start : (a : Among) (rest : ℕ) → rest ≡ a.word → rest < 2 ^ 64 → Looked R T ps a (record { word = 0; sum = 0 }) rest
-  looked-start a rest q h = rw q (record { fit = rw q at h; sifted = sift-start (isUpper R T ps a.mean) ps a.word; upper = omega arith })
+  looked-start a rest q h = rw q (record { fit = rw q at h; sifted = sift-start (is_upper R T ps a.mean) ps a.word; upper = omega arith })
 
-  pub looked-step : (a : Among) (u v : Upper) (rest i x : ℕ) → Turn ps rest i → x ≡ R * (get_or ps i noResponse).size % T
-      → v.word ≡ cond (leb a.mean x) (withBit u.word i) u.word → v.sum ≡ u.sum + cond (leb a.mean x) x 0 → withoutBit rest i < 2 ^ 64
-      → Looked R T ps a u rest → Looked R T ps a v (withoutBit rest i)
+  pub looked-step : (a : Among) (u v : Upper) (rest i x : ℕ) → Turn ps rest i → x ≡ R * (get_or ps i no_response).size % T
+      → v.word ≡ cond (leb a.mean x) (with_bit u.word i) u.word → v.sum ≡ u.sum + cond (leb a.mean x) x 0 → without_bit rest i < 2 ^ 64
+      → Looked R T ps a u rest → Looked R T ps a v (without_bit rest i)
   looked-step a u v rest i x t q w s f l =
-      let c : fs R T ps rest ≡ x ∷ fs R T ps (withoutBit rest i) = rw q (fractions-turn R T ps rest i t) in
+      let c : fs R T ps rest ≡ x ∷ fs R T ps (without_bit rest i) = rw q (fractions-turn R T ps rest i t) in
       record {
         fit = f;
-        sifted = rw (w, q) (sift-step (isUpper R T ps a.mean) ps a.word u.word rest i noResponse (omega (arith, t.low)) t.low t.set l.sifted);
-        upper = omega (arith, l.upper, s, ap (λ (xs : List ℕ). sum (filter (leb a.mean) xs)) c ∙ sum-cons (leb a.mean) x (fs R T ps (withoutBit rest i)));
+        sifted = rw (w, q) (sift-step (is_upper R T ps a.mean) ps a.word u.word rest i no_response (omega (arith, t.low)) t.low t.set l.sifted);
+        upper = omega (arith, l.upper, s, ap (λ (xs : List ℕ). sum (filter (leb a.mean) xs)) c ∙ sum-cons (leb a.mean) x (fs R T ps (without_bit rest i)));
       }
 
   module _ (word k : ℕ) (a : Among) (seeks : Seeks R T ps word k a) where
@@ -177,32 +177,32 @@ module _ (R T : ℕ) (ps : List Response) (e : length ps ≡ 64) where
     -- where all are upper, all are at the mean, and that is the cut
     pub cut-found : (u : Upper) (rest : ℕ) → Looked R T ps a u rest → u.word ≡ a.word → Cuts k (fs R T ps word) a.mean a.leftovers
     cut-found u rest l q =
-        let w : word_of (isUpper R T ps a.mean) a.word ps ≡ a.word = omega (arith, l.sifted.total, word-le (isUpper R T ps a.mean) a.word ps all_fit) in
+        let w : word_of (is_upper R T ps a.mean) a.word ps ≡ a.word = omega (arith, l.sifted.total, word-le (is_upper R T ps a.mean) a.word ps all_fit) in
         let f : filter (leb a.mean) (fs R T ps a.word) ≡ fs R T ps a.word =
-        sym (fractions-filter (leb a.mean) (live_in a.word ps)) ∙ ap (λ (rs : List Response). fractions R T (sizes rs)) (sym (word-filters (isUpper R T ps a.mean) a.word ps)) ∙ ap (fs R T ps) w in
+        sym (fractions-filter (leb a.mean) (live_in a.word ps)) ∙ ap (λ (rs : List Response). fractions R T (sizes rs)) (sym (word-filters (is_upper R T ps a.mean) a.word ps)) ∙ ap (fs R T ps) w in
         seeks.leads a.mean a.leftovers seeks.some
         (cut_level a.mean a.leftovers (fs R T ps a.word) (ap length f) (omega (arith, mean-at-least, seeks.sum_is)) (omega (arith, many a.word, seeks.enough)))
 
     -- else it is in one of the halves
     module _ (u : Upper) (l : Looked R T ps a u 0) (q : u.word ≡ a.word → ⊥) where
-      upper-word : u.word ≡ word_of (isUpper R T ps a.mean) a.word ps
-      upper-word = sift-end (isUpper R T ps a.mean) ps a.word u.word l.sifted
+      upper-word : u.word ≡ word_of (is_upper R T ps a.mean) a.word ps
+      upper-word = sift-end (is_upper R T ps a.mean) ps a.word u.word l.sifted
 
       uppers : fs R T ps u.word ≡ filter (leb a.mean) (fs R T ps a.word)
       uppers =
           ap (fs R T ps) upper-word
-          ∙ ap (λ (rs : List Response). fractions R T (sizes rs)) (word-filters (isUpper R T ps a.mean) a.word ps)
+          ∙ ap (λ (rs : List Response). fractions R T (sizes rs)) (word-filters (is_upper R T ps a.mean) a.word ps)
           ∙ fractions-filter (leb a.mean) (live_in a.word ps)
 
       upper_in : u.word ≤ a.word
-      upper_in = rw upper-word (word-le (isUpper R T ps a.mean) a.word ps all_fit)
+      upper_in = rw upper-word (word-le (is_upper R T ps a.mean) a.word ps all_fit)
 
       others : fs R T ps (a.word - u.word) ≡ filter (λ x. not (leb a.mean x)) (fs R T ps a.word)
       others =
-          ap (λ (rs : List Response). fractions R T (sizes rs)) (word-rest (isUpper R T ps a.mean) a.word (a.word - u.word) ps all_fit (omega (arith, upper-word, upper_in)))
+          ap (λ (rs : List Response). fractions R T (sizes rs)) (word-rest (is_upper R T ps a.mean) a.word (a.word - u.word) ps all_fit (omega (arith, upper-word, upper_in)))
           ∙ fractions-filter (λ x. not (leb a.mean x)) (live_in a.word ps)
 
-      upper-many : ones_in 64 u.word ≡ howMany (leb a.mean) (fs R T ps a.word)
+      upper-many : ones_in 64 u.word ≡ how_many (leb a.mean) (fs R T ps a.word)
       upper-many = sym (many u.word) ∙ ap length uppers
 
       upper-some : 0 < ones_in 64 u.word
@@ -223,7 +223,7 @@ module _ (R T : ℕ) (ps : List Response) (e : length ps ≡ 64) where
       others-sum = omega (arith, upper-sum, ap sum uppers, ap sum others, sum-split (leb a.mean) (fs R T ps a.word), seeks.sum_is)
 
       -- what is taken is a part of the places, and the cut is there
-      narrowed-seeks : Seeks R T ps word k (narrowedOf a u)
+      narrowed-seeks : Seeks R T ps word k (narrowed_of a u)
       narrowed-seeks =
           ⊎_elim
           (λ h. rw (← narrowed-upper a u h)
@@ -236,11 +236,11 @@ module _ (R T : ℕ) (ps : List Response) (e : length ps ≡ 64) where
         where
           lower : ones_in 64 u.word < a.leftovers → (c s : ℕ) → 0 < s → Cuts (a.leftovers - ones_in 64 u.word) (fs R T ps (a.word - u.word)) c s → Cuts a.leftovers (fs R T ps a.word) c s
           lower h c s p g =
-              let n : howMany (leb a.mean) (fs R T ps a.word) + (a.leftovers - ones_in 64 u.word) ≡ a.leftovers = omega (arith, upper-many) in
+              let n : how_many (leb a.mean) (fs R T ps a.word) + (a.leftovers - ones_in 64 u.word) ≡ a.leftovers = omega (arith, upper-many) in
               subst (λ (m : ℕ). Cuts m (fs R T ps a.word) c s) n (cut-lower a.mean (a.leftovers - ones_in 64 u.word) c s (fs R T ps a.word) p (rw (← others) g))
 
-      narrowed-less : (narrowedOf a u).word < a.word
-      unfolding amongOf
+      narrowed-less : (narrowed_of a u).word < a.word
+      unfolding among_of
       narrowed-less =
           ⊎_elim
           (λ h. rw (← narrowed-upper a u h) (⊎_elim (λ g. absurd (q (omega (arith, upper_in)))) (λ g. g) (le-or-lt a.word u.word)))
@@ -260,15 +260,15 @@ module _ (R T : ℕ) (ps : List Response) (e : length ps ≡ 64) where
 -- ---- the search over the places of a word
 
 -- what the search has still to do
-abbrev pub seekWork : List Response → Among → ℕ → ℕ
-seekWork ps a rest = a.word * 65 + length (live_in rest ps)
+abbrev pub seek_work : List Response → Among → ℕ → ℕ
+seek_work ps a rest = a.word * 65 + length (live_in rest ps)
 
 abbrev none : Upper
 none = record { word = 0; sum = 0 }
 
 module _ (R T : ℕ) (ps : List Response) (word : ℕ) where
   abbrev leftover : ℕ
-  leftover = leftoverCount R (sizes (live_in word ps))
+  leftover = leftover_count R (sizes (live_in word ps))
 
   -- where the search stands: there are places to look among, or there are no leftovers
   pub record Search (a : Among) (u : Upper) (rest : ℕ) : Type 0 where
@@ -304,15 +304,15 @@ module _ (R T : ℕ) (ps : List Response) (e : length ps ≡ 64) (word : ℕ) (v
     pub counts : (0 < T) × (total ≤ 70368744161280) × (0 < total / T → 0 < ones_in 64 word)
     counts = (omega (arith, v.short), omega (arith, sum_low word), start-some R T ps e word total v q)
 
-    pub search-start : Search R T ps word (countedOf false word total T) none (countedOf false word total T).word
-    unfolding countedOf noCut amongOf
+    pub search-start : Search R T ps word (counted_of false word total T) none (counted_of false word total T).word
+    unfolding counted_of no_cut among_of
     search-start = go (eqb (total / T) 0) refl
       where
-        go : (b : Bool) → eqb (total / T) 0 ≡ b → Search R T ps word (cond b (noCut T) (amongOf word total (total / T))) none (cond b (noCut T) (amongOf word total (total / T))).word
+        go : (b : Bool) → eqb (total / T) 0 ≡ b → Search R T ps word (cond b (no_cut T) (among_of word total (total / T))) none (cond b (no_cut T) (among_of word total (total / T))).word
         go true z =
             record {
               fit = omega arith;
-              looked = looked-start R T ps e (noCut T) 0 refl (omega arith);
+              looked = looked-start R T ps e (no_cut T) 0 refl (omega arith);
               whole = λ _. (refl, rw (sym (wholes-left R T ps e word total v q) ∙ eqb-true (total / T) 0 z) (cut-whole R T (sizes (live_in word ps)) (omega (arith, v.short))));
               seeks = λ h. absurd (omega arith);
             }
@@ -321,7 +321,7 @@ module _ (R T : ℕ) (ps : List Response) (e : length ps ≡ 64) (word : ℕ) (v
             let some : 0 < word = ones-some word (start-some R T ps e word total v q (omega arith)) in
             record {
               fit = fits;
-              looked = looked-start R T ps e (amongOf word total (total / T)) word refl fits;
+              looked = looked-start R T ps e (among_of word total (total / T)) word refl fits;
               whole = λ h. absurd (omega (arith, some));
               seeks = λ _. seeks-start R T ps e word total v q (omega (arith, sum_low word)) (omega arith) fits;
             }
@@ -330,9 +330,9 @@ module _ (R T : ℕ) (ps : List Response) (e : length ps ≡ 64) (word : ℕ) (v
   pub upper-within : (a : Among) (u : Upper) (rest : ℕ) → Search R T ps word a u rest → u.sum ≤ 70368744161280
   upper-within a u rest k = omega (arith, k.looked.upper, sum-split (leb a.mean) (fs R T ps a.word), sum_low a.word)
 
-  pub search-look : (a : Among) (u w : Upper) (rest i x : ℕ) → 0 < a.word → Turn ps rest i → x ≡ R * (get_or ps i noResponse).size % T
-      → w.word ≡ cond (leb a.mean x) (withBit u.word i) u.word → w.sum ≡ u.sum + cond (leb a.mean x) x 0
-      → Search R T ps word a u rest → Search R T ps word a w (withoutBit rest i)
+  pub search-look : (a : Among) (u w : Upper) (rest i x : ℕ) → 0 < a.word → Turn ps rest i → x ≡ R * (get_or ps i no_response).size % T
+      → w.word ≡ cond (leb a.mean x) (with_bit u.word i) u.word → w.sum ≡ u.sum + cond (leb a.mean x) x 0
+      → Search R T ps word a u rest → Search R T ps word a w (without_bit rest i)
   search-look a u w rest i x some t q ew es k =
       record {
         fit = k.fit;
@@ -357,15 +357,15 @@ module _ (R T : ℕ) (ps : List Response) (e : length ps ≡ 64) (word : ℕ) (v
     pub search-low : a.sum ≤ 70368744161280
     search-low = (k.seeks some).low
 
-    pub search-next : Search R T ps word (narrowedOf a u) none (narrowedOf a u).word
+    pub search-next : Search R T ps word (narrowed_of a u) none (narrowed_of a u).word
     search-next =
         let s = search-halves.seeks in
         record {
           fit = s.fit;
-          looked = looked-start R T ps e (narrowedOf a u) (narrowedOf a u).word refl s.fit;
-          whole = λ z. absurd (omega (arith, ones-some (narrowedOf a u).word (omega (arith, s.enough, s.some))));
+          looked = looked-start R T ps e (narrowed_of a u) (narrowed_of a u).word refl s.fit;
+          whole = λ z. absurd (omega (arith, ones-some (narrowed_of a u).word (omega (arith, s.enough, s.some))));
           seeks = λ _. s;
         }
 
-    pub search-less : seekWork ps (narrowedOf a u) (narrowedOf a u).word < seekWork ps a 0
-    search-less = omega (arith, search-halves.less, live-short (narrowedOf a u).word ps)
+    pub search-less : seek_work ps (narrowed_of a u) (narrowed_of a u).word < seek_work ps a 0
+    search-less = omega (arith, search-halves.less, live-short (narrowed_of a u).word ps)

@@ -12,20 +12,20 @@ use lib.ListN.{length, get_or}
 use lib.Pow.{pow_pos}
 use Rattle.base.proofs.Bools.{by, bool-or, and_both, and-no-left, and-no-right, or-either}
 use Rattle.base.proofs.Numbers.{le-or-lt, eq-or}
-use Rattle.words.specs.rules.Bits.{bit_at, withBit, withoutBit, count_trailing_zeros, withoutLowest}
+use Rattle.words.specs.rules.Bits.{bit_at, with_bit, without_bit, count_trailing_zeros, without_lowest}
 use Rattle.words.proofs.BitLaws.{bit-or, bit-half, bit-low, bit_le, no-bit, past-bit, with-clear, with-same, with-other, without-set, without_not, without_in, without-lt, without-lowest, lowest_set, LowestBit}
 use Rattle.board.specs.declared.Response.{Response}
-use Rattle.board.specs.rules.Board.{noResponse, live_in}
+use Rattle.board.specs.rules.Board.{no_response, live_in}
 use Rattle.board.specs.inside.Places.{Earliest}
 use Rattle.board.specs.promises.Board.{RisingFrom}
 use Rattle.board.proofs.LiveLaws.{dead-step, live-step}
 use Rattle.board.proofs.FirstLaws.{earliest-sequence}
-use Rattle.share.specs.rules.Fills.{Fill, fillOf}
+use Rattle.share.specs.rules.Fills.{Fill, fill_of}
 use Rattle.share.specs.inside.Fills.{WroteFills, written}
 use Rattle.trade.specs.declared.Given.{Given}
 use Rattle.trade.specs.declared.Hand.{Hand}
 use Rattle.trade.specs.declared.Price.{Price}
-use Rattle.trade.specs.inside.Code.{rank_of, Gives, huntingOf, handOf, doneAt, runsOn, metOf, nextFills, next_of, servedFills, servedOf}
+use Rattle.trade.specs.inside.Code.{rank_of, Gives, hunting_of, hand_of, done_at, runs_on, met_of, next_fills, next_of, served_fills, served_of}
 use Rattle.trade.proofs.FoundLaws.{rank_rises}
 use Rattle.trade.proofs.WriteLaws.{Pick}
 
@@ -39,92 +39,92 @@ wrote_none words at next e = record { words = refl; place = omega arith }
 abbrev pub Kept : Bool → Bool → ℕ → ℕ → Hand → Type 0
 Kept last turns k at n = (n.last ≡ last) × (n.turns ≡ turns) × (n.k ≡ k) × (n.at ≡ at) × (n.done ≡ false)
 
-pub hunting-kept : (last turns : Bool) (word k at : ℕ) → Kept last turns k at (huntingOf last turns word k at)
-unfolding huntingOf
+pub hunting-kept : (last turns : Bool) (word k at : ℕ) → Kept last turns k at (hunting_of last turns word k at)
+unfolding hunting_of
 hunting-kept last turns word k at = (refl, refl, refl, refl, refl)
 
-pub hand-kept : (last turns : Bool) (word n k at : ℕ) → Kept last turns k at (handOf last turns word n k at)
-unfolding handOf
+pub hand-kept : (last turns : Bool) (word n k at : ℕ) → Kept last turns k at (hand_of last turns word n k at)
+unfolding hand_of
 hand-kept last turns word n k at = by (Kept last turns k at) (ltb n 4294967295) _ _ (λ _. (refl, refl, refl, refl, refl)) (λ _. hunting-kept last turns word k at)
 
 -- where the run is served
 module _ (h : Hand) (l : Price) (spare at : ℕ) where
-  pub late_is : (h.late ≡ 0 → ⊥) → (next_of h l spare at ≡ huntingOf h.last h.turns h.late h.k h.at) × (nextFills h l ≡ [])
-  unfolding next_of nextFills
+  pub late_is : (h.late ≡ 0 → ⊥) → (next_of h l spare at ≡ hunting_of h.last h.turns h.late h.k h.at) × (next_fills h l ≡ [])
+  unfolding next_of next_fills
   late_is n = let p = ne_eqb h.late 0 n in (rw p refl, rw p refl)
 
-  pub done-is : h.late ≡ 0 → h.last ≡ true → (next_of h l spare at ≡ doneAt h) × (nextFills h l ≡ [])
-  unfolding next_of nextFills
+  pub done-is : h.late ≡ 0 → h.last ≡ true → (next_of h l spare at ≡ done_at h) × (next_fills h l ≡ [])
+  unfolding next_of next_fills
   done-is e q =
       let p = eq-eqb h.late 0 e in (
-        ap₂ {C = Hand} (λ (a b : Bool). cond a (cond b (doneAt h) (handOf true l.turns l.others l.other (cond l.turns l.shared spare) at)) (huntingOf h.last h.turns h.late h.k h.at)) p q,
-        ap₂ {C = List Fill} (λ (a b : Bool). cond a (cond b [] (fillOf 0 l.reported l.contra)) []) p q,
+        ap₂ {C = Hand} (λ (a b : Bool). cond a (cond b (done_at h) (hand_of true l.turns l.others l.other (cond l.turns l.shared spare) at)) (hunting_of h.last h.turns h.late h.k h.at)) p q,
+        ap₂ {C = List Fill} (λ (a b : Bool). cond a (cond b [] (fill_of 0 l.reported l.contra)) []) p q,
       )
 
-  pub others-is : h.late ≡ 0 → h.last ≡ false → (next_of h l spare at ≡ handOf true l.turns l.others l.other (cond l.turns l.shared spare) at) × (nextFills h l ≡ fillOf 0 l.reported l.contra)
-  unfolding next_of nextFills
+  pub others-is : h.late ≡ 0 → h.last ≡ false → (next_of h l spare at ≡ hand_of true l.turns l.others l.other (cond l.turns l.shared spare) at) × (next_fills h l ≡ fill_of 0 l.reported l.contra)
+  unfolding next_of next_fills
   others-is e q =
       let p = eq-eqb h.late 0 e in (
-        ap₂ {C = Hand} (λ (a b : Bool). cond a (cond b (doneAt h) (handOf true l.turns l.others l.other (cond l.turns l.shared spare) at)) (huntingOf h.last h.turns h.late h.k h.at)) p q,
-        ap₂ {C = List Fill} (λ (a b : Bool). cond a (cond b [] (fillOf 0 l.reported l.contra)) []) p q,
+        ap₂ {C = Hand} (λ (a b : Bool). cond a (cond b (done_at h) (hand_of true l.turns l.others l.other (cond l.turns l.shared spare) at)) (hunting_of h.last h.turns h.late h.k h.at)) p q,
+        ap₂ {C = List Fill} (λ (a b : Bool). cond a (cond b [] (fill_of 0 l.reported l.contra)) []) p q,
       )
 
 -- the others, after the Contra Order's fill, which ends before n
-pub others-are : (turns : Bool) (word m shared spare n : ℕ) (words : List ℕ) (at : ℕ) (fs : List Fill) (ys : List ℕ) (h : Hand) (b : Bool) → turns ≡ b → WroteFills words at fs n ys → h ≡ handOf true b word m (cond b shared spare) n
-    → WroteFills words at fs h.at ys × (h ≡ handOf true turns word m (cond turns shared spare) h.at)
+pub others-are : (turns : Bool) (word m shared spare n : ℕ) (words : List ℕ) (at : ℕ) (fs : List Fill) (ys : List ℕ) (h : Hand) (b : Bool) → turns ≡ b → WroteFills words at fs n ys → h ≡ hand_of true b word m (cond b shared spare) n
+    → WroteFills words at fs h.at ys × (h ≡ hand_of true turns word m (cond turns shared spare) h.at)
 others-are turns word m shared spare n words at fs ys h b e w q =
     let f : h.at ≡ n = ap (λ (x : Hand). x.at) q ∙ (hand-kept true b word m (cond b shared spare) n).3 in
-    (rw f w, rw e (q ∙ ap (handOf true b word m (cond b shared spare)) (sym f)))
+    (rw f w, rw e (q ∙ ap (hand_of true b word m (cond b shared spare)) (sym f)))
 
 module _ (h : Hand) (l : Price) where
-  pub next-late : (spare : ℕ) (words : List ℕ) (r : Hand) → (h.late ≡ 0 → ⊥) → r ≡ huntingOf h.last h.turns h.late h.k h.at
-      → WroteFills words h.at (nextFills h l) r.at words × (r ≡ next_of h l spare r.at)
+  pub next-late : (spare : ℕ) (words : List ℕ) (r : Hand) → (h.late ≡ 0 → ⊥) → r ≡ hunting_of h.last h.turns h.late h.k h.at
+      → WroteFills words h.at (next_fills h l) r.at words × (r ≡ next_of h l spare r.at)
   next-late spare words r n e =
       let f : r.at ≡ h.at = ap (λ (x : Hand). x.at) e ∙ (hunting-kept h.last h.turns h.late h.k h.at).3 in
       let x = late_is h l spare r.at n in
       (rw x.1 (wrote_none words h.at r.at f), e ∙ sym x.0)
 
-  pub next-writes : h.late ≡ 0 → h.last ≡ false → nextFills h l ≡ fillOf 0 l.reported l.contra
+  pub next-writes : h.late ≡ 0 → h.last ≡ false → next_fills h l ≡ fill_of 0 l.reported l.contra
   next-writes e f = (others-is h l 0 0 e f).1
 
-  pub next-others : (spare : ℕ) (words ys : List ℕ) (r : Hand) → h.late ≡ 0 → h.last ≡ false → WroteFills words h.at (fillOf 0 l.reported l.contra) r.at ys
-      → r ≡ handOf true l.turns l.others l.other (cond l.turns l.shared spare) r.at
-      → WroteFills words h.at (nextFills h l) r.at ys × (r ≡ next_of h l spare r.at)
+  pub next-others : (spare : ℕ) (words ys : List ℕ) (r : Hand) → h.late ≡ 0 → h.last ≡ false → WroteFills words h.at (fill_of 0 l.reported l.contra) r.at ys
+      → r ≡ hand_of true l.turns l.others l.other (cond l.turns l.shared spare) r.at
+      → WroteFills words h.at (next_fills h l) r.at ys × (r ≡ next_of h l spare r.at)
   next-others spare words ys r e f w q = let x = others-is h l spare r.at e f in (rw x.1 w, q ∙ sym x.0)
 
-  pub next-done : (spare : ℕ) (words : List ℕ) → h.late ≡ 0 → h.last ≡ true → WroteFills words h.at (nextFills h l) h.at words × (doneAt h ≡ next_of h l spare h.at)
+  pub next-done : (spare : ℕ) (words : List ℕ) → h.late ≡ 0 → h.last ≡ true → WroteFills words h.at (next_fills h l) h.at words × (done_at h ≡ next_of h l spare h.at)
   next-done spare words e f = let x = done-is h l spare h.at e f in (rw x.1 (wrote_none words h.at h.at refl), sym x.0)
 
-  pub served-again : (c : ℕ) (r : Response) (words : List ℕ) (n : Hand) → h.edge ≤ r.sequence → n ≡ huntingOf h.last h.turns (h.run + h.late) h.k h.at
-      → WroteFills words h.at (servedFills h l c r) n.at words × (n ≡ servedOf h l c r n.at)
-  unfolding servedFills servedOf
+  pub served-again : (c : ℕ) (r : Response) (words : List ℕ) (n : Hand) → h.edge ≤ r.sequence → n ≡ hunting_of h.last h.turns (h.run + h.late) h.k h.at
+      → WroteFills words h.at (served_fills h l c r) n.at words × (n ≡ served_of h l c r n.at)
+  unfolding served_fills served_of
   served-again c r words n le e =
       let f : n.at ≡ h.at = ap (λ (x : Hand). x.at) e ∙ (hunting-kept h.last h.turns (h.run + h.late) h.k h.at).3 in
       rw (le-leb h.edge r.sequence le) (wrote_none words h.at n.at f, e)
 
-  pub served-writes : (c : ℕ) (r : Response) (g : Given) → r.sequence < h.edge → Gives h.turns l.shared l.total c h.k r.size g → servedFills h l c r ≡ fillOf r.sequence l.reported g.quantity
-  unfolding servedFills
+  pub served-writes : (c : ℕ) (r : Response) (g : Given) → r.sequence < h.edge → Gives h.turns l.shared l.total c h.k r.size g → served_fills h l c r ≡ fill_of r.sequence l.reported g.quantity
+  unfolding served_fills
   served-writes c r g lt e = rw (lt-leb h.edge r.sequence lt, e.quantity)
 
   pub served-first : (c : ℕ) (r : Response) (g : Given) (words ys : List ℕ) (run n : ℕ) → r.sequence < h.edge → Gives h.turns l.shared l.total c h.k r.size g
-      → run ≡ withoutLowest h.run → WroteFills words h.at (fillOf r.sequence l.reported g.quantity) n ys
-      → WroteFills words h.at (servedFills h l c r) n ys
-      × (◌≡◌ {A = Hand} (record { done = false; last = h.last; turns = h.turns; run = run; late = h.late; unseen = 0; edge = h.edge; first = 4294967296; latest = 0; k = g.left; at = n }) (servedOf h l c r n))
-  unfolding servedOf
+      → run ≡ without_lowest h.run → WroteFills words h.at (fill_of r.sequence l.reported g.quantity) n ys
+      → WroteFills words h.at (served_fills h l c r) n ys
+      × (◌≡◌ {A = Hand} (record { done = false; last = h.last; turns = h.turns; run = run; late = h.late; unseen = 0; edge = h.edge; first = 4294967296; latest = 0; k = g.left; at = n }) (served_of h l c r n))
+  unfolding served_of
   served-first c r g words ys run n lt e q w =
       (rw (served-writes c r g lt e) w, rw (lt-leb h.edge r.sequence lt, q, e.left))
 
 module _ (h : Hand) (t i : ℕ) where
-  pub met-first : (run : ℕ) (r : Hand) → t < h.first → run ≡ withBit 0 i → r ≡ runsOn h run (h.run + h.late) h.first t t → r ≡ metOf h t i
-  unfolding metOf
+  pub met-first : (run : ℕ) (r : Hand) → t < h.first → run ≡ with_bit 0 i → r ≡ runs_on h run (h.run + h.late) h.first t t → r ≡ met_of h t i
+  unfolding met_of
   met-first run r lt e q = rw (lt-ltb t h.first lt, ← e) q
 
-  pub met-goes : (run : ℕ) (r : Hand) → h.first ≤ t → h.latest ≤ t → run ≡ withBit h.run i → r ≡ runsOn h run h.late h.edge h.first t → r ≡ metOf h t i
-  unfolding metOf
+  pub met-goes : (run : ℕ) (r : Hand) → h.first ≤ t → h.latest ≤ t → run ≡ with_bit h.run i → r ≡ runs_on h run h.late h.edge h.first t → r ≡ met_of h t i
+  unfolding met_of
   met-goes run r ge le e q = rw (le-ltb t h.first ge, le-leb h.latest t le, ← e) q
 
-  pub met-late : (late edge : ℕ) (r : Hand) → h.first ≤ t → t < h.latest → late ≡ withBit h.late i → edge ≡ min h.edge (t + 1) → r ≡ runsOn h h.run late edge h.first h.latest → r ≡ metOf h t i
-  unfolding metOf
+  pub met-late : (late edge : ℕ) (r : Hand) → h.first ≤ t → t < h.latest → late ≡ with_bit h.late i → edge ≡ min h.edge (t + 1) → r ≡ runs_on h h.run late edge h.first h.latest → r ≡ met_of h t i
+  unfolding met_of
   met-late late edge r ge lt e f q = rw (le-ltb t h.first ge, lt-leb h.latest t lt, ← e, ← f) q
 
 -- ---- words that have no place in common
@@ -166,14 +166,14 @@ sum_left : (a b j : ℕ) → Apart a b → bit_at a j ≡ true → bit_at (a + b
 sum_left a b j h t = sum-bit a b j h ∙ ap (λ (x : Bool). x || bit_at b j) t
 
 -- one place more
-with_in : (w i j : ℕ) → bit_at (withBit w i) j ≡ true → (j ≡ i) ⊎ (bit_at w j ≡ true)
+with_in : (w i j : ℕ) → bit_at (with_bit w i) j ≡ true → (j ≡ i) ⊎ (bit_at w j ≡ true)
 with_in w i j t = ⊎_elim (λ e. inl e) (λ n. inr (sym (with-other w i j n) ∙ t)) (eq-or j i)
 
-with-some : (w i : ℕ) → i < 64 → 0 < withBit w i
-with-some w i l = omega (arith, bit_le (withBit w i) i (with-same w i l), pow_pos i)
+with-some : (w i : ℕ) → i < 64 → 0 < with_bit w i
+with-some w i l = omega (arith, bit_le (with_bit w i) i (with-same w i l), pow_pos i)
 
 -- those that are left are above the lowest
-left-above : (w i k : ℕ) → LowestBit w i → bit_at (withoutBit w i) k ≡ true → i < k
+left-above : (w i k : ℕ) → LowestBit w i → bit_at (without_bit w i) k ≡ true → i < k
 left-above w i k low t =
     let n = without_not w i k t in
     ⊎_elim
@@ -190,25 +190,25 @@ from_lowest w i k low t = ⊎_elim (λ le. le) (λ lt. absurd (true≢false (sym
 abbrev pub rest_of : Hand → ℕ
 rest_of h = h.run + h.late + h.unseen
 
-abbrev pub seqAt : List Response → ℕ → ℕ
-seqAt ps j = (get_or ps j noResponse).sequence
+abbrev pub seq_at : List Response → ℕ → ℕ
+seq_at ps j = (get_or ps j no_response).sequence
 
 -- while places are looked at, and straight after that
 pub record Looks (ps : List Response) (h : Hand) : Type 0 where
-  pub run-floor : (j : ℕ) → bit_at h.run j ≡ true → h.first ≤ seqAt ps j
-  pub late-floor : (j : ℕ) → bit_at h.late j ≡ true → h.first ≤ seqAt ps j
-  pub top : (j : ℕ) → bit_at h.run j ≡ true → seqAt ps j ≤ h.latest
-  pub past : (j : ℕ) → bit_at h.late j ≡ true → (h.edge ≤ seqAt ps j) ⊎ (seqAt ps j < h.latest)
-  pub begun : h.first < 4294967296 → (0 < h.run) × (h.first < h.edge) × ((e : ℕ) → ((j : ℕ) → bit_at h.run j ≡ true → e ≤ seqAt ps j) → e ≤ h.first)
+  pub run-floor : (j : ℕ) → bit_at h.run j ≡ true → h.first ≤ seq_at ps j
+  pub late-floor : (j : ℕ) → bit_at h.late j ≡ true → h.first ≤ seq_at ps j
+  pub top : (j : ℕ) → bit_at h.run j ≡ true → seq_at ps j ≤ h.latest
+  pub past : (j : ℕ) → bit_at h.late j ≡ true → (h.edge ≤ seq_at ps j) ⊎ (seq_at ps j < h.latest)
+  pub begun : h.first < 4294967296 → (0 < h.run) × (h.first < h.edge) × ((e : ℕ) → ((j : ℕ) → bit_at h.run j ≡ true → e ≤ seq_at ps j) → e ≤ h.first)
 
 pub record Serves (ps : List Response) (h : Hand) : Type 0 where
   pub fits : rest_of h < 2 ^ 64
   pub clear : Apart h.run h.late
   pub run-below : (j k : ℕ) → bit_at h.run j ≡ true → bit_at h.unseen k ≡ true → j < k
   pub late_below : (j k : ℕ) → bit_at h.late j ≡ true → bit_at h.unseen k ≡ true → j < k
-  pub rises : (j k : ℕ) → j < k → bit_at h.run j ≡ true → bit_at h.run k ≡ true → seqAt ps j ≤ seqAt ps k
-  pub near : (j : ℕ) → bit_at h.late j ≡ true → h.edge ≤ seqAt ps j + 1
-  pub before : (j k : ℕ) → j < k → bit_at h.late j ≡ true → bit_at h.run k ≡ true → seqAt ps k < h.edge → seqAt ps k < seqAt ps j
+  pub rises : (j k : ℕ) → j < k → bit_at h.run j ≡ true → bit_at h.run k ≡ true → seq_at ps j ≤ seq_at ps k
+  pub near : (j : ℕ) → bit_at h.late j ≡ true → h.edge ≤ seq_at ps j + 1
+  pub before : (j k : ℕ) → j < k → bit_at h.late j ≡ true → bit_at h.run k ≡ true → seq_at ps k < h.edge → seq_at ps k < seq_at ps j
   pub looks : (0 < h.unseen) ⊎ ((h.first < 4294967296) × (0 < h.run + h.late)) → Looks ps h
 
 pub fit : {ps : List Response} {h : Hand} → Serves ps h → rest_of h < 2 ^ 64
@@ -217,8 +217,8 @@ fit s = s.fits
 -- ---- how it begins
 
 module _ (ps : List Response) (last turns : Bool) (word k at : ℕ) (fits : word < 2 ^ 64) where
-  pub serves-hunting : Serves ps (huntingOf last turns word k at) × (rest_of (huntingOf last turns word k at) ≡ word)
-  unfolding huntingOf
+  pub serves-hunting : Serves ps (hunting_of last turns word k at) × (rest_of (hunting_of last turns word k at) ≡ word)
+  unfolding hunting_of
   serves-hunting = (
     record {
       fits = omega arith;
@@ -241,8 +241,8 @@ module _ (ps : List Response) (last turns : Bool) (word k at : ℕ) (fits : word
 
 -- where they rise by sequence, they rise from place to place
 live-rises : (m w : ℕ) (ps : List Response) → RisingFrom m (live_in w ps)
-    → ((j : ℕ) → j < length ps → bit_at w j ≡ true → m ≤ seqAt ps j)
-    × ((j k : ℕ) → j < k → k < length ps → bit_at w j ≡ true → bit_at w k ≡ true → seqAt ps j ≤ seqAt ps k)
+    → ((j : ℕ) → j < length ps → bit_at w j ≡ true → m ≤ seq_at ps j)
+    × ((j k : ℕ) → j < k → k < length ps → bit_at w j ≡ true → bit_at w k ≡ true → seq_at ps j ≤ seq_at ps k)
 live-rises m w [] h = (λ j l t. absurd (omega arith), λ j k l n t u. absurd (omega arith))
 live-rises m w (p ∷ ps) h =
     ⊎_elim
@@ -258,23 +258,23 @@ live-rises m w (p ∷ ps) h =
     low_clear : w % 2 ≡ 0 → {X : Type 0} → bit_at w 0 ≡ true → X
     low_clear e t = absurd (true≢false (sym t ∙ bit-low w ∙ ne_eqb (w % 2) 1 (omega arith)))
 
-    dead-floor : w % 2 ≡ 0 → ((j : ℕ) → j < length ps → bit_at (w / 2) j ≡ true → m ≤ seqAt ps j) → (j : ℕ) → j < suc (length ps) → bit_at w j ≡ true → m ≤ seqAt (p ∷ ps) j
+    dead-floor : w % 2 ≡ 0 → ((j : ℕ) → j < length ps → bit_at (w / 2) j ≡ true → m ≤ seq_at ps j) → (j : ℕ) → j < suc (length ps) → bit_at w j ≡ true → m ≤ seq_at (p ∷ ps) j
     dead-floor e f zero l t = low_clear e t
     dead-floor e f (suc j) l t = f j (omega arith) (bit-half w j ∙ t)
 
-    dead-step-up : w % 2 ≡ 0 → ((j k : ℕ) → j < k → k < length ps → bit_at (w / 2) j ≡ true → bit_at (w / 2) k ≡ true → seqAt ps j ≤ seqAt ps k)
-        → (j k : ℕ) → j < k → k < suc (length ps) → bit_at w j ≡ true → bit_at w k ≡ true → seqAt (p ∷ ps) j ≤ seqAt (p ∷ ps) k
+    dead-step-up : w % 2 ≡ 0 → ((j k : ℕ) → j < k → k < length ps → bit_at (w / 2) j ≡ true → bit_at (w / 2) k ≡ true → seq_at ps j ≤ seq_at ps k)
+        → (j k : ℕ) → j < k → k < suc (length ps) → bit_at w j ≡ true → bit_at w k ≡ true → seq_at (p ∷ ps) j ≤ seq_at (p ∷ ps) k
     dead-step-up e f j zero l n t u = absurd (omega arith)
     dead-step-up e f zero (suc k) l n t u = low_clear e t
     dead-step-up e f (suc j) (suc k) l n t u = f j k (omega arith) (omega arith) (bit-half w j ∙ t) (bit-half w k ∙ u)
 
-    live-floor : m ≤ p.sequence → ((j : ℕ) → j < length ps → bit_at (w / 2) j ≡ true → p.sequence ≤ seqAt ps j) → (j : ℕ) → j < suc (length ps) → bit_at w j ≡ true → m ≤ seqAt (p ∷ ps) j
+    live-floor : m ≤ p.sequence → ((j : ℕ) → j < length ps → bit_at (w / 2) j ≡ true → p.sequence ≤ seq_at ps j) → (j : ℕ) → j < suc (length ps) → bit_at w j ≡ true → m ≤ seq_at (p ∷ ps) j
     live-floor g f zero l t = g
     live-floor g f (suc j) l t = let x = f j (omega arith) (bit-half w j ∙ t) in omega arith
 
-    live-step-up : ((j : ℕ) → j < length ps → bit_at (w / 2) j ≡ true → p.sequence ≤ seqAt ps j)
-        → ((j k : ℕ) → j < k → k < length ps → bit_at (w / 2) j ≡ true → bit_at (w / 2) k ≡ true → seqAt ps j ≤ seqAt ps k)
-        → (j k : ℕ) → j < k → k < suc (length ps) → bit_at w j ≡ true → bit_at w k ≡ true → seqAt (p ∷ ps) j ≤ seqAt (p ∷ ps) k
+    live-step-up : ((j : ℕ) → j < length ps → bit_at (w / 2) j ≡ true → p.sequence ≤ seq_at ps j)
+        → ((j k : ℕ) → j < k → k < length ps → bit_at (w / 2) j ≡ true → bit_at (w / 2) k ≡ true → seq_at ps j ≤ seq_at ps k)
+        → (j k : ℕ) → j < k → k < suc (length ps) → bit_at w j ≡ true → bit_at w k ≡ true → seq_at (p ∷ ps) j ≤ seq_at (p ∷ ps) k
     live-step-up g f j zero l n t u = absurd (omega arith)
     live-step-up g f zero (suc k) l n t u = g k (omega arith) (bit-half w k ∙ u)
     live-step-up g f (suc j) (suc k) l n t u = f j k (omega arith) (omega arith) (bit-half w j ∙ t) (bit-half w k ∙ u)
@@ -283,12 +283,12 @@ bit-low-64 : (w j : ℕ) → w < 2 ^ 64 → bit_at w j ≡ true → j < 64
 bit-low-64 w j h t = ⊎_elim (λ le. absurd (true≢false (sym t ∙ past-bit w j h le))) (λ lt. lt) (le-or-lt 64 j)
 
 module _ (ps : List Response) (size : length ps ≡ 64) (last turns : Bool) (word n k at : ℕ) (fits : word < 2 ^ 64) (rank : n ≡ rank_of 0 (live_in word ps)) where
-  risen : n < 4294967295 → (i j : ℕ) → i < j → bit_at word i ≡ true → bit_at word j ≡ true → seqAt ps i ≤ seqAt ps j
+  risen : n < 4294967295 → (i j : ℕ) → i < j → bit_at word i ≡ true → bit_at word j ≡ true → seq_at ps i ≤ seq_at ps j
   risen l i j lt t u =
       (live-rises 0 word ps (rank_rises 0 (live_in word ps) (omega arith))).1 i j lt (omega (arith, bit-low-64 word j fits u)) t u
 
-  pub serves-hand : Serves ps (handOf last turns word n k at) × (rest_of (handOf last turns word n k at) ≡ word)
-  unfolding handOf
+  pub serves-hand : Serves ps (hand_of last turns word n k at) × (rest_of (hand_of last turns word n k at) ≡ word)
+  unfolding hand_of
   serves-hand =
       ⊎_elim
       (λ le. rw (le-ltb n 4294967295 le) (serves-hunting ps last turns word k at fits))
@@ -314,7 +314,7 @@ module _ (ps : List Response) (h : Hand) (size : length ps ≡ 64) (s : Serves p
   run-lowest : (i : ℕ) → 0 < h.run → i ≡ count_trailing_zeros 64 h.run → LowestBit h.run i
   run-lowest i p e = lowest_set h.run i p (omega (arith, s.fits)) e
 
-  module _ (i : ℕ) (none : h.unseen ≡ 0) (some : 0 < h.run) (at_i : i ≡ count_trailing_zeros 64 h.run) (below : seqAt ps i < h.edge) where
+  module _ (i : ℕ) (none : h.unseen ≡ 0) (some : 0 < h.run) (at_i : i ≡ count_trailing_zeros 64 h.run) (below : seq_at ps i < h.edge) where
     rest-is : rest_of h ≡ h.run + h.late
     rest-is = omega arith
 
@@ -347,13 +347,13 @@ module _ (ps : List Response) (h : Hand) (size : length ps ≡ 64) (s : Serves p
           cons = earliest-sequence ps (h.run + h.late) i (omega (arith, low.place)) earliest;
         })
 
-    pub serves-served : (l : Price) (c : ℕ) (r : Response) (at : ℕ) → r ≡ get_or ps i noResponse → Serves ps (servedOf h l c r at) × (rest_of (servedOf h l c r at) ≡ withoutBit (rest_of h) i)
-    unfolding servedOf
+    pub serves-served : (l : Price) (c : ℕ) (r : Response) (at : ℕ) → r ≡ get_or ps i no_response → Serves ps (served_of h l c r at) × (rest_of (served_of h l c r at) ≡ without_bit (rest_of h) i)
+    unfolding served_of
     serves-served l c r at e =
         let low = run-lowest i some at_i in
         let lt : r.sequence < h.edge = omega (arith, ap (λ (x : Response). x.sequence) e) in
         let x = without-lowest h.run i at_i in
-        let y : withoutBit (rest_of h) i ≡ h.run + h.late - 2 ^ i = ap (λ (w : ℕ). withoutBit w i) rest-is ∙ without-set (h.run + h.late) i earliest.set in
+        let y : without_bit (rest_of h) i ≡ h.run + h.late - 2 ^ i = ap (λ (w : ℕ). without_bit w i) rest-is ∙ without-set (h.run + h.late) i earliest.set in
         let z = without-set h.run i low.set in
         let b = bit_le h.run i low.set in
         rw (lt-leb h.edge r.sequence lt, x) (
@@ -371,14 +371,14 @@ module _ (ps : List Response) (h : Hand) (size : length ps ≡ 64) (s : Serves p
         )
 
   -- all are looked over again
-  pub serves-again : (l : Price) (c : ℕ) (r : Response) (at : ℕ) → h.unseen ≡ 0 → h.edge ≤ r.sequence → Serves ps (servedOf h l c r at) × (rest_of (servedOf h l c r at) ≡ rest_of h)
-  unfolding servedOf
+  pub serves-again : (l : Price) (c : ℕ) (r : Response) (at : ℕ) → h.unseen ≡ 0 → h.edge ≤ r.sequence → Serves ps (served_of h l c r at) × (rest_of (served_of h l c r at) ≡ rest_of h)
+  unfolding served_of
   serves-again l c r at none le =
       let g = serves-hunting ps h.last h.turns (h.run + h.late) h.k h.at (omega (arith, s.fits)) in
       rw (le-leb h.edge r.sequence le) (g.0, omega (arith, g.1))
 
   -- those that come late are looked over
-  pub serves-late : h.unseen ≡ 0 → h.run ≡ 0 → Serves ps (huntingOf h.last h.turns h.late h.k h.at) × (rest_of (huntingOf h.last h.turns h.late h.k h.at) ≡ rest_of h)
+  pub serves-late : h.unseen ≡ 0 → h.run ≡ 0 → Serves ps (hunting_of h.last h.turns h.late h.k h.at) × (rest_of (hunting_of h.last h.turns h.late h.k h.at) ≡ rest_of h)
   serves-late none gone =
       let g = serves-hunting ps h.last h.turns h.late h.k h.at (omega (arith, s.fits)) in
       (g.0, omega (arith, g.1))
@@ -395,8 +395,8 @@ serves-others ps h l spare at size none e fits rank =
     rw (eq-eqb h.late 0 none, e) (serves-hand ps size true l.turns l.others l.other (cond l.turns l.shared spare) at fits rank)
 
 -- nothing more comes
-pub serves-done : (ps : List Response) (h : Hand) → Serves ps (doneAt h) × (rest_of (doneAt h) ≡ 0)
-unfolding doneAt
+pub serves-done : (ps : List Response) (h : Hand) → Serves ps (done_at h) × (rest_of (done_at h) ≡ 0)
+unfolding done_at
 serves-done ps h = (
   record {
     fits = omega arith;
@@ -413,7 +413,7 @@ serves-done ps h = (
 
 -- ---- a place is looked at
 
-module _ (ps : List Response) (h : Hand) (i t : ℕ) (s : Serves ps h) (some : 0 < h.unseen) (at_i : i ≡ count_trailing_zeros 64 h.unseen) (t-is : t ≡ seqAt ps i) (small : t < 4294967296) where
+module _ (ps : List Response) (h : Hand) (i t : ℕ) (s : Serves ps h) (some : 0 < h.unseen) (at_i : i ≡ count_trailing_zeros 64 h.unseen) (t-is : t ≡ seq_at ps i) (small : t < 4294967296) where
   low : LowestBit h.unseen i
   low = lowest_set h.unseen i some (omega (arith, s.fits)) at_i
 
@@ -427,31 +427,31 @@ module _ (ps : List Response) (h : Hand) (i t : ℕ) (s : Serves ps h) (some : 0
   late-clear : bit_at h.late i ≡ false
   late-clear = ⊎_elim (λ u. absurd (let z = s.late_below i i u low.set in omega arith)) (λ u. u) (bool-or (bit_at h.late i))
 
-  left_is : withoutBit h.unseen i + 2 ^ i ≡ h.unseen
+  left_is : without_bit h.unseen i + 2 ^ i ≡ h.unseen
   left_is = omega (arith, without-set h.unseen i low.set, bit_le h.unseen i low.set)
 
-  above : (k : ℕ) → bit_at (withoutBit h.unseen i) k ≡ true → i < k
+  above : (k : ℕ) → bit_at (without_bit h.unseen i) k ≡ true → i < k
   above k u = left-above h.unseen i k low u
 
-  run-left : (j k : ℕ) → bit_at h.run j ≡ true → bit_at (withoutBit h.unseen i) k ≡ true → j < k
+  run-left : (j k : ℕ) → bit_at h.run j ≡ true → bit_at (without_bit h.unseen i) k ≡ true → j < k
   run-left j k u v = s.run-below j k u (without_in h.unseen i k v)
 
-  late-left : (j k : ℕ) → bit_at h.late j ≡ true → bit_at (withoutBit h.unseen i) k ≡ true → j < k
+  late-left : (j k : ℕ) → bit_at h.late j ≡ true → bit_at (without_bit h.unseen i) k ≡ true → j < k
   late-left j k u v = s.late_below j k u (without_in h.unseen i k v)
 
-  alone : (j : ℕ) → bit_at (withBit 0 i) j ≡ true → j ≡ i
+  alone : (j : ℕ) → bit_at (with_bit 0 i) j ≡ true → j ≡ i
   alone j u = ⊎_elim (λ e. e) (λ v. none_in j v) (with_in 0 i j u)
 
   -- what is at i
-  seq-at : (j : ℕ) → j ≡ i → seqAt ps j ≡ t
-  seq-at j e = ap (seqAt ps) e ∙ sym t-is
+  seq-at : (j : ℕ) → j ≡ i → seq_at ps j ≡ t
+  seq-at j e = ap (seq_at ps) e ∙ sym t-is
 
-  first_run : t < h.first → Serves ps (metOf h t i) × (rest_of (metOf h t i) ≡ rest_of h)
-  unfolding metOf
+  first_run : t < h.first → Serves ps (met_of h t i) × (rest_of (met_of h t i) ≡ rest_of h)
+  unfolding met_of
   first_run lt =
       let w = with-clear 0 i low.place (no-bit 0 i (pow_pos i)) in
-      let sum : withBit 0 i + (h.run + h.late) + withoutBit h.unseen i ≡ rest_of h = omega (arith, w, left_is) in
-      let floor : (j : ℕ) → bit_at (h.run + h.late) j ≡ true → h.first ≤ seqAt ps j = λ j u. ⊎_elim (known.run-floor j) (known.late-floor j) (sum-in h.run h.late j s.clear u) in
+      let sum : with_bit 0 i + (h.run + h.late) + without_bit h.unseen i ≡ rest_of h = omega (arith, w, left_is) in
+      let floor : (j : ℕ) → bit_at (h.run + h.late) j ≡ true → h.first ≤ seq_at ps j = λ j u. ⊎_elim (known.run-floor j) (known.late-floor j) (sum-in h.run h.late j s.clear u) in
       rw (lt-ltb t h.first lt, without-lowest h.unseen i at_i) (
         record {
           fits = omega (arith, sum, s.fits);
@@ -477,14 +477,14 @@ module _ (ps : List Response) (h : Hand) (i t : ℕ) (s : Serves ps h) (some : 0
       )
 
   module _ (ge : h.first ≤ t) where
-    begun : (0 < h.run) × (h.first < h.edge) × ((e : ℕ) → ((j : ℕ) → bit_at h.run j ≡ true → e ≤ seqAt ps j) → e ≤ h.first)
+    begun : (0 < h.run) × (h.first < h.edge) × ((e : ℕ) → ((j : ℕ) → bit_at h.run j ≡ true → e ≤ seq_at ps j) → e ≤ h.first)
     begun = known.begun (omega arith)
 
-    joins-run : h.latest ≤ t → Serves ps (metOf h t i) × (rest_of (metOf h t i) ≡ rest_of h)
-    unfolding metOf
+    joins-run : h.latest ≤ t → Serves ps (met_of h t i) × (rest_of (met_of h t i) ≡ rest_of h)
+    unfolding met_of
     joins-run le =
         let w = with-clear h.run i low.place run-clear in
-        let sum : withBit h.run i + h.late + withoutBit h.unseen i ≡ rest_of h = omega (arith, w, left_is) in
+        let sum : with_bit h.run i + h.late + without_bit h.unseen i ≡ rest_of h = omega (arith, w, left_is) in
         rw (le-ltb t h.first ge, le-leb h.latest t le, without-lowest h.unseen i at_i) (
           record {
             fits = omega (arith, sum, s.fits);
@@ -517,14 +517,14 @@ module _ (ps : List Response) (h : Hand) (i t : ℕ) (s : Serves ps h) (some : 0
           sum,
         )
       where
-        stays : (j : ℕ) → bit_at h.run j ≡ true → bit_at (withBit h.run i) j ≡ true
+        stays : (j : ℕ) → bit_at h.run j ≡ true → bit_at (with_bit h.run i) j ≡ true
         stays j u = with-other h.run i j (λ e. true≢false (sym u ∙ ap (bit_at h.run) e ∙ run-clear)) ∙ u
 
-    comes-late : t < h.latest → Serves ps (metOf h t i) × (rest_of (metOf h t i) ≡ rest_of h)
-    unfolding metOf
+    comes-late : t < h.latest → Serves ps (met_of h t i) × (rest_of (met_of h t i) ≡ rest_of h)
+    unfolding met_of
     comes-late lt =
         let w = with-clear h.late i low.place late-clear in
-        let sum : h.run + withBit h.late i + withoutBit h.unseen i ≡ rest_of h = omega (arith, w, left_is) in
+        let sum : h.run + with_bit h.late i + without_bit h.unseen i ≡ rest_of h = omega (arith, w, left_is) in
         rw (le-ltb t h.first ge, lt-leb h.latest t lt, without-lowest h.unseen i at_i) (
           record {
             fits = omega (arith, sum, s.fits);
@@ -553,7 +553,7 @@ module _ (ps : List Response) (h : Hand) (i t : ℕ) (s : Serves ps h) (some : 0
           sum,
         )
 
-  pub serves-met : Serves ps (metOf h t i) × (rest_of (metOf h t i) ≡ rest_of h)
+  pub serves-met : Serves ps (met_of h t i) × (rest_of (met_of h t i) ≡ rest_of h)
   serves-met =
       ⊎_elim
       (λ ge. ⊎_elim (joins-run ge) (comes-late ge) (le-or-lt h.latest t))
@@ -567,11 +567,11 @@ unfoldable pub weighs : ℕ → Bool → ℕ → Bool → ℕ → ℕ
 weighs B last rest idle unseen = cond last 0 (B * (2 * B)) + rest * (2 * B) + cond idle B 0 + unseen
 
 -- no look is under way, and none was made since one was served
-unfoldable pub idleOf : Hand → Bool
-idleOf h = leb 4294967296 h.first && eqb h.unseen 0
+unfoldable pub idle_of : Hand → Bool
+idle_of h = leb 4294967296 h.first && eqb h.unseen 0
 
-unfoldable pub serveWork : Hand → ℕ
-serveWork h = cond h.done 0 (suc (weighs 18446744073709551616 h.last (rest_of h) (idleOf h) h.unseen))
+unfoldable pub serve_work : Hand → ℕ
+serve_work h = cond h.done 0 (suc (weighs 18446744073709551616 h.last (rest_of h) (idle_of h) h.unseen))
 
 weighs-look : (B : ℕ) (last : Bool) (rest u v : ℕ) → v < u → weighs B last rest false v < weighs B last rest false u
 unfolding weighs
@@ -600,37 +600,37 @@ weighs-others B rest unseen idle was l u =
 weighs-same : (B : ℕ) {last last' : Bool} {rest rest' : ℕ} {idle idle' : Bool} {u u' : ℕ} → last ≡ last' → rest ≡ rest' → idle ≡ idle' → u ≡ u' → weighs B last rest idle u ≡ weighs B last' rest' idle' u'
 weighs-same B p q r v = rw (p, q, r, v)
 
-work-of : (h : Hand) → h.done ≡ false → serveWork h ≡ suc (weighs 18446744073709551616 h.last (rest_of h) (idleOf h) h.unseen)
-unfolding serveWork
-work-of h e = ap (λ (b : Bool). cond b 0 (suc (weighs 18446744073709551616 h.last (rest_of h) (idleOf h) h.unseen))) e
+work-of : (h : Hand) → h.done ≡ false → serve_work h ≡ suc (weighs 18446744073709551616 h.last (rest_of h) (idle_of h) h.unseen)
+unfolding serve_work
+work-of h e = ap (λ (b : Bool). cond b 0 (suc (weighs 18446744073709551616 h.last (rest_of h) (idle_of h) h.unseen))) e
 
 -- n has less to do than h, by what is known of the two
 work-less : (n h : Hand) (last last' : Bool) (rest rest' : ℕ) (idle idle' : Bool) (u u' : ℕ)
-    → n.done ≡ false → n.last ≡ last → rest_of n ≡ rest → idleOf n ≡ idle → n.unseen ≡ u
-    → h.done ≡ false → h.last ≡ last' → rest_of h ≡ rest' → idleOf h ≡ idle' → h.unseen ≡ u'
+    → n.done ≡ false → n.last ≡ last → rest_of n ≡ rest → idle_of n ≡ idle → n.unseen ≡ u
+    → h.done ≡ false → h.last ≡ last' → rest_of h ≡ rest' → idle_of h ≡ idle' → h.unseen ≡ u'
     → weighs 18446744073709551616 last rest idle u < weighs 18446744073709551616 last' rest' idle' u'
-    → serveWork n < serveWork h
+    → serve_work n < serve_work h
 work-less n h last last' rest rest' idle idle' u u' dn ln rn in' un dh lh rh ih uh lt =
     omega (arith, work-of n dn, work-of h dh, weighs-same 18446744073709551616 ln rn in' un, weighs-same 18446744073709551616 lh rh ih uh)
 
 -- looking, or just after a look; and idle
-not-idle-look : (h : Hand) → 0 < h.unseen → idleOf h ≡ false
-unfolding idleOf
+not-idle-look : (h : Hand) → 0 < h.unseen → idle_of h ≡ false
+unfolding idle_of
 not-idle-look h l = and-no-right (leb 4294967296 h.first) (ne_eqb h.unseen 0 (omega arith))
 
-not-idle-first : (h : Hand) → h.first < 4294967296 → idleOf h ≡ false
-unfolding idleOf
+not-idle-first : (h : Hand) → h.first < 4294967296 → idle_of h ≡ false
+unfolding idle_of
 not-idle-first h l = and-no-left (eqb h.unseen 0) (lt-leb 4294967296 h.first l)
 
-is-idle : (h : Hand) → 4294967296 ≤ h.first → h.unseen ≡ 0 → idleOf h ≡ true
-unfolding idleOf
+is-idle : (h : Hand) → 4294967296 ≤ h.first → h.unseen ≡ 0 → idle_of h ≡ true
+unfolding idle_of
 is-idle h l e = and_both (le-leb 4294967296 h.first l) (eq-eqb h.unseen 0 e)
 
 -- ---- a place is looked at
 
 met-fields : (h : Hand) (t i : ℕ) → t < 4294967296
-    → ((metOf h t i).done ≡ false) × ((metOf h t i).last ≡ h.last) × ((metOf h t i).unseen ≡ withoutLowest h.unseen) × ((metOf h t i).first < 4294967296)
-unfolding metOf
+    → ((met_of h t i).done ≡ false) × ((met_of h t i).last ≡ h.last) × ((met_of h t i).unseen ≡ without_lowest h.unseen) × ((met_of h t i).first < 4294967296)
+unfolding met_of
 met-fields h t i small =
     ⊎_elim
     (λ ge.
@@ -641,31 +641,31 @@ met-fields h t i small =
     (λ lt. rw (lt-ltb t h.first lt) (refl, refl, refl, small))
     (le-or-lt h.first t)
 
-pub work-met : (ps : List Response) (h : Hand) (i t : ℕ) → Serves ps h → 0 < h.unseen → i ≡ count_trailing_zeros 64 h.unseen → t ≡ seqAt ps i → t < 4294967296 → h.done ≡ false
-    → serveWork (metOf h t i) < serveWork h
+pub work-met : (ps : List Response) (h : Hand) (i t : ℕ) → Serves ps h → 0 < h.unseen → i ≡ count_trailing_zeros 64 h.unseen → t ≡ seq_at ps i → t < 4294967296 → h.done ≡ false
+    → serve_work (met_of h t i) < serve_work h
 work-met ps h i t s some at_i t-is small going =
     let f = met-fields h t i small in
     let low = lowest_set h.unseen i some (omega (arith, s.fits)) at_i in
-    let less : withoutLowest h.unseen < h.unseen = rw (without-lowest h.unseen i at_i) (without-lt h.unseen i low.set) in
-    work-less (metOf h t i) h h.last h.last (rest_of h) (rest_of h) false false (withoutLowest h.unseen) h.unseen
-    f.0 f.1 (serves-met ps h i t s some at_i t-is small).1 (not-idle-first (metOf h t i) f.3) f.2
+    let less : without_lowest h.unseen < h.unseen = rw (without-lowest h.unseen i at_i) (without-lt h.unseen i low.set) in
+    work-less (met_of h t i) h h.last h.last (rest_of h) (rest_of h) false false (without_lowest h.unseen) h.unseen
+    f.0 f.1 (serves-met ps h i t s some at_i t-is small).1 (not-idle-first (met_of h t i) f.3) f.2
     going refl refl (not-idle-look h some) refl
-    (weighs-look 18446744073709551616 h.last (rest_of h) h.unseen (withoutLowest h.unseen) less)
+    (weighs-look 18446744073709551616 h.last (rest_of h) h.unseen (without_lowest h.unseen) less)
 
 -- ---- where no place is to be looked at
 
-hunting-work : (n h : Hand) (turns : Bool) (word k at : ℕ) → n ≡ huntingOf h.last turns word k at → 0 < word → word < 2 ^ 64 → h.done ≡ false → rest_of h ≡ word → idleOf h ≡ true → h.unseen ≡ 0 → serveWork n < serveWork h
-unfolding huntingOf
+hunting-work : (n h : Hand) (turns : Bool) (word k at : ℕ) → n ≡ hunting_of h.last turns word k at → 0 < word → word < 2 ^ 64 → h.done ≡ false → rest_of h ≡ word → idle_of h ≡ true → h.unseen ≡ 0 → serve_work n < serve_work h
+unfolding hunting_of
 hunting-work n h turns word k at e p fits going is idle none =
     rw e
-    (work-less (huntingOf h.last turns word k at) h h.last h.last word word false true word 0
-    refl refl (omega arith) (not-idle-look (huntingOf h.last turns word k at) p) refl
+    (work-less (hunting_of h.last turns word k at) h h.last h.last word word false true word 0
+    refl refl (omega arith) (not-idle-look (hunting_of h.last turns word k at) p) refl
     going refl is idle none
     (weighs-again 18446744073709551616 h.last word word fits))
 
 hand-fields : (last turns : Bool) (word n k at : ℕ)
-    → ((handOf last turns word n k at).done ≡ false) × ((handOf last turns word n k at).last ≡ last) × (rest_of (handOf last turns word n k at) ≡ word) × ((handOf last turns word n k at).unseen ≤ word)
-unfolding handOf huntingOf
+    → ((hand_of last turns word n k at).done ≡ false) × ((hand_of last turns word n k at).last ≡ last) × (rest_of (hand_of last turns word n k at) ≡ word) × ((hand_of last turns word n k at).unseen ≤ word)
+unfolding hand_of hunting_of
 hand-fields last turns word n k at =
     ⊎_elim
     (λ le. rw (le-ltb n 4294967295 le) (refl, refl, omega arith, omega arith))
@@ -674,51 +674,51 @@ hand-fields last turns word n k at =
 
 module _ (ps : List Response) (h : Hand) (size : length ps ≡ 64) (s : Serves ps h) (none : h.unseen ≡ 0) (going : h.done ≡ false) where
   -- what was found at the last look is served at once
-  served-at-once : (i : ℕ) → 0 < h.run → i ≡ count_trailing_zeros 64 h.run → h.edge ≤ seqAt ps i → 4294967296 ≤ h.first
+  served-at-once : (i : ℕ) → 0 < h.run → i ≡ count_trailing_zeros 64 h.run → h.edge ≤ seq_at ps i → 4294967296 ≤ h.first
   served-at-once i some at_i le =
       let low = run-lowest ps h size s i some at_i in
       ⊎_elim
       (λ ge. ge)
       (λ lt.
       let b = (s.looks (inr (lt, omega arith))).begun lt in
-      let all : (j : ℕ) → bit_at h.run j ≡ true → seqAt ps i ≤ seqAt ps j =
+      let all : (j : ℕ) → bit_at h.run j ≡ true → seq_at ps i ≤ seq_at ps j =
       λ j u.
       let ge = from_lowest h.run i j low u in
       ⊎_elim (λ e. rw e (omega arith)) (λ n. s.rises i j (omega arith) low.set u) (eq-or j i) in
-      absurd (omega (arith, b.1, b.2 (seqAt ps i) all)))
+      absurd (omega (arith, b.1, b.2 (seq_at ps i) all)))
       (le-or-lt 4294967296 h.first)
 
   served-fields : (l : Price) (c : ℕ) (r : Response) (at : ℕ) → r.sequence < h.edge
-      → ((servedOf h l c r at).done ≡ false) × ((servedOf h l c r at).last ≡ h.last) × ((servedOf h l c r at).unseen ≡ 0) × (4294967296 ≤ (servedOf h l c r at).first)
-  unfolding servedOf
+      → ((served_of h l c r at).done ≡ false) × ((served_of h l c r at).last ≡ h.last) × ((served_of h l c r at).unseen ≡ 0) × (4294967296 ≤ (served_of h l c r at).first)
+  unfolding served_of
   served-fields l c r at lt = rw (lt-leb h.edge r.sequence lt) (refl, refl, refl, omega arith)
 
-  again-is : (l : Price) (c : ℕ) (r : Response) (at : ℕ) → h.edge ≤ r.sequence → servedOf h l c r at ≡ huntingOf h.last h.turns (h.run + h.late) h.k h.at
-  unfolding servedOf
+  again-is : (l : Price) (c : ℕ) (r : Response) (at : ℕ) → h.edge ≤ r.sequence → served_of h l c r at ≡ hunting_of h.last h.turns (h.run + h.late) h.k h.at
+  unfolding served_of
   again-is l c r at le = rw (le-leb h.edge r.sequence le)
 
-  pub work-served : (i : ℕ) (l : Price) (c : ℕ) (r : Response) (at : ℕ) → 0 < h.run → i ≡ count_trailing_zeros 64 h.run → r ≡ get_or ps i noResponse → serveWork (servedOf h l c r at) < serveWork h
+  pub work-served : (i : ℕ) (l : Price) (c : ℕ) (r : Response) (at : ℕ) → 0 < h.run → i ≡ count_trailing_zeros 64 h.run → r ≡ get_or ps i no_response → serve_work (served_of h l c r at) < serve_work h
   work-served i l c r at some at_i e =
-      let q : r.sequence ≡ seqAt ps i = ap (λ (x : Response). x.sequence) e in
+      let q : r.sequence ≡ seq_at ps i = ap (λ (x : Response). x.sequence) e in
       ⊎_elim
       (λ le.
-      hunting-work (servedOf h l c r at) h h.turns (h.run + h.late) h.k h.at (again-is l c r at le) (omega arith) (omega (arith, s.fits)) going (omega arith)
+      hunting-work (served_of h l c r at) h h.turns (h.run + h.late) h.k h.at (again-is l c r at le) (omega arith) (omega (arith, s.fits)) going (omega arith)
       (is-idle h (served-at-once i some at_i (omega arith)) none) none)
       (λ lt.
-      let below : seqAt ps i < h.edge = omega arith in
+      let below : seq_at ps i < h.edge = omega arith in
       let f = served-fields l c r at lt in
-      work-less (servedOf h l c r at) h h.last h.last (withoutBit (rest_of h) i) (rest_of h) true (idleOf h) 0 0
-      f.0 f.1 (serves-served ps h size s i none some at_i below l c r at e).1 (is-idle (servedOf h l c r at) f.3 f.2) f.2
+      work-less (served_of h l c r at) h h.last h.last (without_bit (rest_of h) i) (rest_of h) true (idle_of h) 0 0
+      f.0 f.1 (serves-served ps h size s i none some at_i below l c r at e).1 (is-idle (served_of h l c r at) f.3 f.2) f.2
       going refl refl refl none
-      (weighs-serve 18446744073709551616 h.last (rest_of h) (withoutBit (rest_of h) i) (idleOf h) (omega arith) (serves-pick ps h size s i none some at_i below).less))
+      (weighs-serve 18446744073709551616 h.last (rest_of h) (without_bit (rest_of h) i) (idle_of h) (omega arith) (serves-pick ps h size s i none some at_i below).less))
       (le-or-lt h.edge r.sequence)
 
   -- those that come late, the others, or nothing
-  done-work : serveWork (doneAt h) ≡ 0
-  unfolding doneAt serveWork
+  done-work : serve_work (done_at h) ≡ 0
+  unfolding done_at serve_work
   done-work = refl
 
-  pub work-next : (l : Price) (spare at : ℕ) → h.run ≡ 0 → l.others < 2 ^ 64 → serveWork (next_of h l spare at) < serveWork h
+  pub work-next : (l : Price) (spare at : ℕ) → h.run ≡ 0 → l.others < 2 ^ 64 → serve_work (next_of h l spare at) < serve_work h
   work-next l spare at gone fits =
       ⊎_elim
       (λ e.
@@ -738,11 +738,11 @@ module _ (ps : List Response) (h : Hand) (size : length ps ≡ 64) (s : Serves p
           (λ lt. let b = (s.looks (inr (lt, omega arith))).begun lt in absurd (omega (arith, b.0)))
           (le-or-lt 4294967296 h.first)
 
-      others-work : h.late ≡ 0 → h.last ≡ false → serveWork (handOf true l.turns l.others l.other (cond l.turns l.shared spare) at) < serveWork h
+      others-work : h.late ≡ 0 → h.last ≡ false → serve_work (hand_of true l.turns l.others l.other (cond l.turns l.shared spare) at) < serve_work h
       others-work e f =
-          let n = handOf true l.turns l.others l.other (cond l.turns l.shared spare) at in
+          let n = hand_of true l.turns l.others l.other (cond l.turns l.shared spare) at in
           let g = hand-fields true l.turns l.others l.other (cond l.turns l.shared spare) at in
-          work-less n h true false l.others 0 (idleOf n) (idleOf h) n.unseen 0
+          work-less n h true false l.others 0 (idle_of n) (idle_of h) n.unseen 0
           g.0 g.1 g.2 refl refl
           going f (omega arith) refl none
-          (weighs-others 18446744073709551616 l.others n.unseen (idleOf n) (idleOf h) fits (omega (arith, g.3)))
+          (weighs-others 18446744073709551616 l.others n.unseen (idle_of n) (idle_of h) fits (omega (arith, g.3)))

@@ -4,4 +4,4 @@ use Rattle.base.specs.Settled.{Settled}
 use Rattle.trade.proofs as contracts
 
 pub write-fills : Settled contracts.write_fills.ended contracts.write_fills.Reads.Asked contracts.write_fills.Reads.Learnt
-write-fills κs a = (tt, λ y z v w p q. (p.0 ∙ sym q.0, ap (λ x. (tt, (tt, (x, (tt, tt))))) (p.1 ∙ sym q.1)))
+write-fills κs a = (tt, λ y z v w p q. (p.0 ∙ sym q.0, ap (λ x. (tt, (tt, (tt, (x, (tt, tt)))))) (p.1 ∙ sym q.1)))

@@ -11,13 +11,13 @@ use lib.ListN.{length}
 use Rattle.board.specs.declared.Response.{Response}
 use Rattle.base.specs.Lists.{keep, filter, In}
 use Rattle.trade.specs.declared.Deal.{Deal}
-use Rattle.trade.specs.rules.Trade.{contra, levelFills, traded, working, top, next, levelAt, walk}
+use Rattle.trade.specs.rules.Trade.{contra, level_fills, traded, working, top, next, level_at, walk}
 
 -- ---- the next price
 
 -- how many responses work at a price
-abbrev pub countAt : Deal → ℕ → List Response → ℕ
-countAt d p os = length (filter (λ o. eqb (working d o) p) os)
+abbrev pub count_at : Deal → ℕ → List Response → ℕ
+count_at d p os = length (filter (λ o. eqb (working d o) p) os)
 
 module _ (d : Deal) (from : ℕ) where
   step : Response → ℕ
@@ -56,7 +56,7 @@ module _ (d : Deal) (from : ℕ) where
   next-some [] h = absurd (omega arith)
   next-some (o ∷ os) h = go (leb (step o) (next d from os)) refl (next-some os)
     where
-      more : (p : ℕ) → 0 < countAt d p os → 0 < countAt d p (o ∷ os)
+      more : (p : ℕ) → 0 < count_at d p os → 0 < count_at d p (o ∷ os)
       more p z = put-more (eqb (working d o) p)
         where
           put-more : (b : Bool) → 0 < length (keep b o (filter (λ x. eqb (working d x) p) os))
@@ -67,10 +67,10 @@ module _ (d : Deal) (from : ℕ) where
       own true e z = rw e
       own false e z = absurd (omega (arith, rw e at z))
 
-      first_one : (p : ℕ) → working d o ≡ p → 0 < countAt d p (o ∷ os)
+      first_one : (p : ℕ) → working d o ≡ p → 0 < count_at d p (o ∷ os)
       first_one p e = rw (eq-eqb (working d o) p e) (omega arith)
 
-      go : (b : Bool) → leb (step o) (next d from os) ≡ b → (next d from os < top d → 0 < countAt d (next d from os) os) → 0 < countAt d (next d from (o ∷ os)) (o ∷ os)
+      go : (b : Bool) → leb (step o) (next d from os) ≡ b → (next d from os < top d → 0 < count_at d (next d from os) os) → 0 < count_at d (next d from (o ∷ os)) (o ∷ os)
       go true e ih =
           let t : step o ≤ next d from os = leb-true (step o) (next d from os) e in
           let p : next d from (o ∷ os) ≡ step o = omega arith in
@@ -79,7 +79,7 @@ module _ (d : Deal) (from : ℕ) where
       go false e ih =
           let t : next d from os < step o = leb-false (step o) (next d from os) e in
           let p : next d from (o ∷ os) ≡ next d from os = omega arith in
-          subst (λ n. 0 < countAt d n (o ∷ os)) (sym p) (more (next d from os) (ih (omega arith)))
+          subst (λ n. 0 < count_at d n (o ∷ os)) (sym p) (more (next d from os) (ih (omega arith)))
 
 -- ---- a step
 module _ (d : Deal) (rs : List Response) where
@@ -99,12 +99,12 @@ module _ (d : Deal) (rs : List Response) where
 
   pub walk-some : (n from left held : ℕ) → 0 < left → from ≤ top d
       → walk d rs (suc n) from left held
-      ≡ levelAt d rs (next d from rs) left held
-      ∷ walk d rs n ((levelAt d rs (next d from rs) left held).price + 1) (left - traded (levelFills (levelAt d rs (next d from rs) left held))) (held + contra (levelAt d rs (next d from rs) left held))
+      ≡ level_at d rs (next d from rs) left held
+      ∷ walk d rs n ((level_at d rs (next d from rs) left held).price + 1) (left - traded (level_fills (level_at d rs (next d from rs) left held))) (held + contra (level_at d rs (next d from rs) left held))
   unfolding walk
   walk-some n from left held z h = rw (ne_eqb left 0 (omega arith), le-ltb (top d) from h, walk)
 
 -- a level has the price that it is at
-pub price-at : (d : Deal) (rs : List Response) (p left held : ℕ) → (levelAt d rs p left held).price ≡ p
-unfolding levelAt
+pub price-at : (d : Deal) (rs : List Response) (p left held : ℕ) → (level_at d rs p left held).price ≡ p
+unfolding level_at
 price-at d rs p left held = refl

@@ -16,85 +16,85 @@ use Rattle.base.proofs.SetsLaws.{part-back, rest-is}
 use Rattle.words.specs.rules.Bits.{count_trailing_zeros, ones_in}
 use Rattle.board.specs.declared.Response.{Response}
 use Rattle.board.specs.declared.Board.{Board}
-use Rattle.board.specs.rules.Board.{live_in, live_of, inSequence}
+use Rattle.board.specs.rules.Board.{live_in, live_of, in_sequence}
 use Rattle.base.proofs.ListLaws.{shuffles-length}
 use Rattle.board.proofs.LiveLaws.{none-live, count-live}
 use Rattle.board.proofs.SequenceLaws.{sequence-shuffles}
-use Rattle.share.specs.rules.Fills.{Fill, fillOf, words}
+use Rattle.share.specs.rules.Fills.{Fill, fill_of, words}
 use Rattle.share.specs.inside.Fills.{written}
 use Rattle.share.proofs.FillsLaws.{written-words}
 use Rattle.trade.specs.declared.Deal.{Deal}
 use Rattle.trade.specs.declared.Filled.TheVariants.{Count, Refused}
-use Rattle.trade.specs.rules.Trade.{offers, Level, flat, workingStop, top, next, guaranteeOf, guarantee, marketPrice, marketTakes, marketFill, levels, fills}
-use Rattle.trade.specs.rules.Write.{reportedPrice, reported, fillsOf, roomy, fillAnswer, fillWords}
-use Rattle.trade.specs.inside.Code.{leastOf, marketBy, walkFrom}
+use Rattle.trade.specs.rules.Trade.{offers, Level, flat, working_stop, top, next, guarantee_of, guarantee, market_price, market_takes, market_fill, levels, fills}
+use Rattle.trade.specs.rules.Write.{reported_price, reported, fills_of, roomy, fill_answer, fill_words}
+use Rattle.trade.specs.inside.Code.{least_of, market_by, walk_from}
 use Rattle.trade.proofs.CodeLaws.{turn-of, count_turn, live-short}
 use Rattle.trade.proofs.StepLaws.{least-next, next-sequence, from_start}
 use Rattle.trade.proofs.LevelLaws.{ahead-all, reported-append, reported-length, reported-fill}
 use Rattle.trade.proofs.Counts.{fills-short}
 
-length-sequence : (xs : List Response) → length (inSequence xs) ≡ length xs
+length-sequence : (xs : List Response) → length (in_sequence xs) ≡ length xs
 length-sequence xs = shuffles-length (sequence-shuffles xs)
 
 -- ---- the market order's price
 
-module _ (d : Deal) (ps : List Response) (live low : ℕ) (e : low ≡ leastOf d.bound (top d) (live_in live ps)) where
-  lowest : low ≡ next d 0 (inSequence (live_in live ps))
-  lowest = e ∙ ap (leastOf d.bound (top d)) (sym (ahead-all d (live_in live ps))) ∙ least-next d 0 (live_in live ps) ∙ sym (next-sequence d 0 (live_in live ps))
+module _ (d : Deal) (ps : List Response) (live low : ℕ) (e : low ≡ least_of d.bound (top d) (live_in live ps)) where
+  lowest : low ≡ next d 0 (in_sequence (live_in live ps))
+  lowest = e ∙ ap (least_of d.bound (top d)) (sym (ahead-all d (live_in live ps))) ∙ least-next d 0 (live_in live ps) ∙ sym (next-sequence d 0 (live_in live ps))
 
-  market-mid : d.mode ≡ 2 → live ≡ 0 → (d.initiating + d.bound + 1) / 2 ≡ marketPrice d (inSequence (live_in live ps))
-  unfolding marketPrice
+  market-mid : d.mode ≡ 2 → live ≡ 0 → (d.initiating + d.bound + 1) / 2 ≡ market_price d (in_sequence (live_in live ps))
+  unfolding market_price
   market-mid m z =
-      let n : length (inSequence (live_in live ps)) ≡ 0 = length-sequence (live_in live ps) ∙ rw (z, none-live ps) in
-      rw (eq-eqb d.mode 2 m, eq-eqb (length (inSequence (live_in live ps))) 0 n)
+      let n : length (in_sequence (live_in live ps)) ≡ 0 = length-sequence (live_in live ps) ∙ rw (z, none-live ps) in
+      rw (eq-eqb d.mode 2 m, eq-eqb (length (in_sequence (live_in live ps))) 0 n)
 
-  market-low : d.mode ≡ 2 → length ps ≡ 64 → 0 < live → live < 2 ^ 64 → low ≡ marketPrice d (inSequence (live_in live ps))
-  unfolding marketPrice
+  market-low : d.mode ≡ 2 → length ps ≡ 64 → 0 < live → live < 2 ^ 64 → low ≡ market_price d (in_sequence (live_in live ps))
+  unfolding market_price
   market-low m l z f =
       let c = count_turn ps live (count_trailing_zeros 64 live) (turn-of ps live (count_trailing_zeros 64 live) l z f refl) in
-      let n : length (inSequence (live_in live ps)) ≢ 0 = λ q. omega (arith, length-sequence (live_in live ps)) in
-      rw (eq-eqb d.mode 2 m, ne_eqb (length (inSequence (live_in live ps))) 0 n) lowest
+      let n : length (in_sequence (live_in live ps)) ≢ 0 = λ q. omega (arith, length-sequence (live_in live ps)) in
+      rw (eq-eqb d.mode 2 m, ne_eqb (length (in_sequence (live_in live ps))) 0 n) lowest
 
-  market-stop : d.mode ≢ 2 → (w : ℕ) → w ≡ workingStop d → min low w ≡ marketPrice d (inSequence (live_in live ps))
-  unfolding marketPrice
+  market-stop : d.mode ≢ 2 → (w : ℕ) → w ≡ working_stop d → min low w ≡ market_price d (in_sequence (live_in live ps))
+  unfolding market_price
   market-stop m w f = rw (ne_eqb d.mode 2 m, f, lowest)
 
-  market-by : length ps ≡ 64 → live < 2 ^ 64 → marketBy d live low ≡ marketPrice d (inSequence (live_in live ps))
-  unfolding marketBy
+  market-by : length ps ≡ 64 → live < 2 ^ 64 → market_by d live low ≡ market_price d (in_sequence (live_in live ps))
+  unfolding market_by
   market-by l f = go (eqb d.mode 2) (eqb live 0) refl refl
     where
-      go : (a b : Bool) → eqb d.mode 2 ≡ a → eqb live 0 ≡ b → cond a (cond b ((d.initiating + d.bound + 1) / 2) low) (min low (max d.stop d.bound)) ≡ marketPrice d (inSequence (live_in live ps))
+      go : (a b : Bool) → eqb d.mode 2 ≡ a → eqb live 0 ≡ b → cond a (cond b ((d.initiating + d.bound + 1) / 2) low) (min low (max d.stop d.bound)) ≡ market_price d (in_sequence (live_in live ps))
       go true true m z = market-mid (eqb-true d.mode 2 m) (eqb-true live 0 z)
       go true false m z = let n : live ≢ 0 = eqb-false live 0 z in market-low (eqb-true d.mode 2 m) l (omega arith) f
       go false b m z = market-stop (eqb-false d.mode 2 m) (max d.stop d.bound) refl
 
 -- its fill: where it takes nothing there is none, whatever the price
-pub market-fill : (d : Deal) (b : Board) (low takes : ℕ) → length b.places ≡ 64 → b.live < 2 ^ 64 → (0 < takes → low ≡ leastOf d.bound (top d) (live_of b))
-    → fillOf d.market (reportedPrice d.sell (marketBy d b.live low)) takes ≡ fillOf d.market (reportedPrice d.sell (marketPrice d (offers b))) takes
+pub market-fill : (d : Deal) (b : Board) (low takes : ℕ) → length b.places ≡ 64 → b.live < 2 ^ 64 → (0 < takes → low ≡ least_of d.bound (top d) (live_of b))
+    → fill_of d.market (reported_price d.sell (market_by d b.live low)) takes ≡ fill_of d.market (reported_price d.sell (market_price d (offers b))) takes
 market-fill d b low takes l f lowest =
     ⊎_elim
-    (λ h. ap {B = List Fill} (λ (p : ℕ). fillOf d.market (reportedPrice d.sell p) takes) (market-by d b.places b.live low (lowest h) l f))
+    (λ h. ap {B = List Fill} (λ (p : ℕ). fill_of d.market (reported_price d.sell p) takes) (market-by d b.places b.live low (lowest h) l f))
     (λ h. let z : takes ≡ 0 = omega arith in rw z refl)
     (le-or-lt 1 takes)
 
 -- ---- all the fills
 
-pub guarantee-found : (d : Deal) (ps : List Response) (live size n g : ℕ) → length ps ≡ 64 → size ≡ d.size → n ≡ ones_in 64 live → g ≡ guaranteeOf size n
-    → g ≡ guarantee d (inSequence (live_in live ps))
+pub guarantee-found : (d : Deal) (ps : List Response) (live size n g : ℕ) → length ps ≡ 64 → size ≡ d.size → n ≡ ones_in 64 live → g ≡ guarantee_of size n
+    → g ≡ guarantee d (in_sequence (live_in live ps))
 guarantee-found d ps live size n g l z e f =
     let c : ones_in 64 live ≡ length (live_in live ps) = ap (λ (k : ℕ). ones_in k live) (sym l) ∙ count-live live ps in
-    f ∙ ap₂ guaranteeOf z (e ∙ c ∙ sym (length-sequence (live_in live ps)))
+    f ∙ ap₂ guarantee_of z (e ∙ c ∙ sym (length-sequence (live_in live ps)))
 
 pub all-fills : (d : Deal) (b : Board) (takes left : ℕ) → takes ≡ min d.size d.selling → left ≡ d.size - takes
-    → fillsOf d b ≡ fillOf d.market (reportedPrice d.sell (marketPrice d (offers b))) takes ++ reported d.sell (flat (walkFrom d (offers b) 0 left 0))
-unfolding fillsOf fills
+    → fills_of d b ≡ fill_of d.market (reported_price d.sell (market_price d (offers b))) takes ++ reported d.sell (flat (walk_from d (offers b) 0 left 0))
+unfolding fills_of fills
 all-fills d b takes left f g =
-    reported-append d.sell (marketFill d (offers b)) (flat (levels d (offers b)))
-    ∙ ap₂ {C = List Fill} (λ x y. x ++ y) (reported-fill d.sell d.market (marketPrice d (offers b)) (marketTakes d (offers b)) ∙ ap {B = List Fill} (λ (q : ℕ). fillOf d.market (reportedPrice d.sell (marketPrice d (offers b))) q) (sym f))
-    (ap (λ (ls : List Level). reported d.sell (flat ls)) (from_start d (offers b) ∙ ap (λ (n : ℕ). walkFrom d (offers b) 0 n 0) (ap (λ (n : ℕ). d.size - n) (sym f) ∙ sym g)))
+    reported-append d.sell (market_fill d (offers b)) (flat (levels d (offers b)))
+    ∙ ap₂ {C = List Fill} (λ x y. x ++ y) (reported-fill d.sell d.market (market_price d (offers b)) (market_takes d (offers b)) ∙ ap {B = List Fill} (λ (q : ℕ). fill_of d.market (reported_price d.sell (market_price d (offers b))) q) (sym f))
+    (ap (λ (ls : List Level). reported d.sell (flat ls)) (from_start d (offers b) ∙ ap (λ (n : ℕ). walk_from d (offers b) 0 n 0) (ap (λ (n : ℕ). d.size - n) (sym f) ∙ sym g)))
 
-pub fills-few : (d : Deal) (b : Board) → length b.places ≡ 64 → length (fillsOf d b) ≤ 130
-unfolding fillsOf
+pub fills-few : (d : Deal) (b : Board) → length b.places ≡ 64 → length (fills_of d b) ≤ 130
+unfolding fills_of
 fills-few d b l =
     omega (arith, reported-length d.sell (fills d (offers b)), fills-short d (offers b) (omega (arith, length-sequence (live_of b), live-short b.live b.places)))
 
@@ -112,20 +112,24 @@ words_back a xs ys fs h e =
 
 -- ---- the answers
 
-module _ (d : Deal) (b : Board) (xs : List ℕ) (start : ℕ) where
-  pub start-past : length xs < start → (Refused 39 ≡ fillAnswer d b xs start) × (xs ≡ fillWords d b xs start)
-  unfolding fillAnswer fillWords roomy
-  start-past h = rw (lt-leb start (length xs) h) (refl, refl)
+module _ (ended : Bool) (d : Deal) (b : Board) (xs : List ℕ) (start : ℕ) where
+  pub not-ended : ended ≡ false → (Refused 40 ≡ fill_answer ended d b xs start) × (xs ≡ fill_words ended d b xs start)
+  unfolding fill_answer fill_words
+  not-ended e = rw e (refl, refl)
 
-  pub too_short : start ≤ length xs → length xs - start < 390 → (Refused 39 ≡ fillAnswer d b xs start) × (xs ≡ fillWords d b xs start)
-  unfolding fillAnswer fillWords roomy
-  too_short h k = rw (le-leb start (length xs) h, lt-leb 390 (length xs - start) k) (refl, refl)
+  pub start-past : ended ≡ true → length xs < start → (Refused 39 ≡ fill_answer ended d b xs start) × (xs ≡ fill_words ended d b xs start)
+  unfolding fill_answer fill_words roomy
+  start-past e h = rw (e, lt-leb start (length xs) h) (refl, refl)
 
-  pub counted : start ≤ length xs → 390 ≤ length xs - start → (n : ℕ) → n ≡ length (fillsOf d b) → Count n ≡ fillAnswer d b xs start
-  unfolding fillAnswer roomy
-  counted h k n f = rw (le-leb start (length xs) h, le-leb 390 (length xs - start) k, f)
+  pub too_short : ended ≡ true → start ≤ length xs → length xs - start < 390 → (Refused 39 ≡ fill_answer ended d b xs start) × (xs ≡ fill_words ended d b xs start)
+  unfolding fill_answer fill_words roomy
+  too_short e h k = rw (e, le-leb start (length xs) h, lt-leb 390 (length xs - start) k) (refl, refl)
 
-  pub words-after : start ≤ length xs → 390 ≤ length xs - start
-      → take start xs ++ (words (fillsOf d b) ++ drop (start + 3 * length (fillsOf d b)) xs) ≡ fillWords d b xs start
-  unfolding fillWords roomy
-  words-after h k = rw (le-leb start (length xs) h, le-leb 390 (length xs - start) k)
+  pub counted : ended ≡ true → start ≤ length xs → 390 ≤ length xs - start → (n : ℕ) → n ≡ length (fills_of d b) → Count n ≡ fill_answer ended d b xs start
+  unfolding fill_answer roomy
+  counted e h k n f = rw (e, le-leb start (length xs) h, le-leb 390 (length xs - start) k, f)
+
+  pub words-after : ended ≡ true → start ≤ length xs → 390 ≤ length xs - start
+      → take start xs ++ (words (fills_of d b) ++ drop (start + 3 * length (fills_of d b)) xs) ≡ fill_words ended d b xs start
+  unfolding fill_words roomy
+  words-after e h k = rw (e, le-leb start (length xs) h, le-leb 390 (length xs - start) k)

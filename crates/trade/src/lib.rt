@@ -1,9 +1,9 @@
 // Who trades when an auction has ended, and the fills written of it.
 ghost use Rattle.std.specs.Prelude.{◌≡◌, true, ◌+◌, ◌*◌, ◌≤◌, ◌<◌, length};
-ghost use Rattle.share.specs.rules.Fills.{fillOf};
+ghost use Rattle.share.specs.rules.Fills.{fill_of};
 ghost use Rattle.share.specs.inside.Fills.{WroteFills};
-ghost use Rattle.trade.specs.rules.Write.{reportedPrice, fillsOf, fillAnswer, fillWords};
-ghost use Rattle.trade.specs.inside.Code.{marketBy, pricedOf, passedOf};
+ghost use Rattle.trade.specs.rules.Write.{reported_price, fills_of, fill_answer, fill_words};
+ghost use Rattle.trade.specs.inside.Code.{market_by, priced_of, passed_of};
 
 use board::Board;
 use words::bits;
@@ -120,7 +120,7 @@ struct Walked {
 // What is found at a price, with the plan of its mode.
 fn price_of(d: Deal, g: u64, s: Walked, f: Found) -> Price
     requires { (g ≤ 4294967295) × (f.price ≤ 4294967295) × (f.served + f.total ≤ 274877906880) }
-    ensures { result ≡ pricedOf d g s f }
+    ensures { result ≡ priced_of d g s f }
 {
     let top = numbers::top_of(d);
     let entry = numbers::entry_of(d);
@@ -148,7 +148,7 @@ fn price_of(d: Deal, g: u64, s: Walked, f: Found) -> Price
 // The walk stands after a price whose fills end before a word.
 fn passed(s: Walked, l: Price, at: usize) -> Walked
     requires { (l.customers + l.others ≤ s.rest) × (s.held + l.contra < 18446744073709551616) × (l.price < 18446744073709551615) }
-    ensures { result ≡ passedOf s l at }
+    ensures { result ≡ passed_of s l at }
 {
     Walked {
         from: l.price + 1,
@@ -163,7 +163,7 @@ fn passed(s: Walked, l: Price, at: usize) -> Walked
 // The price of the market order that ended the auction: lowest is the lowest working price, if there is a response, but at most the last price of the walk.
 fn market_price(d: Deal, live: u64, lowest: u64) -> u64
     requires { lowest ≤ 4294967295 }
-    ensures { (result ≡ marketBy d live lowest) × (result ≤ 4294967295) }
+    ensures { (result ≡ market_by d live lowest) × (result ≤ 4294967295) }
 {
     if d.mode == 2 {
         if live == 0 {
@@ -177,7 +177,7 @@ fn market_price(d: Deal, live: u64, lowest: u64) -> u64
 // The fill of the market order that ended the auction, at the first of the lent words; where it takes nothing there is none.
 fn write_market(d: Deal, live: u64, lowest: u64, takes: u64, out: &mut [u32]) -> usize
     requires { (lowest ≤ 4294967295) × (takes ≤ 4294967295) × (3 ≤ length out.old) }
-    ensures { WroteFills out.old 0 (fillOf d.market (reportedPrice d.sell (marketBy d live lowest)) takes) result out.new }
+    ensures { WroteFills out.old 0 (fill_of d.market (reported_price d.sell (market_by d live lowest)) takes) result out.new }
 {
     let price = numbers::reported_price(d.sell, market_price(d, live, lowest));
     write::put_fill(out, 0, d.market, price, takes)
@@ -187,7 +187,7 @@ fn write_market(d: Deal, live: u64, lowest: u64, takes: u64, out: &mut [u32]) ->
 // decided of its response, and of words of places.
 fn write_all(d: Deal, b: Board, out: &mut [u32]) -> usize
     requires { 390 ≤ length out.old }
-    ensures { WroteFills out.old 0 (fillsOf d b) result out.new }
+    ensures { WroteFills out.old 0 (fills_of d b) result out.new }
 {
     let top = numbers::top_of(d);
     let size = base::wide(d.size);
@@ -212,27 +212,11 @@ fn write_all(d: Deal, b: Board, out: &mut [u32]) -> usize
         known: false,
     };
     let mut n = scan::nothing(top);
-    let mut near: u64 = 0;
     // From the lowest working price up, until nothing is left or the last price is passed.
     while numbers::going(s.left, s.from, top) {
-        // The first look goes over all places, the others over the near ones alone: those that work below a limit. Where none of them is left, near ones are chosen among the rest.
-        let close = near & s.rest;
-        if scan::is_due(s, n, close) {
-            let limit = scan::limit_of(s.from, top);
-            near = 0;
-            let mut unsorted = s.rest;
-            while unsorted != 0 {
-                let i = bits::first_set(unsorted) as usize;
-                near = scan::nearer(near, limit, numbers::working(b.places[i].price, d.bound), i);
-                unsorted = bits::without_lowest(unsorted);
-            }
-            near = scan::or_all(near, s.rest);
-            s.known = false;
-            continue;
-        }
         // A look finds what stands at the two lowest prices: every other price is known from the look before.
         let mut f = scan::kept(s.known, n, top);
-        let mut unseen = scan::unseen(s.known, scan::or_all(close, s.rest));
+        let mut unseen = scan::unseen(s.known, s.rest);
         n = scan::nothing(top);
         while unseen != 0 {
             let i = bits::first_set(unseen) as usize;
@@ -293,12 +277,15 @@ fn write_all(d: Deal, b: Board, out: &mut [u32]) -> usize
     s.at
 }
 
-// Writes the fills of a deal over a board into the part of the lent words from `start` on, and counts them.
-// 39: fewer than 390 words from the start place, or a start past the end. A refusal changes nothing.
-pub fn write_fills(d: Deal, b: Board, out: &mut [u32], start: usize) -> Filled
-    ensures value { result ≡ fillAnswer d b out.old start }
-    ensures out_after { out.new ≡ fillWords d b out.old start }
+// Writes the fills of an ended auction into the part of the lent words from `start` on, and counts them.
+// 40: it has not ended; 39: fewer than 390 words from the start place, or a start past the end. A refusal changes nothing.
+pub fn write_fills(ended: bool, d: Deal, b: Board, out: &mut [u32], start: usize) -> Filled
+    ensures value { result ≡ fill_answer ended d b out.old start }
+    ensures out_after { out.new ≡ fill_words ended d b out.old start }
 {
+    if !ended {
+        return Filled::Refused(40);
+    }
     let n = out.len();
     if n < start {
         return Filled::Refused(39);

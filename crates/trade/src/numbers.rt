@@ -1,8 +1,8 @@
 // The numbers of a deal and of a level.
 ghost use Rattle.std.specs.Prelude.{◌≡◌, cond, ◌&&◌, ◌+◌, ◌*◌, ◌/◌, ◌≤◌, ◌<◌, min, max, leb, ltb, eqb};
-ghost use Rattle.trade.specs.rules.Trade.{top, entry, guaranteeOf};
-ghost use Rattle.trade.specs.rules.Write.{reportedPrice};
-ghost use Rattle.trade.specs.inside.Code.{inTurnOf, match_of, last_of, wantOf, sharedOf, contraOf, left_of};
+ghost use Rattle.trade.specs.rules.Trade.{top, entry, guarantee_of};
+ghost use Rattle.trade.specs.rules.Write.{reported_price};
+ghost use Rattle.trade.specs.inside.Code.{in_turn_of, match_of, last_of, want_of, shared_of, contra_of, left_of};
 
 use crate::Deal;
 use words::bits;
@@ -47,7 +47,7 @@ fn percent_of(size: u64, n: u32) -> u64
 // The guarantee of an order of this size, where n responses are live.
 pub(crate) fn guarantee_of(size: u64, n: u32) -> u64
     requires { size ≤ 4294967295 }
-    ensures { (result ≡ guaranteeOf size n) × (result ≤ 4294967295) }
+    ensures { (result ≡ guarantee_of size n) × (result ≤ 4294967295) }
 {
     let g = percent_of(size, n);
     if g == 0 {
@@ -84,7 +84,7 @@ pub(crate) fn is_last(entry: u64, top: u64, p: u64, left: u64, need: u64) -> boo
 
 // What the Contra Order takes before the others.
 pub(crate) fn wanted(last: bool, entry: u64, p: u64, g: u64, held: u64, m: u64) -> u64
-    ensures { (result ≡ wantOf last entry p g held m) × (result ≤ max g m) }
+    ensures { (result ≡ want_of last entry p g held m) × (result ≤ max g m) }
 {
     if last {
         return g - base::lesser(g, held);
@@ -97,7 +97,7 @@ pub(crate) fn wanted(last: bool, entry: u64, p: u64, g: u64, held: u64, m: u64) 
 
 // What Customers and the Contra Order's first part leave to the others.
 pub(crate) fn shared_of(left: u64, c: u64, want: u64) -> u64
-    ensures { (result ≡ sharedOf left c want) × (result ≤ left) }
+    ensures { (result ≡ shared_of left c want) × (result ≤ left) }
 {
     let after = left - base::lesser(left, c);
     after - base::lesser(after, want)
@@ -105,7 +105,7 @@ pub(crate) fn shared_of(left: u64, c: u64, want: u64) -> u64
 
 // What the Contra Order gets at a level: c and t are the sizes of its Customers and of the others.
 pub(crate) fn contra_of(left: u64, c: u64, t: u64, want: u64, last: bool) -> u64
-    ensures { result ≡ contraOf left c t want last }
+    ensures { result ≡ contra_of left c t want last }
 {
     let first = base::lesser(left - base::lesser(left, c), want);
     if last {
@@ -128,7 +128,7 @@ pub(crate) fn left_of(left: u64, c: u64, t: u64, want: u64, last: bool) -> u64
 
 // Whether the others are served in turn: where there is enough for all of them, or one alone.
 pub(crate) fn in_turn(total: u64, shared: u64, others: u64) -> bool
-    ensures { result ≡ inTurnOf total shared others }
+    ensures { result ≡ in_turn_of total shared others }
 {
     (total <= shared) | (bits::without_lowest(others) == 0)
 }
@@ -146,7 +146,7 @@ pub(crate) fn going(left: u64, from: u64, top: u64) -> bool
 // A price as it is reported: a sell's is mirrored back.
 pub(crate) fn reported_price(sell: bool, p: u64) -> u32
     requires { p ≤ 4294967295 }
-    ensures { result ≡ reportedPrice sell p }
+    ensures { result ≡ reported_price sell p }
 {
     if sell {
         return base::mirror(p as u32);

@@ -1,15 +1,14 @@
 // What is found of a place that is looked at.
-ghost use Rattle.std.specs.Prelude.{◌≡◌, cond, ◌+◌, ◌-◌, ◌*◌, ◌/◌, ◌%◌, ◌≤◌, ◌<◌, min, max, ltb};
-ghost use Rattle.words.specs.rules.Bits.{withBit};
-ghost use Rattle.trade.specs.inside.Code.{nothingAt, found_at, rankAfter, addedTo, foundWith, laterWith, orAll, dueOf};
+ghost use Rattle.std.specs.Prelude.{◌≡◌, cond, ◌+◌, ◌*◌, ◌/◌, ◌%◌, ◌≤◌, ◌<◌, max};
+ghost use Rattle.trade.specs.inside.Code.{nothing_at, found_at, rank_after, added_to, found_with, later_with};
 
-use crate::{Found, Walked};
+use crate::Found;
 use board::Response;
 use words::bits;
 
 // Nothing, at a price.
 pub(crate) fn nothing(p: u64) -> Found
-    ensures { result ≡ nothingAt p }
+    ensures { result ≡ nothing_at p }
 {
     Found {
         price: p,
@@ -24,7 +23,7 @@ pub(crate) fn nothing(p: u64) -> Found
 
 // What is known of the next price before a look: nothing, at the last price, where none is.
 pub(crate) fn kept(known: bool, n: Found, last: u64) -> Found
-    ensures { result ≡ cond known n (nothingAt last) }
+    ensures { result ≡ cond known n (nothing_at last) }
 {
     if known {
         return n;
@@ -44,7 +43,7 @@ pub(crate) fn unseen(known: bool, rest: u64) -> u64
 
 // The sequence of the last, after one more.
 fn ranked(m: u32, s: u32) -> u32
-    ensures { result ≡ rankAfter m s }
+    ensures { result ≡ rank_after m s }
 {
     if m <= s { s } else { 4294967295 }
 }
@@ -52,7 +51,7 @@ fn ranked(m: u32, s: u32) -> u32
 // What was found, with a response at place i that works at its price.
 pub(crate) fn added(f: Found, r: Response, i: usize) -> Found
     requires { f.served + f.total ≤ 274877906880 }
-    ensures { (result ≡ addedTo f r i) × (result.served + result.total ≤ f.served + f.total + 4294967295) }
+    ensures { (result ≡ added_to f r i) × (result.served + result.total ≤ f.served + f.total + 4294967295) }
 {
     if r.customer {
         return Found {
@@ -89,7 +88,7 @@ fn found_at(f: Found, p: u64) -> Found
 // What was found at the lowest price, with a response at place i that works at p: one at a lower price stands alone.
 pub(crate) fn found(f: Found, r: Response, p: u64, i: usize) -> Found
     requires { f.served + f.total ≤ 274877906880 }
-    ensures { (result ≡ foundWith f r p i) × (result.served + result.total ≤ f.served + f.total + 4294967295) }
+    ensures { (result ≡ found_with f r p i) × (result.served + result.total ≤ f.served + f.total + 4294967295) }
 {
     if f.price < p {
         return f;
@@ -100,7 +99,7 @@ pub(crate) fn found(f: Found, r: Response, p: u64, i: usize) -> Found
 // What was found at the lowest price but one, with a response that does not work at the lowest, f: where it works at a lower one, that is f.
 pub(crate) fn later(f: Found, n: Found, r: Response, p: u64, i: usize) -> Found
     requires { n.served + n.total ≤ 274877906880 }
-    ensures { (result ≡ laterWith f n r p i) × (result.served + result.total ≤ max (f.served + f.total) (n.served + n.total) + 4294967295) }
+    ensures { (result ≡ later_with f n r p i) × (result.served + result.total ≤ max (f.served + f.total) (n.served + n.total) + 4294967295) }
 {
     if p < f.price {
         return f;
@@ -122,48 +121,4 @@ pub(crate) fn fraction_of(amount: u64, total: u64, size: u32) -> u64
     ensures { (result ≡ amount * size % total) × (result < total) }
 {
     amount * base::wide(size) % total
-}
-
-// Whether the near places are to be chosen anew: none of them is left (close), though others are. Not before the first look, nor where the next price is known to have a place.
-pub(crate) fn is_due(s: Walked, n: Found, close: u64) -> bool
-    ensures { result ≡ dueOf s n close }
-{
-    if close != 0 {
-        return false;
-    }
-    if s.from == 0 {
-        return false;
-    }
-    if s.known & ((n.customers != 0) | (n.others != 0)) {
-        return false;
-    }
-    s.rest != 0
-}
-
-// The places of a word, or all that are left where it has none.
-pub(crate) fn or_all(word: u64, rest: u64) -> u64
-    ensures { result ≡ orAll word rest }
-{
-    if word == 0 {
-        return rest;
-    }
-    word
-}
-
-// The price below which a place is near: a quarter of the way from the lowest price to come to the last.
-pub(crate) fn limit_of(from: u64, top: u64) -> u64
-    requires { (from ≤ 4294967296) × (top ≤ 4294967295) }
-    ensures { result ≡ from + (top - min from top) / 4 + 1 }
-{
-    from + (top - base::lesser(from, top)) / 4 + 1
-}
-
-// The near places, with place i where it works below the limit.
-pub(crate) fn nearer(near: u64, limit: u64, working: u64, i: usize) -> u64
-    ensures { result ≡ cond (ltb working limit) (withBit near i) near }
-{
-    if working < limit {
-        return bits::with_bit(near, i);
-    }
-    near
 }

@@ -1,9 +1,9 @@
 // Writes fills into lent words.
 ghost use Rattle.std.specs.Prelude.{◌≡◌, true, false, cond, ◌+◌, ◌*◌, ◌≤◌, ◌<◌, leb, length};
-ghost use Rattle.share.specs.rules.Fills.{fillOf};
+ghost use Rattle.share.specs.rules.Fills.{fill_of};
 ghost use Rattle.share.specs.inside.Fills.{WroteFills};
-ghost use Rattle.share.specs.inside.Cut.{oneBy, spareBy};
-ghost use Rattle.trade.specs.inside.Code.{Gives, huntingOf, handOf, runsOn, metOf, nextFills, next_of, servedFills, servedOf};
+ghost use Rattle.share.specs.inside.Cut.{one_by, spare_by};
+ghost use Rattle.trade.specs.inside.Code.{Gives, hunting_of, hand_of, runs_on, met_of, next_fills, next_of, served_fills, served_of};
 
 use crate::{Given, Hand, Price, scan};
 use board::Response;
@@ -12,8 +12,8 @@ use words::bits;
 // One fill of three words, and none where the quantity is zero. Answers the place after it.
 pub(crate) fn put_fill(out: &mut [u32], at: usize, party: u32, price: u32, quantity: u64) -> usize
     requires quantity_bound { quantity ≤ 4294967295 }
-    requires quantity_in_bounds { at + 3 * length (fillOf party price quantity) ≤ length out.old }
-    ensures { WroteFills out.old at (fillOf party price quantity) result out.new }
+    requires quantity_in_bounds { at + 3 * length (fill_of party price quantity) ≤ length out.old }
+    ensures { WroteFills out.old at (fill_of party price quantity) result out.new }
 {
     if 0 < quantity {
         out[at] = party;
@@ -27,7 +27,7 @@ pub(crate) fn put_fill(out: &mut [u32], at: usize, party: u32, price: u32, quant
 
 // What one with this fraction is given of the leftovers: one above the cut, and at it one of those that are spare.
 fn one_of(cut: u64, spare: u64, fraction: u64) -> Given
-    ensures { (result.quantity ≡ oneBy cut spare fraction) × (result.left ≡ spareBy cut spare fraction) × (result.quantity ≤ 1) }
+    ensures { (result.quantity ≡ one_by cut spare fraction) × (result.left ≡ spare_by cut spare fraction) × (result.quantity ≤ 1) }
 {
     if cut < fraction {
         return Given {
@@ -71,7 +71,7 @@ fn given(turns: bool, amount: u64, total: u64, cut: u64, k: u64, size: u32) -> G
 
 // The places of a word, to be looked over for the lowest sequence.
 fn hunting(last: bool, turns: bool, word: u64, k: u64, at: usize) -> Hand
-    ensures { result ≡ huntingOf last turns word k at }
+    ensures { result ≡ hunting_of last turns word k at }
 {
     Hand {
         done: false,
@@ -90,7 +90,7 @@ fn hunting(last: bool, turns: bool, word: u64, k: u64, at: usize) -> Hand
 
 // The places of a word: sequence is that of the last, where they stand in rising order.
 pub(crate) fn hand_of(last: bool, turns: bool, word: u64, sequence: u32, k: u64, at: usize) -> Hand
-    ensures { result ≡ handOf last turns word sequence k at }
+    ensures { result ≡ hand_of last turns word sequence k at }
 {
     if sequence < 4294967295 {
         return Hand {
@@ -112,7 +112,7 @@ pub(crate) fn hand_of(last: bool, turns: bool, word: u64, sequence: u32, k: u64,
 
 // The run goes on as it says, past the place that was looked at.
 fn with_run(h: Hand, run: u64, late: u64, edge: u64, first: u64, latest: u64) -> Hand
-    ensures { result ≡ runsOn h run late edge first latest }
+    ensures { result ≡ runs_on h run late edge first latest }
 {
     Hand {
         done: false,
@@ -132,7 +132,7 @@ fn with_run(h: Hand, run: u64, late: u64, edge: u64, first: u64, latest: u64) ->
 // A place is looked at, whose sequence is t: the run begins anew at the lowest sequence, goes on where it rises, and else the place comes late.
 pub(crate) fn met(h: Hand, t: u64, i: usize) -> Hand
     requires { (t < 4294967296) × (h.run + h.late < 18446744073709551616) }
-    ensures { result ≡ metOf h t i }
+    ensures { result ≡ met_of h t i }
 {
     if t < h.first {
         return with_run(h, bits::with_bit(0, i), h.run + h.late, h.first, t, t);
@@ -152,9 +152,9 @@ pub(crate) fn met(h: Hand, t: u64, i: usize) -> Hand
 
 // The Contra Order's fill, and the others after it.
 fn others_of(l: Price, spare: u64, out: &mut [u32], at: usize) -> Hand
-    requires { (l.contra ≤ 4294967295) × (at + 3 * length (fillOf 0 l.reported l.contra) ≤ length out.old) }
-    ensures wrote_fills { WroteFills out.old at (fillOf 0 l.reported l.contra) result.at out.new }
-    ensures value { result ≡ handOf true l.turns l.others l.other (cond l.turns l.shared spare) result.at }
+    requires { (l.contra ≤ 4294967295) × (at + 3 * length (fill_of 0 l.reported l.contra) ≤ length out.old) }
+    ensures wrote_fills { WroteFills out.old at (fill_of 0 l.reported l.contra) result.at out.new }
+    ensures value { result ≡ hand_of true l.turns l.others l.other (cond l.turns l.shared spare) result.at }
 {
     let n = put_fill(out, at, 0, l.reported, l.contra);
     if l.turns {
@@ -165,8 +165,8 @@ fn others_of(l: Price, spare: u64, out: &mut [u32], at: usize) -> Hand
 
 // Where the run is served: those that come late, or the Contra Order and the others after the Customers, or nothing more.
 pub(crate) fn next(h: Hand, l: Price, spare: u64, out: &mut [u32]) -> Hand
-    requires { (l.contra ≤ 4294967295) × (h.at + 3 * length (nextFills h l) ≤ length out.old) }
-    ensures wrote_fills { WroteFills out.old h.at (nextFills h l) result.at out.new }
+    requires { (l.contra ≤ 4294967295) × (h.at + 3 * length (next_fills h l) ≤ length out.old) }
+    ensures wrote_fills { WroteFills out.old h.at (next_fills h l) result.at out.new }
     ensures value { result ≡ next_of h l spare result.at }
 {
     if h.late != 0 {
@@ -193,9 +193,9 @@ pub(crate) fn next(h: Hand, l: Price, spare: u64, out: &mut [u32]) -> Hand
 // The first of the run is served, where its sequence is below the edge; else all are looked over again.
 pub(crate) fn filled(h: Hand, l: Price, cut: u64, r: Response, out: &mut [u32]) -> Hand
     requires shared_bound { (l.shared ≤ 4294967295) × (h.k ≤ 4294967295) × (h.turns ≡ false → l.shared < l.total) × (h.run + h.late < 18446744073709551616) }
-    requires r_in_bounds { h.at + 3 * length (servedFills h l cut r) ≤ length out.old }
-    ensures wrote_fills { WroteFills out.old h.at (servedFills h l cut r) result.at out.new }
-    ensures value { result ≡ servedOf h l cut r result.at }
+    requires r_in_bounds { h.at + 3 * length (served_fills h l cut r) ≤ length out.old }
+    ensures wrote_fills { WroteFills out.old h.at (served_fills h l cut r) result.at out.new }
+    ensures value { result ≡ served_of h l cut r result.at }
 {
     if h.edge <= base::wide(r.sequence) {
         return hunting(h.last, h.turns, h.run + h.late, h.k, h.at);

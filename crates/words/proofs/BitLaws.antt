@@ -12,7 +12,7 @@ use lib.Pow.{pow_pos, pow_mono, split, high}
 use borrow.Author.Tests.{lt-ltb, le-ltb, eqb-true, eqb-false, eq-eqb, ne_eqb}
 use Rattle.base.proofs.Bools.{bool-or}
 use Rattle.base.proofs.Numbers.{le-or-lt}
-use Rattle.words.specs.rules.Bits.{bit_at, withBit, withoutBit, ones_in, clearIn, count_trailing_zeros, withoutLowest}
+use Rattle.words.specs.rules.Bits.{bit_at, with_bit, without_bit, ones_in, clear_in, count_trailing_zeros, without_lowest}
 
 -- ---- the lowest digit
 pub bit-or : (w : ℕ) → (w % 2 ≡ 0) ⊎ (w % 2 ≡ 1)
@@ -103,42 +103,42 @@ pub cut-back : (w i : ℕ) → bit_at w i ≡ true → w - 2 ^ i + 2 ^ i ≡ w
 cut-back w i t = omega (arith, bit_le w i t)
 
 -- ---- a bit set, and cleared
-pub with-clear : (w i : ℕ) → i < 64 → bit_at w i ≡ false → withBit w i ≡ w + 2 ^ i
-unfolding withBit
+pub with-clear : (w i : ℕ) → i < 64 → bit_at w i ≡ false → with_bit w i ≡ w + 2 ^ i
+unfolding with_bit
 with-clear w i l t = rw (lt-ltb i 64 l, t)
 
-pub with-set : (w i : ℕ) → bit_at w i ≡ true → withBit w i ≡ w
-unfolding withBit
+pub with-set : (w i : ℕ) → bit_at w i ≡ true → with_bit w i ≡ w
+unfolding with_bit
 with-set w i t = ⊎_elim (λ l. rw (le-ltb i 64 l)) (λ l. rw (lt-ltb i 64 l, t)) (le-or-lt 64 i)
 
-pub with-past : (w i : ℕ) → 64 ≤ i → withBit w i ≡ w
-unfolding withBit
+pub with-past : (w i : ℕ) → 64 ≤ i → with_bit w i ≡ w
+unfolding with_bit
 with-past w i l = rw (le-ltb i 64 l)
 
-pub without-set : (w i : ℕ) → bit_at w i ≡ true → withoutBit w i ≡ w - 2 ^ i
-unfolding withoutBit
+pub without-set : (w i : ℕ) → bit_at w i ≡ true → without_bit w i ≡ w - 2 ^ i
+unfolding without_bit
 without-set w i t = rw t
 
-pub without-clear : (w i : ℕ) → bit_at w i ≡ false → withoutBit w i ≡ w
-unfolding withoutBit
+pub without-clear : (w i : ℕ) → bit_at w i ≡ false → without_bit w i ≡ w
+unfolding without_bit
 without-clear w i t = rw t
 
 -- the bit itself
-pub with-same : (w i : ℕ) → i < 64 → bit_at (withBit w i) i ≡ true
+pub with-same : (w i : ℕ) → i < 64 → bit_at (with_bit w i) i ≡ true
 with-same w i l = ⊎_elim (λ t. rw (with-set w i t) t) (λ t. rw (with-clear w i l t) (add_same w i t)) (bool-or (bit_at w i))
 
-pub without-same : (w i : ℕ) → bit_at (withoutBit w i) i ≡ false
+pub without-same : (w i : ℕ) → bit_at (without_bit w i) i ≡ false
 without-same w i = ⊎_elim (λ t. rw (without-set w i t) (cut-same w i t)) (λ t. rw (without-clear w i t) t) (bool-or (bit_at w i))
 
 -- every other bit stays
-pub with-other : (w i j : ℕ) → (j ≡ i → ⊥) → bit_at (withBit w i) j ≡ bit_at w j
+pub with-other : (w i j : ℕ) → (j ≡ i → ⊥) → bit_at (with_bit w i) j ≡ bit_at w j
 with-other w i j n =
     ⊎_elim
     (λ l. rw (with-past w i l))
     (λ l. ⊎_elim (λ t. rw (with-set w i t)) (λ t. rw (with-clear w i l t) (add-other w i j t n)) (bool-or (bit_at w i)))
     (le-or-lt 64 i)
 
-pub without_other : (w i j : ℕ) → (j ≡ i → ⊥) → bit_at (withoutBit w i) j ≡ bit_at w j
+pub without_other : (w i j : ℕ) → (j ≡ i → ⊥) → bit_at (without_bit w i) j ≡ bit_at w j
 without_other w i j n =
     ⊎_elim
     (λ t. rw (without-set w i t) (rw (cut-back w i t) at (sym (add-other (w - 2 ^ i) i j (cut-same w i t) n))))
@@ -146,21 +146,21 @@ without_other w i j n =
     (bool-or (bit_at w i))
 
 -- a bit that is still set is another one, and was set before
-pub without_not : (w i j : ℕ) → bit_at (withoutBit w i) j ≡ true → j ≡ i → ⊥
-without_not w i j t e = true≢false (sym t ∙ ap (bit_at (withoutBit w i)) e ∙ without-same w i)
+pub without_not : (w i j : ℕ) → bit_at (without_bit w i) j ≡ true → j ≡ i → ⊥
+without_not w i j t e = true≢false (sym t ∙ ap (bit_at (without_bit w i)) e ∙ without-same w i)
 
-pub without_in : (w i j : ℕ) → bit_at (withoutBit w i) j ≡ true → bit_at w j ≡ true
+pub without_in : (w i j : ℕ) → bit_at (without_bit w i) j ≡ true → bit_at w j ≡ true
 without_in w i j t = sym (without_other w i j (without_not w i j t)) ∙ t
 
 -- the count: one more, and one less
-pub with-ones : (w i : ℕ) → i < 64 → bit_at w i ≡ false → ones_in 64 (withBit w i) ≡ suc (ones_in 64 w)
+pub with-ones : (w i : ℕ) → i < 64 → bit_at w i ≡ false → ones_in 64 (with_bit w i) ≡ suc (ones_in 64 w)
 with-ones w i l t = rw (with-clear w i l t) (add-ones 64 w i l t)
 
-pub without-ones : (w i : ℕ) → i < 64 → bit_at w i ≡ true → ones_in 64 w ≡ suc (ones_in 64 (withoutBit w i))
+pub without-ones : (w i : ℕ) → i < 64 → bit_at w i ≡ true → ones_in 64 w ≡ suc (ones_in 64 (without_bit w i))
 without-ones w i l t = rw (without-set w i t) (rw (cut-back w i t) at (add-ones 64 (w - 2 ^ i) i l (cut-same w i t)))
 
 -- a word stays a word
-pub with-fits : (w i : ℕ) → w < 2 ^ 64 → withBit w i < 2 ^ 64
+pub with-fits : (w i : ℕ) → w < 2 ^ 64 → with_bit w i < 2 ^ 64
 with-fits w i h =
     ⊎_elim
     (λ l. rw (with-past w i l) h)
@@ -178,30 +178,30 @@ with-fits w i h =
         let ih = add-fits k (w / 2) i (omega (arith, pow-suc 2 k)) (le_of_suc-le-suc l) (bit-half w i ∙ t) in
         omega (arith, pow-suc 2 k, pow-suc 2 i)
 
-pub without-le : (w i : ℕ) → withoutBit w i ≤ w
+pub without-le : (w i : ℕ) → without_bit w i ≤ w
 without-le w i = ⊎_elim (λ t. rw (without-set w i t) (omega arith)) (λ t. rw (without-clear w i t) (omega arith)) (bool-or (bit_at w i))
 
-pub without-lt : (w i : ℕ) → bit_at w i ≡ true → withoutBit w i < w
+pub without-lt : (w i : ℕ) → bit_at w i ≡ true → without_bit w i < w
 without-lt w i t = rw (without-set w i t) (omega (arith, bit_le w i t, pow_pos i))
 
 -- ---- the lowest clear bit
-pub clear-even : (k w : ℕ) → w % 2 ≡ 0 → clearIn (suc k) w ≡ 0
-unfolding clearIn
-clear-even k w e = ap (λ (d : ℕ). cond (eqb d 1) (suc (clearIn k (w / 2))) 0) e
+pub clear-even : (k w : ℕ) → w % 2 ≡ 0 → clear_in (suc k) w ≡ 0
+unfolding clear_in
+clear-even k w e = ap (λ (d : ℕ). cond (eqb d 1) (suc (clear_in k (w / 2))) 0) e
 
-pub clear-odd : (k w : ℕ) → w % 2 ≡ 1 → clearIn (suc k) w ≡ suc (clearIn k (w / 2))
-unfolding clearIn
-clear-odd k w e = ap (λ (d : ℕ). cond (eqb d 1) (suc (clearIn k (w / 2))) 0) e
+pub clear-odd : (k w : ℕ) → w % 2 ≡ 1 → clear_in (suc k) w ≡ suc (clear_in k (w / 2))
+unfolding clear_in
+clear-odd k w e = ap (λ (d : ℕ). cond (eqb d 1) (suc (clear_in k (w / 2))) 0) e
 
-pub clear-le : (k w : ℕ) → clearIn k w ≤ k
-unfolding clearIn
+pub clear-le : (k w : ℕ) → clear_in k w ≤ k
+unfolding clear_in
 clear-le zero w = omega arith
 clear-le (suc k) w =
     let ih = clear-le k (w / 2) in
     ⊎_elim (λ e. omega (arith, clear-even k w e)) (λ e. omega (arith, clear-odd k w e)) (bit-or w)
 
 -- it is clear
-pub clear-is : (k w : ℕ) → clearIn k w < k → bit_at w (clearIn k w) ≡ false
+pub clear-is : (k w : ℕ) → clear_in k w < k → bit_at w (clear_in k w) ≡ false
 clear-is zero w h = absurd (not-suc-le-zero h)
 clear-is (suc k) w h =
     let ih = clear-is k (w / 2) in
@@ -211,8 +211,8 @@ clear-is (suc k) w h =
     (bit-or w)
 
 -- all below it are set
-pub clear-least : (k w j : ℕ) → j < clearIn k w → bit_at w j ≡ true
-unfolding clearIn
+pub clear-least : (k w j : ℕ) → j < clear_in k w → bit_at w j ≡ true
+unfolding clear_in
 clear-least zero w j h = absurd (not-suc-le-zero h)
 clear-least (suc k) w zero h =
     ⊎_elim (λ e. absurd (omega (arith, clear-even k w e))) (λ e. one_bit w 0 (omega arith)) (bit-or w)
@@ -224,15 +224,15 @@ clear-least (suc k) w (suc j) h =
     (bit-or w)
 
 -- so there is one where any bit is clear
-pub some-clear : (k w j : ℕ) → j < k → bit_at w j ≡ false → clearIn k w < k
+pub some-clear : (k w j : ℕ) → j < k → bit_at w j ≡ false → clear_in k w < k
 some-clear k w j l t =
     ⊎_elim
     (λ le. let one = bit-one w j (clear-least k w j (omega arith)) in let none = bit-zero w j t in absurd (omega arith))
     (λ lt. lt)
-    (le-or-lt k (clearIn k w))
+    (le-or-lt k (clear_in k w))
 
 -- and that is where fewer than all are set
-pub clear-ones : (k w : ℕ) → clearIn k w < k → ones_in k w < k
+pub clear-ones : (k w : ℕ) → clear_in k w < k → ones_in k w < k
 unfolding ones_in
 clear-ones zero w h = absurd (not-suc-le-zero h)
 clear-ones (suc k) w h =
@@ -245,7 +245,7 @@ clear-ones (suc k) w h =
     ones-le zero w = omega arith
     ones-le (suc k) w = omega (arith, ones-le k (w / 2))
 
-pub ones-clear : (k w : ℕ) → ones_in k w < k → clearIn k w < k
+pub ones-clear : (k w : ℕ) → ones_in k w < k → clear_in k w < k
 unfolding ones_in
 ones-clear zero w h = absurd (not-suc-le-zero h)
 ones-clear (suc k) w h =
@@ -307,6 +307,6 @@ lowest_set w i p h e =
     record { place = omega arith; set = rw e (set_is 64 w l); none = λ j m. set-least 64 w j (omega arith) }
 
 -- and what it has left after that
-pub without-lowest : (w i : ℕ) → i ≡ count_trailing_zeros 64 w → withoutLowest w ≡ withoutBit w i
-unfolding withoutLowest
-without-lowest w i e = ap (withoutBit w) (sym e)
+pub without-lowest : (w i : ℕ) → i ≡ count_trailing_zeros 64 w → without_lowest w ≡ without_bit w i
+unfolding without_lowest
+without-lowest w i e = ap (without_bit w) (sym e)

@@ -10,7 +10,7 @@ use lib.Dec.{lit<}
 use lib.Pow.{pow-lt, shl_exact}
 use lib.Count.{ones, ones_step}
 use lib.Bits.{bit_and, bit_or, and_step, and_self, and_high, or_add_and}
-use Rattle.words.specs.rules.Bits.{bit_at, withBit, withoutBit, ones_in, clearIn, count_trailing_zeros, withoutLowest}
+use Rattle.words.specs.rules.Bits.{bit_at, with_bit, without_bit, ones_in, clear_in, count_trailing_zeros, without_lowest}
 use Rattle.base.proofs.Bools.{bool-or}
 use Rattle.words.proofs.BitLaws.{bit-or, bit-one, bit-zero, with-clear, with-set, without-set, without-clear, clear-even, clear-odd, set-even, set-odd, some-set, set_is}
 
@@ -29,7 +29,7 @@ and_set w i t = and-bit w i ∙ rw (bit-one w i t) (one-mul (2 ^ i))
 and-clear : (w i : ℕ) → bit_at w i ≡ false → bit_and w (2 ^ i) ≡ 0
 and-clear w i t = and-bit w i ∙ rw (bit-zero w i t) (zero-mul (2 ^ i))
 
-pub or_is : (w i : ℕ) → i < 64 → bit_or w (1 * 2 ^ i % 2 ^ 64) ≡ withBit w i
+pub or_is : (w i : ℕ) → i < 64 → bit_or w (1 * 2 ^ i % 2 ^ 64) ≡ with_bit w i
 or_is w i l =
     ap (bit_or w) (shl_one i l) ∙
     ⊎_elim
@@ -53,7 +53,7 @@ and-not (suc k) w m h l =
     rw (and_step w (2 ^ suc k - 1 - m), and_step w m, e, f)
     (not-join w _ _ _ _ ih (not_digit (w % 2) (m % 2) (omega arith) (omega arith)))
 
-pub and-not-is : (w i : ℕ) → w < 2 ^ 64 → i < 64 → bit_and w ((2 ^ 64 - 1) - 1 * 2 ^ i % 2 ^ 64) ≡ withoutBit w i
+pub and-not-is : (w i : ℕ) → w < 2 ^ 64 → i < 64 → bit_and w ((2 ^ 64 - 1) - 1 * 2 ^ i % 2 ^ 64) ≡ without_bit w i
 and-not-is w i h l =
     ap (λ (n : ℕ). bit_and w ((2 ^ 64 - 1) - n)) (shl_one i l) ∙
     ⊎_elim
@@ -67,8 +67,8 @@ unfolding ones_in ones
 ones_is zero w h = let e : w ≡ 0 = omega arith in rw e
 ones_is (suc k) w h = ones_step w ∙ ap (λ (n : ℕ). w % 2 + n) (ones_is k (w / 2) (omega (arith, pow-suc 2 k)))
 
-pub inverted-is : (k w : ℕ) → w < 2 ^ k → count_trailing_zeros k ((2 ^ k - 1) - w) ≡ clearIn k w
-unfolding count_trailing_zeros clearIn
+pub inverted-is : (k w : ℕ) → w < 2 ^ k → count_trailing_zeros k ((2 ^ k - 1) - w) ≡ clear_in k w
+unfolding count_trailing_zeros clear_in
 inverted-is zero w h = refl
 inverted-is (suc k) w h =
     let odd : w % 2 + (2 ^ suc k - 1 - w) % 2 ≡ 1 = omega (arith, pow-suc 2 k) in
@@ -101,10 +101,10 @@ and-less (suc k) w p h =
     and_step w (w - 1) ∙ rw (half, odd, set-odd k w e, and_self (w / 2)) (less-odd w e))
     (bit-or w)
 
-pub and-less-is : (w : ℕ) → 0 < w → w < 2 ^ 64 → bit_and w (w - 1) ≡ withoutLowest w
-unfolding withoutLowest
+pub and-less-is : (w : ℕ) → 0 < w → w < 2 ^ 64 → bit_and w (w - 1) ≡ without_lowest w
+unfolding without_lowest
 and-less-is w p h = and-less 64 w p h ∙ sym (without-set w (count_trailing_zeros 64 w) (set_is 64 w (some-set 64 w p h)))
 
-pub none-less : withoutLowest 0 ≡ 0
-unfolding withoutLowest withoutBit count_trailing_zeros
+pub none-less : without_lowest 0 ≡ 0
+unfolding without_lowest without_bit count_trailing_zeros
 none-less = refl

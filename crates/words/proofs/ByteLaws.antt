@@ -11,8 +11,8 @@ use lib.Seq.{sets, take-suc, drop-cons, length-take-le, get_or-append-add, get_o
 use native.Mathlib.Numerals.{add-one}
 use Rattle.base.proofs.Numbers.{le-or-lt}
 use Rattle.base.proofs.SetsLaws.{sets-append, sets-front}
-use Rattle.words.specs.rules.Bytes.{AllBytes, joined, u32Bytes, word_bytes, word_at, with_words}
-use Rattle.words.specs.inside.Row.{wordsFrom}
+use Rattle.words.specs.rules.Bytes.{AllBytes, joined, u32_bytes, word_bytes, word_at, with_words}
+use Rattle.words.specs.inside.Row.{words_from}
 
 -- four stores in a row, as code writes their places
 pub sets4 : (s : List ℕ) (i a b c d : ℕ) → set (set (set (set s i a) (i + 1) b) (i + 2) c) (i + 3) d ≡ sets s i (a ∷ b ∷ c ∷ d ∷ [])
@@ -40,7 +40,7 @@ joined_bytes v h =
     (rw d3 at (div-add-mod' (v / 65536) 256)))
 
 -- the bytes come back from the number
-pub bytes-joined : (a b c d : ℕ) → a < 256 → b < 256 → c < 256 → d < 256 → u32Bytes (joined a b c d) ≡ a ∷ b ∷ c ∷ d ∷ []
+pub bytes-joined : (a b c d : ℕ) → a < 256 → b < 256 → c < 256 → d < 256 → u32_bytes (joined a b c d) ≡ a ∷ b ∷ c ∷ d ∷ []
 bytes-joined a b c d ha hb hc hd =
     let q1 : joined a b c d / 256 ≡ b + c * 256 + d * 65536 = omega arith in
     let q2 : joined a b c d / 65536 ≡ c + d * 256 = omega arith in
@@ -53,32 +53,32 @@ bytes-joined a b c d ha hb hc hd =
 
 -- ---- rows of words
 
-pub length-wordBytes : (ws : List ℕ) → length (word_bytes ws) ≡ length ws * 4
-length-wordBytes [] = refl
-length-wordBytes (w ∷ ws) = omega (arith, length-wordBytes ws)
+pub length-word_bytes : (ws : List ℕ) → length (word_bytes ws) ≡ length ws * 4
+length-word_bytes [] = refl
+length-word_bytes (w ∷ ws) = omega (arith, length-word_bytes ws)
 
-wordBytes-append : (xs ys : List ℕ) → word_bytes (xs ++ ys) ≡ word_bytes xs ++ word_bytes ys
-wordBytes-append [] ys = refl
-wordBytes-append (x ∷ xs) ys = ap (λ (l : List ℕ). u32Bytes x ++ l) (wordBytes-append xs ys)
+word_bytes-append : (xs ys : List ℕ) → word_bytes (xs ++ ys) ≡ word_bytes xs ++ word_bytes ys
+word_bytes-append [] ys = refl
+word_bytes-append (x ∷ xs) ys = ap (λ (l : List ℕ). u32_bytes x ++ l) (word_bytes-append xs ys)
 
 -- one word more
-pub word_more : (s ws : List ℕ) (at i : ℕ) → i < length ws → sets (sets s at (word_bytes (take i ws))) (at + i * 4) (u32Bytes (get_or ws i 0)) ≡ sets s at (word_bytes (take (i + 1) ws))
+pub word_more : (s ws : List ℕ) (at i : ℕ) → i < length ws → sets (sets s at (word_bytes (take i ws))) (at + i * 4) (u32_bytes (get_or ws i 0)) ≡ sets s at (word_bytes (take (i + 1) ws))
 word_more s ws at i h =
     let e : take (i + 1) ws ≡ take i ws ++ (get_or ws i 0 ∷ []) = rw (add-one, take-suc ws i 0) in
-    let n : length (word_bytes (take i ws)) ≡ i * 4 = omega (arith, length-wordBytes (take i ws), length-take-le i ws (omega arith)) in
+    let n : length (word_bytes (take i ws)) ≡ i * 4 = omega (arith, length-word_bytes (take i ws), length-take-le i ws (omega arith)) in
     sym
     (ap (λ (l : List ℕ). sets s at (word_bytes l)) e
-    ∙ ap (λ (l : List ℕ). sets s at l) (wordBytes-append (take i ws) (get_or ws i 0 ∷ []))
-    ∙ sets-append s at (word_bytes (take i ws)) (u32Bytes (get_or ws i 0))
-    ∙ ap (λ (k : ℕ). sets (sets s at (word_bytes (take i ws))) (at + k) (u32Bytes (get_or ws i 0))) n)
+    ∙ ap (λ (l : List ℕ). sets s at l) (word_bytes-append (take i ws) (get_or ws i 0 ∷ []))
+    ∙ sets-append s at (word_bytes (take i ws)) (u32_bytes (get_or ws i 0))
+    ∙ ap (λ (k : ℕ). sets (sets s at (word_bytes (take i ws))) (at + k) (u32_bytes (get_or ws i 0))) n)
 
 -- ---- one word
 
 -- the four bytes that stand at `at`
-abbrev pub fourAt : List ℕ → ℕ → ℕ
-fourAt s at = joined (get_or s at 0) (get_or s (at + 1) 0) (get_or s (at + 2) 0) (get_or s (at + 3) 0)
+abbrev pub four_at : List ℕ → ℕ → ℕ
+four_at s at = joined (get_or s at 0) (get_or s (at + 1) 0) (get_or s (at + 2) 0) (get_or s (at + 3) 0)
 
-pub word_in : (s : List ℕ) (at : ℕ) → at + 4 ≤ length s → word_at s at ≡ fourAt s at
+pub word_in : (s : List ℕ) (at : ℕ) → at + 4 ≤ length s → word_at s at ≡ four_at s at
 unfolding word_at
 word_in s at h = simp (le-leb (at + 4) (length s) h)
 
@@ -110,7 +110,7 @@ word-past xs l k at e = ⊎_elim inside outside (le-or-lt (at + 4) (length l))
 
     inside : at + 4 ≤ length l → word_at (xs ++ l) (k + at) ≡ word_at l at
     inside h =
-        let same : fourAt (xs ++ l) (k + at) ≡ fourAt l at = simp (past xs l k at e, g 1, g 2, g 3) in
+        let same : four_at (xs ++ l) (k + at) ≡ four_at l at = simp (past xs l k at e, g 1, g 2, g 3) in
         word_in (xs ++ l) (k + at) (omega (arith, n)) ∙ same ∙ sym (word_in l at h)
 
     outside : length l < at + 4 → word_at (xs ++ l) (k + at) ≡ word_at l at
@@ -120,15 +120,15 @@ word-past xs l k at e = ⊎_elim inside outside (le-or-lt (at + 4) (length l))
 pub word-alone : (xs l : List ℕ) (at : ℕ) → at + 4 ≤ length xs → word_at (xs ++ l) at ≡ word_at xs at
 word-alone xs l at h =
     let g : (i : ℕ) → i < length xs → get_or (xs ++ l) i 0 ≡ get_or xs i 0 = get_or-append xs l 0 in
-    let same : fourAt (xs ++ l) at ≡ fourAt xs at = simp (g at (omega arith), g (at + 1) (omega arith), g (at + 2) (omega arith), g (at + 3) (omega arith)) in
+    let same : four_at (xs ++ l) at ≡ four_at xs at = simp (g at (omega arith), g (at + 1) (omega arith), g (at + 2) (omega arith), g (at + 3) (omega arith)) in
     word_in (xs ++ l) at (omega (arith, length-append xs l)) ∙ same ∙ sym (word_in xs at h)
 
 -- a word that was put in front is read
-word-front : (v : ℕ) (l : List ℕ) → v < 2 ^ 32 → word_at (u32Bytes v ++ l) 0 ≡ v
-word-front v l h = word_in (u32Bytes v ++ l) 0 (omega arith) ∙ joined_bytes v h
+word-front : (v : ℕ) (l : List ℕ) → v < 2 ^ 32 → word_at (u32_bytes v ++ l) 0 ≡ v
+word-front v l h = word_in (u32_bytes v ++ l) 0 (omega arith) ∙ joined_bytes v h
 
 -- the bytes of the word at `at`, and what is after them
-word_back : (s : List ℕ) (at : ℕ) → AllBytes s → at + 4 ≤ length s → u32Bytes (word_at s at) ++ drop (at + 4) s ≡ drop at s
+word_back : (s : List ℕ) (at : ℕ) → AllBytes s → at + 4 ≤ length s → u32_bytes (word_at s at) ++ drop (at + 4) s ≡ drop at s
 word_back s at b h =
     let e1 : suc at ≡ at + 1 = omega arith in
     let e2 : suc (at + 1) ≡ at + 2 = omega arith in
@@ -138,7 +138,7 @@ word_back s at b h =
     let d1 : drop (at + 1) s ≡ get_or s (at + 1) 0 ∷ drop (at + 2) s = rw e2 at (drop-cons s (at + 1) 0 (omega arith)) in
     let d2 : drop (at + 2) s ≡ get_or s (at + 2) 0 ∷ drop (at + 3) s = rw e3 at (drop-cons s (at + 2) 0 (omega arith)) in
     let d3 : drop (at + 3) s ≡ get_or s (at + 3) 0 ∷ drop (at + 4) s = rw e4 at (drop-cons s (at + 3) 0 (omega arith)) in
-    ap (λ (v : ℕ). u32Bytes v ++ drop (at + 4) s) (word_in s at h)
+    ap (λ (v : ℕ). u32_bytes v ++ drop (at + 4) s) (word_in s at h)
     ∙ ap (λ (l : List ℕ). l ++ drop (at + 4) s) (bytes-joined (get_or s at 0) (get_or s (at + 1) 0) (get_or s (at + 2) 0) (get_or s (at + 3) 0) (b at) (b (at + 1)) (b (at + 2)) (b (at + 3)))
     ∙ sym (d0 ∙ ap (λ (l : List ℕ). get_or s at 0 ∷ l) (d1 ∙ ap (λ (l : List ℕ). get_or s (at + 1) 0 ∷ l) (d2 ∙ ap (λ (l : List ℕ). get_or s (at + 2) 0 ∷ l) d3)))
 
@@ -150,32 +150,32 @@ Fit [] = Unit {0}
 Fit (w ∷ ws) = (w < 2 ^ 32) × Fit ws
 
 -- a row counts from the start of what is left
-pub row-past : (xs l : List ℕ) (k n at : ℕ) → length xs ≡ k → wordsFrom (xs ++ l) (k + at) n ≡ wordsFrom l at n
+pub row-past : (xs l : List ℕ) (k n at : ℕ) → length xs ≡ k → words_from (xs ++ l) (k + at) n ≡ words_from l at n
 row-past xs l k zero at e = refl
 row-past xs l k (suc n) at e =
     let a : k + at + 4 ≡ k + (at + 4) = omega arith in
     simp (word-past xs l k at e, a, row-past xs l k n (at + 4) e)
 
 -- the words that were written in front are read
-pub row_read : (ws l : List ℕ) → Fit ws → wordsFrom (word_bytes ws ++ l) 0 (length ws) ≡ ws
+pub row_read : (ws l : List ℕ) → Fit ws → words_from (word_bytes ws ++ l) 0 (length ws) ≡ ws
 row_read [] l f = refl
 row_read (w ∷ ws) l f =
-    ap (λ (x : ℕ). x ∷ wordsFrom (u32Bytes w ++ (word_bytes ws ++ l)) 4 (length ws)) (word-front w (word_bytes ws ++ l) f.0)
-    ∙ ap (λ (r : List ℕ). w ∷ r) (row-past (u32Bytes w) (word_bytes ws ++ l) 4 (length ws) 0 refl ∙ row_read ws l f.1)
+    ap (λ (x : ℕ). x ∷ words_from (u32_bytes w ++ (word_bytes ws ++ l)) 4 (length ws)) (word-front w (word_bytes ws ++ l) f.0)
+    ∙ ap (λ (r : List ℕ). w ∷ r) (row-past (u32_bytes w) (word_bytes ws ++ l) 4 (length ws) 0 refl ∙ row_read ws l f.1)
 
 -- n words that were read, written back, are the bytes
-pub row_back : (s : List ℕ) (n at : ℕ) → AllBytes s → at + n * 4 ≤ length s → word_bytes (wordsFrom s at n) ++ drop (at + n * 4) s ≡ drop at s
+pub row_back : (s : List ℕ) (n at : ℕ) → AllBytes s → at + n * 4 ≤ length s → word_bytes (words_from s at n) ++ drop (at + n * 4) s ≡ drop at s
 row_back s zero at b h = ap (λ (k : ℕ). drop k s) (add-zero at)
 row_back s (suc n) at b h =
     let e : at + suc n * 4 ≡ at + 4 + n * 4 = omega arith in
-    append_assoc (u32Bytes (word_at s at)) (word_bytes (wordsFrom s (at + 4) n)) (drop (at + suc n * 4) s)
-    ∙ ap (λ (k : ℕ). u32Bytes (word_at s at) ++ (word_bytes (wordsFrom s (at + 4) n) ++ drop k s)) e
-    ∙ ap (λ (l : List ℕ). u32Bytes (word_at s at) ++ l) (row_back s n (at + 4) b (omega arith))
+    append_assoc (u32_bytes (word_at s at)) (word_bytes (words_from s (at + 4) n)) (drop (at + suc n * 4) s)
+    ∙ ap (λ (k : ℕ). u32_bytes (word_at s at) ++ (word_bytes (words_from s (at + 4) n) ++ drop k s)) e
+    ∙ ap (λ (l : List ℕ). u32_bytes (word_at s at) ++ l) (row_back s n (at + 4) b (omega arith))
     ∙ word_back s at b (omega arith)
 
 -- a row written at the start replaces its own bytes, and no other
 pub row-front : (s ws : List ℕ) → length ws * 4 ≤ length s → with_words s 0 ws ≡ word_bytes ws ++ drop (length ws * 4) s
-row-front s ws h = row_in s 0 ws (omega arith) ∙ sets-front (word_bytes ws) s (length ws * 4) (length-wordBytes ws) h
+row-front s ws h = row_in s 0 ws (omega arith) ∙ sets-front (word_bytes ws) s (length ws * 4) (length-word_bytes ws) h
 
 -- ---- parts of bytes are bytes
 
@@ -198,9 +198,9 @@ bytes-append (x ∷ xs) ys a b (suc i) = bytes-append xs ys (λ j. a (suc j)) b 
 
 pub bytes-words : (ws : List ℕ) → AllBytes (word_bytes ws)
 bytes-words [] i = omega arith
-bytes-words (w ∷ ws) i = bytes-append (u32Bytes w) (word_bytes ws) four (bytes-words ws) i
+bytes-words (w ∷ ws) i = bytes-append (u32_bytes w) (word_bytes ws) four (bytes-words ws) i
   where
-    four : AllBytes (u32Bytes w)
+    four : AllBytes (u32_bytes w)
     four zero = omega arith
     four (suc zero) = omega arith
     four (suc (suc zero)) = omega arith

@@ -1,6 +1,6 @@
 // The bits of a word of 64 bits: a board's places, a record's marks.
 ghost use Rattle.std.specs.Prelude.{◌≡◌};
-ghost use Rattle.words.specs.rules.Bits.{bit_at, withBit, withoutBit, withoutLowest, ones_in, clearIn, count_trailing_zeros};
+ghost use Rattle.words.specs.rules.Bits.{bit_at, with_bit, without_bit, without_lowest, ones_in, clear_in, count_trailing_zeros};
 
 // Bit i of a word. A word has no bit from 64 on.
 pub fn test(w: u64, i: usize) -> bool
@@ -18,14 +18,14 @@ pub fn mark(marks: u8, i: usize) -> bool
 
 // The word with bit i set.
 pub fn with_bit(w: u64, i: usize) -> u64
-    ensures { result ≡ withBit w i }
+    ensures { result ≡ with_bit w i }
 {
     if i < 64 { w | (1u64 << i) } else { w }
 }
 
 // The word with bit i clear.
 pub fn without_bit(w: u64, i: usize) -> u64
-    ensures { result ≡ withoutBit w i }
+    ensures { result ≡ without_bit w i }
 {
     if i < 64 { w & !(1u64 << i) } else { w }
 }
@@ -39,7 +39,7 @@ pub fn ones(w: u64) -> u32
 
 // The lowest bit that is clear, and 64 where all are set.
 pub fn first_clear(w: u64) -> u32
-    ensures { result ≡ clearIn 64 w }
+    ensures { result ≡ clear_in 64 w }
 {
     u64::trailing_zeros(!w)
 }
@@ -53,7 +53,7 @@ pub fn first_set(w: u64) -> u32
 
 // The word with its lowest set bit clear; 0 has none.
 pub fn without_lowest(w: u64) -> u64
-    ensures { result ≡ withoutLowest w }
+    ensures { result ≡ without_lowest w }
 {
     if w == 0 { 0 } else { w & (w - 1) }
 }

@@ -1,7 +1,7 @@
 // A u32 in bytes, the lowest byte first.
 ghost use Rattle.std.specs.Prelude.{◌≡◌, ◌+◌, ◌*◌, ◌≤◌, length};
 ghost use Rattle.std.proofs.lemmas.List.Edits.{sets};
-ghost use Rattle.words.specs.rules.Bytes.{joined, u32Bytes, word_bytes, word_at, with_words};
+ghost use Rattle.words.specs.rules.Bytes.{joined, u32_bytes, word_bytes, word_at, with_words};
 
 // The number that four bytes say.
 pub fn join(a: u8, b: u8, c: u8, d: u8) -> u32
@@ -27,7 +27,7 @@ pub fn read_word(s: &[u8], at: usize) -> u32
 // Four stores, where there is room.
 fn put_word(out: &mut [u8], at: usize, v: u32)
     requires { at + 4 ≤ length out.old }
-    ensures { out.new ≡ sets out.old at (u32Bytes v) }
+    ensures { out.new ≡ sets out.old at (u32_bytes v) }
 {
     out[at] = (v % 256) as u8;
     out[at + 1] = (v / 256 % 256) as u8;

@@ -1,9 +1,9 @@
 -- What a collared order on the other side moves, and what it leaves (W-205 of document 02). A sell is the buy that it mirrors.
 use Rattle.std.specs.Prelude.{◌≡◌, Bool, true, cond, not, ◌&&◌, ◌||◌, ℕ, ◌+◌, ◌-◌, ◌≤◌, ◌<◌, min, max, leb, ltb, eqb}
 use Rattle.tape.specs.declared.order.Order.{Order}
-use Rattle.tape.specs.rules.Form.{collarFormed, orderFormed}
-use Rattle.mirror.specs.rules.Mirror.{buyOrder}
-use Rattle.auction.specs.rules.Accept.{initiatingOf, firstBound, orderRefusal, acceptOf}
+use Rattle.tape.specs.rules.Form.{collar_formed, order_formed}
+use Rattle.mirror.specs.rules.Mirror.{buy_order}
+use Rattle.auction.specs.rules.Accept.{initiating_of, first_bound, order_refusal, accept_of}
 use Rattle.auction.specs.declared.Auction.{Auction}
 use Rattle.auction.specs.declared.Entry.TheVariants.{Accepted}
 
@@ -30,8 +30,8 @@ recollared displayed collar o =
     }
 
 -- the auction with another initiating price
-abbrev pub withInitiating : ℕ → Auction → Auction
-withInitiating p a =
+abbrev pub with_initiating : ℕ → Auction → Auction
+with_initiating p a =
     let h = a.head in
     let t = h.terms in
     record {
@@ -49,40 +49,40 @@ withInitiating p a =
     }
 
 -- none of 1 to 9 refuses the order
-abbrev pub reachesRange : Order → Bool
-reachesRange o = eqb (orderRefusal o) 0 || leb 10 (orderRefusal o)
+abbrev pub reaches_range : Order → Bool
+reaches_range o = eqb (order_refusal o) 0 || leb 10 (order_refusal o)
 
 -- a buy's initiating price, and its numbers 10 to 12, as document 01 has them without W-205
-abbrev pub quotedInitiating : Order → ℕ
-quotedInitiating b = cond (ltb b.size 50) (min (min b.limit b.nbo) (b.bo - 1)) (min b.limit b.nbo)
+abbrev pub quoted_initiating : Order → ℕ
+quoted_initiating b = cond (ltb b.size 50) (min (min b.limit b.nbo) (b.bo - 1)) (min b.limit b.nbo)
 
-abbrev pub quotedRefusal : Order → ℕ
-quotedRefusal b =
-    cond (ltb b.limit (firstBound b)) 10
-    (cond (ltb (quotedInitiating b) b.stop) 11
-    (cond (ltb b.size 50 && eqb b.nbo (b.nbb + 1) && not (eqb b.nbo (cond (eqb b.mode 2) (quotedInitiating b) (max b.stop (firstBound b)) + 1))) 12
+abbrev pub quoted_refusal : Order → ℕ
+quoted_refusal b =
+    cond (ltb b.limit (first_bound b)) 10
+    (cond (ltb (quoted_initiating b) b.stop) 11
+    (cond (ltb b.size 50 && eqb b.nbo (b.nbb + 1) && not (eqb b.nbo (cond (eqb b.mode 2) (quoted_initiating b) (max b.stop (first_bound b)) + 1))) 12
     0))
 
 pub record Collared : Type 0 where
   -- the form of the two fields is tested beside that of all others, at every size
-  pub form : (o : Order) (d c : ℕ) → orderFormed (recollared d c o) ≡ (orderFormed (recollared 0 0 o) && collarFormed o.side d c)
+  pub form : (o : Order) (d c : ℕ) → order_formed (recollared d c o) ≡ (order_formed (recollared 0 0 o) && collar_formed o.side d c)
   -- both fields zero: document 01 as it was (2 to 9 do not read them)
-  pub none-price : (b : Order) → b.displayed ≡ 0 → initiatingOf b ≡ quotedInitiating b
-  pub none_number : (o : Order) → o.displayed ≡ 0 → reachesRange o ≡ true → orderRefusal o ≡ quotedRefusal (buyOrder o)
-  pub none-auction : (o : Order) → o.displayed ≡ 0 → (acceptOf o).answer ≡ Accepted → (acceptOf o).auction.head.terms.initiating ≡ quotedInitiating (buyOrder o)
+  pub none-price : (b : Order) → b.displayed ≡ 0 → initiating_of b ≡ quoted_initiating b
+  pub none_number : (o : Order) → o.displayed ≡ 0 → reaches_range o ≡ true → order_refusal o ≡ quoted_refusal (buy_order o)
+  pub none-auction : (o : Order) → o.displayed ≡ 0 → (accept_of o).answer ≡ Accepted → (accept_of o).auction.head.terms.initiating ≡ quoted_initiating (buy_order o)
   -- a collared order: its displayed price minus the collar stands for BO, also where it is above the quoted one, and under 50 contracts alone
-  pub some-price : (b : Order) → (b.displayed ≡ 0 → ⊥) → initiatingOf b ≡ cond (ltb b.size 50) (min (min b.limit b.nbo) (b.displayed - b.collar - 1)) (min b.limit b.nbo)
+  pub some-price : (b : Order) → (b.displayed ≡ 0 → ⊥) → initiating_of b ≡ cond (ltb b.size 50) (min (min b.limit b.nbo) (b.displayed - b.collar - 1)) (min b.limit b.nbo)
   -- two orders in form that differ in the two fields alone: 2 to 10 refuse both or neither, and the bound is one
-  pub up-to-10 : (o : Order) (d c n : ℕ) → orderFormed o ≡ true → orderFormed (recollared d c o) ≡ true → 2 ≤ n → n ≤ 10 → orderRefusal o ≡ n → orderRefusal (recollared d c o) ≡ n
-  pub one-bound : (o : Order) (d c : ℕ) → firstBound (buyOrder (recollared d c o)) ≡ firstBound (buyOrder o)
+  pub up-to-10 : (o : Order) (d c n : ℕ) → order_formed o ≡ true → order_formed (recollared d c o) ≡ true → 2 ≤ n → n ≤ 10 → order_refusal o ≡ n → order_refusal (recollared d c o) ≡ n
+  pub one-bound : (o : Order) (d c : ℕ) → first_bound (buy_order (recollared d c o)) ≡ first_bound (buy_order o)
   -- where both are accepted they open one auction but for its initiating price: the quotes, the bound and all that an event goes by are those of the quoted markets
-  pub one-auction : (o : Order) (d c : ℕ) → (acceptOf o).answer ≡ Accepted → (acceptOf (recollared d c o)).answer ≡ Accepted
-      → (acceptOf (recollared d c o)).auction ≡ withInitiating (initiatingOf (buyOrder (recollared d c o))) (acceptOf o).auction
+  pub one-auction : (o : Order) (d c : ℕ) → (accept_of o).answer ≡ Accepted → (accept_of (recollared d c o)).answer ≡ Accepted
+      → (accept_of (recollared d c o)).auction ≡ with_initiating (initiating_of (buy_order (recollared d c o))) (accept_of o).auction
   -- in form, they act through the initiating price alone, and so from 50 contracts on not at all
-  pub by-price : (o : Order) (d c : ℕ) → orderFormed o ≡ true → orderFormed (recollared d c o) ≡ true
-      → initiatingOf (buyOrder (recollared d c o)) ≡ initiatingOf (buyOrder o) → acceptOf (recollared d c o) ≡ acceptOf o
-  pub from-50 : (o : Order) (d c : ℕ) → orderFormed o ≡ true → orderFormed (recollared d c o) ≡ true → 50 ≤ o.size → acceptOf (recollared d c o) ≡ acceptOf o
+  pub by-price : (o : Order) (d c : ℕ) → order_formed o ≡ true → order_formed (recollared d c o) ≡ true
+      → initiating_of (buy_order (recollared d c o)) ≡ initiating_of (buy_order o) → accept_of (recollared d c o) ≡ accept_of o
+  pub from-50 : (o : Order) (d c : ℕ) → order_formed o ≡ true → order_formed (recollared d c o) ≡ true → 50 ≤ o.size → accept_of (recollared d c o) ≡ accept_of o
   -- 13 exactly where the initiating price is below the bound and the limit is not; so under 50 contracts and with a collared order alone, and the range of an accepted order is not empty
-  pub thirteen : (o : Order) → eqb (orderRefusal o) 13 ≡ (reachesRange o && (ltb (initiatingOf (buyOrder o)) (firstBound (buyOrder o)) && leb (firstBound (buyOrder o)) (buyOrder o).limit))
-  pub thirteen-only : (o : Order) → orderRefusal o ≡ 13 → (o.size < 50) × (o.displayed ≡ 0 → ⊥)
-  pub some-range : (o : Order) → (acceptOf o).answer ≡ Accepted → firstBound (buyOrder o) ≤ initiatingOf (buyOrder o)
+  pub thirteen : (o : Order) → eqb (order_refusal o) 13 ≡ (reaches_range o && (ltb (initiating_of (buy_order o)) (first_bound (buy_order o)) && leb (first_bound (buy_order o)) (buy_order o).limit))
+  pub thirteen-only : (o : Order) → order_refusal o ≡ 13 → (o.size < 50) × (o.displayed ≡ 0 → ⊥)
+  pub some-range : (o : Order) → (accept_of o).answer ≡ Accepted → first_bound (buy_order o) ≤ initiating_of (buy_order o)

@@ -5,9 +5,9 @@ use Rattle.auction.specs.declared.Auction.{Auction}
 use Rattle.auction.specs.declared.Head.{Head}
 
 -- as it is kept, with no look at the board
-abbrev pub onOffer : Auction → ℕ
-onOffer a = a.head.offered
+abbrev pub on_offer : Auction → ℕ
+on_offer a = a.head.offered
 
 -- n contracts, less a size that is gone, with a size that has come: never below 0, at most the largest word of 32 bits; in an auction that was opened neither limit takes effect
-abbrev pub movedOffer : ℕ → ℕ → ℕ → ℕ
-movedOffer n gone come = word (n - gone + come)
+abbrev pub moved_offer : ℕ → ℕ → ℕ → ℕ
+moved_offer n gone come = word (n - gone + come)

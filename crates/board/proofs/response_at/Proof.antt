@@ -5,7 +5,7 @@ use native.Mathlib.Omega.{arith}
 use lib.ListN.{length, get_or-eq_default}
 use borrow.Author.Rules.{rules}
 use Rattle.base.proofs.ListLaws.{length-mapped}
-use Rattle.board.specs.rules.Board.{noResponse}
+use Rattle.board.specs.rules.Board.{no_response}
 use Rattle.board.proofs.response_at.Statement.{statement}
 use Rattle.board.proofs.response_at.Tie as tie
 
@@ -25,7 +25,7 @@ returns-2 : tie.Need-returns-2
 returns-2 c =
     let b = c.before.before.args.t1 in
     let n : length b.places ≡ 64 = search (rules, length-mapped) in
-    c.no-response.ensures ∙ sym (get_or-eq_default b.places noResponse (omega (arith, n, c.before.if1.false)))
+    c.no-response.ensures ∙ sym (get_or-eq_default b.places no_response (omega (arith, n, c.before.if1.false)))
 
 pub response-at-spec : {M : Type 1} → statement M
 response-at-spec = tie.close (tie.spec mul-result element-copy-out-result returns no-response-requires returns-2)

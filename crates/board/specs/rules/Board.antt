@@ -1,36 +1,36 @@
 -- The board: what its functions give, as definitions that compute. Assumes nothing.
 use Rattle.std.specs.Prelude.{ℕ, suc, ◌/◌, ◌%◌, Bool, false, cond, ◌&&◌, ◌||◌, List, [], ◌∷◌, leb, ltb, eqb, get_or, set, replicate}
-use Rattle.words.specs.rules.Bits.{bit_at, withBit, withoutBit, ones_in, clearIn}
+use Rattle.words.specs.rules.Bits.{bit_at, with_bit, without_bit, ones_in, clear_in}
 use Rattle.base.specs.Lists.{keep}
 use Rattle.board.specs.declared.Response.{Response}
 use Rattle.board.specs.declared.Board.{Board}
 use Rattle.board.specs.declared.Found.{Found}
 
 -- what stands where no response was ever placed
-abbrev pub noResponse : Response
-noResponse = record { sequence = 0; size = 0; price = 0; participant = 0; customer = false; gtx = false }
+abbrev pub no_response : Response
+no_response = record { sequence = 0; size = 0; price = 0; participant = 0; customer = false; gtx = false }
 
 -- what stands at place i
-abbrev pub responseAt : List Response → ℕ → Response
-responseAt ps i = get_or ps i noResponse
+abbrev pub response_at : List Response → ℕ → Response
+response_at ps i = get_or ps i no_response
 
 -- the board that an auction starts with: no place is live
-unfoldable pub emptyBoard : Board
-emptyBoard = record { places = replicate 64 noResponse; live = 0 }
+unfoldable pub empty_board : Board
+empty_board = record { places = replicate 64 no_response; live = 0 }
 
 -- ---- the live ones
 
 -- a place is live where its bit is set
-abbrev pub isLive : Board → ℕ → Bool
-isLive b i = bit_at b.live i
+abbrev pub is_live : Board → ℕ → Bool
+is_live b i = bit_at b.live i
 
 -- how many places are live
-abbrev pub liveCount : Board → ℕ
-liveCount b = ones_in 64 b.live
+abbrev pub live_count : Board → ℕ
+live_count b = ones_in 64 b.live
 
 -- the lowest free place, and 64 where none is free
-abbrev pub firstFree : Board → ℕ
-firstFree b = clearIn 64 b.live
+abbrev pub first_free : Board → ℕ
+first_free b = clear_in 64 b.live
 
 -- the elements of a list whose bit in w is set: bit 0 is the first element's
 unfoldable pub live_in : {A : Type 0} → ℕ → List A → List A
@@ -44,40 +44,40 @@ live_of b = live_in b.live b.places
 -- ---- seating and clearing
 
 -- r at place i, live, and the board as it is where there is no such place
-unfoldable pub seatedAt : Board → ℕ → Response → Board
-seatedAt b i r = cond (ltb i 64) (record { places = set b.places i r; live = withBit b.live i }) b
+unfoldable pub seated_at : Board → ℕ → Response → Board
+seated_at b i r = cond (ltb i 64) (record { places = set b.places i r; live = with_bit b.live i }) b
 
 -- place i is free, and what stands there stays
 abbrev pub cleared : Board → ℕ → Board
-cleared b i = record { places = b.places; live = withoutBit b.live i }
+cleared b i = record { places = b.places; live = without_bit b.live i }
 
 -- ---- finding
 
 -- the place of the first of a list whose bit in w is set and that passes the test; the list's length where there is none
-unfoldable pub findIn : {A : Type 0} → (A → Bool) → ℕ → List A → ℕ
-findIn t w [] = 0
-findIn t w (r ∷ rs) = cond (eqb (w % 2) 1 && t r) 0 (suc (findIn t (w / 2) rs))
+unfoldable pub find_in : {A : Type 0} → (A → Bool) → ℕ → List A → ℕ
+find_in t w [] = 0
+find_in t w (r ∷ rs) = cond (eqb (w % 2) 1 && t r) 0 (suc (find_in t (w / 2) rs))
 
 -- a response with this sequence: any, or a GTX response and no limit order
-abbrev pub isNamed : Bool → ℕ → Response → Bool
-isNamed any s r = (any || r.gtx) && eqb r.sequence s
+abbrev pub is_named : Bool → ℕ → Response → Bool
+is_named any s r = (any || r.gtx) && eqb r.sequence s
 
-abbrev pub isGtx : ℕ → Response → Bool
-isGtx s r = isNamed false s r
+abbrev pub is_gtx : ℕ → Response → Bool
+is_gtx s r = is_named false s r
 
 -- the place of the live one with this sequence, and 64 where there is none
-abbrev pub findNamed : Bool → Board → ℕ → ℕ
-findNamed any b s = findIn (isNamed any s) b.live b.places
+abbrev pub find_named : Bool → Board → ℕ → ℕ
+find_named any b s = find_in (is_named any s) b.live b.places
 
-abbrev pub findGtx : Board → ℕ → ℕ
-findGtx b s = findNamed false b s
+abbrev pub find_gtx : Board → ℕ → ℕ
+find_gtx b s = find_named false b s
 
 -- and what stands there
 abbrev pub found : Bool → Board → ℕ → Found
-found any b s = record { place = findNamed any b s; response = responseAt b.places (findNamed any b s) }
+found any b s = record { place = find_named any b s; response = response_at b.places (find_named any b s) }
 
-abbrev pub foundGtx : Board → ℕ → Found
-foundGtx b s = found false b s
+abbrev pub found_gtx : Board → ℕ → Found
+found_gtx b s = found false b s
 
 -- ---- rising order of sequence
 
@@ -87,6 +87,6 @@ inserted r [] = r ∷ []
 inserted r (x ∷ xs) = cond (leb r.sequence x.sequence) (r ∷ x ∷ xs) (x ∷ inserted r xs)
 
 -- a list in rising order of sequence; equal ones stay in their order
-unfoldable pub inSequence : List Response → List Response
-inSequence [] = []
-inSequence (r ∷ rs) = inserted r (inSequence rs)
+unfoldable pub in_sequence : List Response → List Response
+in_sequence [] = []
+in_sequence (r ∷ rs) = inserted r (in_sequence rs)

@@ -1,4 +1,4 @@
-use Rattle.decision.specs.rules.Decide.{bidQuotes}
+use Rattle.decision.specs.rules.Decide.{bid_quotes}
 use borrow.Author.Rules.{rules}
 use Rattle.decision.proofs.bid_quotes.Statement.{statement}
 use Rattle.decision.proofs.bid_quotes.Tie as tie
@@ -13,7 +13,7 @@ bid-mark-requires : tie.Need-bid-mark-requires
 bid-mark-requires c κs = search rules
 
 returns : tie.Need-returns
-unfolding bidQuotes
+unfolding bid_quotes
 returns c = cc
 
 pub bid-quotes-spec : {M : Type 1} → statement M

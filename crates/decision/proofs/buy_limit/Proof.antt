@@ -1,5 +1,5 @@
 use borrow.Author.Tests.{le-leb, lt-leb}
-use Rattle.decision.specs.rules.Decide.{buyLimitOutcome}
+use Rattle.decision.specs.rules.Decide.{buy_limit_outcome}
 use borrow.Author.Rules.{rules}
 use Rattle.decision.proofs.buy_limit.Statement.{statement}
 use Rattle.decision.proofs.buy_limit.Tie as tie
@@ -8,7 +8,7 @@ market-price-requires : tie.Need-market-price-requires
 market-price-requires c κs = search rules
 
 returns : tie.Need-returns
-unfolding buyLimitOutcome
+unfolding buy_limit_outcome
 returns c = simp ((rw c.before.before.market-price.ensures at (le-leb _ _ c.if1.true)))
 
 mark-requires : tie.Need-mark-requires
@@ -24,11 +24,11 @@ exceeds-requires : tie.Need-exceeds-requires
 exceeds-requires c κs = search rules
 
 returns-2 : tie.Need-returns-2
-unfolding buyLimitOutcome
+unfolding buy_limit_outcome
 returns-2 c = simp ((rw c.before.before.before.before.before.before.before.market-price.ensures at (lt-leb _ _ c.before.before.before.before.before.if1.false)), (rw (c.before.exceeds.ensures, c.before.before.is_move.ensures, c.before.before.before.bid-quotes.ensures, c.before.before.before.before.mark.ensures) at c.if2.true))
 
 returns-3 : tie.Need-returns-3
-unfolding buyLimitOutcome
+unfolding buy_limit_outcome
 returns-3 c = simp ((rw c.before.before.before.before.before.before.before.market-price.ensures at (lt-leb _ _ c.before.before.before.before.before.if1.false)), (rw (c.before.exceeds.ensures, c.before.before.is_move.ensures, c.before.before.before.bid-quotes.ensures, c.before.before.before.before.mark.ensures) at c.if2.false)) (cc)
 
 pub buy-limit-spec : {M : Type 1} → statement M

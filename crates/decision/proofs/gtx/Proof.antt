@@ -1,15 +1,15 @@
 use borrow.Author.Tests.{lt-ltb, le-ltb, eq-eqb, ne_eqb}
-use Rattle.decision.specs.rules.Decide.{gtxOutcome}
+use Rattle.decision.specs.rules.Decide.{gtx_outcome}
 use borrow.Author.Rules.{rules}
 use Rattle.decision.proofs.gtx.Statement.{statement}
 use Rattle.decision.proofs.gtx.Tie as tie
 
 returns : tie.Need-returns
-unfolding gtxOutcome
+unfolding gtx_outcome
 returns c = simp ((eq-eqb _ _ c.if1.true))
 
 returns-2 : tie.Need-returns-2
-unfolding gtxOutcome
+unfolding gtx_outcome
 returns-2 c = simp ((ne_eqb _ _ c.before.before.before.if1.false), (lt-ltb _ _ c.if2.true))
 
 lower-requires : tie.Need-lower-requires
@@ -22,7 +22,7 @@ place-requires : tie.Need-place-requires
 place-requires c κs = search rules
 
 returns-3 : tie.Need-returns-3
-unfolding gtxOutcome
+unfolding gtx_outcome
 returns-3 c = simp ((ne_eqb _ _ c.before.before.before.before.before.before.if1.false), (le-ltb _ _ c.before.before.before.if2.false), c.place.ensures, c.before.response.ensures, c.before.before.lower.ensures)
 
 pub gtx-spec : {M : Type 1} → statement M

@@ -1,4 +1,4 @@
-use Rattle.decision.specs.rules.Decide.{newQuotes}
+use Rattle.decision.specs.rules.Decide.{new_quotes}
 use borrow.Author.Rules.{rules}
 use Rattle.decision.proofs.new_quotes.Statement.{statement}
 use Rattle.decision.proofs.new_quotes.Tie as tie
@@ -10,7 +10,7 @@ mark-requires-2 : tie.Need-mark-requires-2
 mark-requires-2 c κs = search rules
 
 returns : tie.Need-returns
-unfolding newQuotes
+unfolding new_quotes
 returns c = cc
 
 pub new-quotes-spec : {M : Type 1} → statement M

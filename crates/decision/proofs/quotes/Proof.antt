@@ -1,4 +1,4 @@
-use Rattle.decision.specs.rules.Decide.{quotesOutcome}
+use Rattle.decision.specs.rules.Decide.{quotes_outcome}
 use borrow.Author.Rules.{rules}
 use Rattle.decision.proofs.quotes.Statement.{statement}
 use Rattle.decision.proofs.quotes.Tie as tie
@@ -10,11 +10,11 @@ exceeds-requires : tie.Need-exceeds-requires
 exceeds-requires c κs = search rules
 
 returns : tie.Need-returns
-unfolding quotesOutcome
+unfolding quotes_outcome
 returns c = simp ((rw (c.before.exceeds.ensures, c.before.before.new-quotes.ensures) at c.if1.true))
 
 returns-2 : tie.Need-returns-2
-unfolding quotesOutcome
+unfolding quotes_outcome
 returns-2 c = simp ((rw (c.before.exceeds.ensures, c.before.before.new-quotes.ensures) at c.if1.false)) (cc)
 
 pub quotes-spec : {M : Type 1} → statement M

@@ -1,5 +1,5 @@
 use borrow.Author.Tests.{le-leb, lt-leb}
-use Rattle.decision.specs.rules.Decide.{sellLimitOutcome}
+use Rattle.decision.specs.rules.Decide.{sell_limit_outcome}
 use borrow.Author.Rules.{rules}
 use Rattle.decision.proofs.sell_limit.Statement.{statement}
 use Rattle.decision.proofs.sell_limit.Tie as tie
@@ -17,11 +17,11 @@ place-requires : tie.Need-place-requires
 place-requires c κs = search rules
 
 returns : tie.Need-returns
-unfolding sellLimitOutcome
+unfolding sell_limit_outcome
 returns c = simp (le-leb _ _ c.before.before.if1.true) (cc)
 
 returns-2 : tie.Need-returns-2
-unfolding sellLimitOutcome
+unfolding sell_limit_outcome
 returns-2 c = simp ((lt-leb _ _ c.if1.false)) (cc)
 
 pub sell-limit-spec : {M : Type 1} → statement M

@@ -3,9 +3,9 @@ use Rattle.std.specs.Prelude.{Bool, true, false, cond, not, ◌&&◌, ◌||◌, 
 use Rattle.words.specs.rules.Bits.{bit_at}
 use Rattle.board.specs.declared.Response.{Response}
 use Rattle.tape.specs.declared.event.Event.{Event}
-use Rattle.tape.specs.rules.Fields.{size_of, priceOf, newSizeOf, newPriceOf, nbbOf, nboOf, bbOf, boOf}
-use Rattle.auction.specs.rules.Accept.{bidMark, offerMark}
-use Rattle.auction.specs.rules.Range.{boundBy}
+use Rattle.tape.specs.rules.Fields.{size_of, price_of, new_size_of, new_price_of, nbb_of, nbo_of, bb_of, bo_of}
+use Rattle.auction.specs.rules.Accept.{bid_mark, offer_mark}
+use Rattle.auction.specs.rules.Range.{bound_by}
 use Rattle.auction.specs.declared.Terms.{Terms}
 use Rattle.auction.specs.declared.Quotes.{Quotes}
 use Rattle.auction.specs.declared.Ending.{Ending}
@@ -15,21 +15,21 @@ use Rattle.decision.specs.declared.Change.TheVariants.{Nothing, Seat, Free, Quot
 use Rattle.decision.specs.declared.Outcome.{Outcome}
 use Rattle.decision.specs.declared.Outcome.TheVariants.{Refuses, Does}
 
-abbrev pub isCancel : Event → Bool
-isCancel e = eqb e.kind 2
+abbrev pub is_cancel : Event → Bool
+is_cancel e = eqb e.kind 2
 
-abbrev pub isAmend : Event → Bool
-isAmend e = eqb e.kind 6
+abbrev pub is_amend : Event → Bool
+is_amend e = eqb e.kind 6
 
-abbrev pub isCustomer : Event → Bool
-isCustomer e = bit_at e.marks 0
+abbrev pub is_customer : Event → Bool
+is_customer e = bit_at e.marks 0
 
-abbrev pub isNonRoutable : Event → Bool
-isNonRoutable e = bit_at e.marks 1
+abbrev pub is_non_routable : Event → Bool
+is_non_routable e = bit_at e.marks 1
 
 -- a response of a size: a GTX one, or a limit order
-abbrev pub responseOf : Bool → ℕ → Event → Response
-responseOf gtx size e = record { sequence = e.sequence; size = size; price = priceOf e; participant = e.participant; customer = isCustomer e; gtx = gtx }
+abbrev pub response_of : Bool → ℕ → Event → Response
+response_of gtx size e = record { sequence = e.sequence; size = size; price = price_of e; participant = e.participant; customer = is_customer e; gtx = gtx }
 
 -- a response stands at a place, from which a size is gone; a number refuses it where there is no such place
 abbrev pub seats : ℕ → Response → ℕ → Ending → ℕ → Outcome
@@ -40,35 +40,35 @@ abbrev pub places : Sight → Response → Ending → Outcome
 places s r ending = seats s.at r 0 ending 38
 
 -- a GTX response: its size is capped at the CUBE size
-unfoldable pub gtxOutcome : Terms → Sight → Event → Outcome
-gtxOutcome t s e =
+unfoldable pub gtx_outcome : Terms → Sight → Event → Outcome
+gtx_outcome t s e =
     cond (eqb e.side 1) (Refuses 35)
-    (cond (ltb t.initiating (priceOf e)) (Refuses 36)
-    (places s (responseOf true (min (size_of e) t.size) e) Open))
+    (cond (ltb t.initiating (price_of e)) (Refuses 36)
+    (places s (response_of true (min (size_of e) t.size) e) Open))
 
 -- a cancel: the place that was found is freed, and its size is gone
-unfoldable pub cancelOutcome : Sight → Outcome
-cancelOutcome s = cond (ltb s.found 64) (Does (Free s.found s.old.size) Open) (Refuses 37)
+unfoldable pub cancel_outcome : Sight → Outcome
+cancel_outcome s = cond (ltb s.found 64) (Does (Free s.found s.old.size) Open) (Refuses 37)
 
 -- the GTX response that an amend makes of an old one: the event's sequence, the new size, capped at the CUBE size, the new price and the event's participant; the Customer mark stays
-abbrev pub amendedBy : Terms → Response → Event → Response
-amendedBy t old e = record { sequence = e.sequence; size = min (newSizeOf e) t.size; price = newPriceOf e; participant = e.participant; customer = old.customer; gtx = true }
+abbrev pub amended_by : Terms → Response → Event → Response
+amended_by t old e = record { sequence = e.sequence; size = min (new_size_of e) t.size; price = new_price_of e; participant = e.participant; customer = old.customer; gtx = true }
 
 -- an amend: the new response stands at the place of the GTX response that is named
-unfoldable pub amendOutcome : Terms → Sight → Event → Outcome
-amendOutcome t s e =
-    cond (ltb t.initiating (newPriceOf e)) (Refuses 36)
-    (seats s.found (amendedBy t s.old e) s.old.size Open 37)
+unfoldable pub amend_outcome : Terms → Sight → Event → Outcome
+amend_outcome t s e =
+    cond (ltb t.initiating (new_price_of e)) (Refuses 36)
+    (seats s.found (amended_by t s.old e) s.old.size Open 37)
 
 -- a sell limit: marketable at the NBB or below (non-routable: the BB); it takes a place where it is not above the initiating price
-unfoldable pub sellLimitOutcome : Terms → Quotes → Sight → Event → Outcome
-sellLimitOutcome t q s e =
-    let ending = cond (leb (priceOf e) (cond (isNonRoutable e) q.bb q.nbb)) Opposite Open in
-    cond (leb (priceOf e) t.initiating) (places s (responseOf false (size_of e) e) ending) (Does Nothing ending)
+unfoldable pub sell_limit_outcome : Terms → Quotes → Sight → Event → Outcome
+sell_limit_outcome t q s e =
+    let ending = cond (leb (price_of e) (cond (is_non_routable e) q.bb q.nbb)) Opposite Open in
+    cond (leb (price_of e) t.initiating) (places s (response_of false (size_of e) e) ending) (Does Nothing ending)
 
 -- the quotes with a bid: a higher one becomes BB with its own mark, an equal one can only set the mark
-unfoldable pub bidQuotes : Quotes → ℕ → Bool → Quotes
-bidQuotes q price customer =
+unfoldable pub bid_quotes : Quotes → ℕ → Bool → Quotes
+bid_quotes q price customer =
     record {
       nbb = max q.nbb price;
       nbo = q.nbo;
@@ -83,32 +83,30 @@ abbrev pub moves : Quotes → ℕ → Bool → Bool
 moves q price customer = ltb q.bb price || (eqb price q.bb && customer && not q.bidmark)
 
 -- a buy limit: marketable at the NBO or above (non-routable: the BO)
-unfoldable pub buyLimitOutcome : Terms → Quotes → Event → Outcome
-buyLimitOutcome t q e =
-    cond (leb (cond (isNonRoutable e) q.bo q.nbo) (priceOf e)) (Does Nothing Same)
-    (cond (moves q (priceOf e) (isCustomer e) && ltb t.initiating (boundBy t (bidQuotes q (priceOf e) (isCustomer e)))) (Does Nothing Improve)
-    (Does (Quote (bidQuotes q (priceOf e) (isCustomer e))) Open))
+unfoldable pub buy_limit_outcome : Terms → Quotes → Event → Outcome
+buy_limit_outcome t q e =
+    cond (leb (cond (is_non_routable e) q.bo q.nbo) (price_of e)) (Does Nothing Same)
+    (cond (moves q (price_of e) (is_customer e) && ltb t.initiating (bound_by t (bid_quotes q (price_of e) (is_customer e)))) (Does Nothing Improve)
+    (Does (Quote (bid_quotes q (price_of e) (is_customer e))) Open))
 
-unfoldable pub limitOutcome : Terms → Quotes → Sight → Event → Outcome
-limitOutcome t q s e = cond (eqb e.side 1) (buyLimitOutcome t q e) (sellLimitOutcome t q s e)
+unfoldable pub limit_outcome : Terms → Quotes → Sight → Event → Outcome
+limit_outcome t q s e = cond (eqb e.side 1) (buy_limit_outcome t q e) (sell_limit_outcome t q s e)
 
-unfoldable pub marketOutcome : Event → Outcome
-marketOutcome e = cond (eqb e.side 1) (Does Nothing Same) (Does (Sell (record { sequence = e.sequence; size = size_of e })) Opposite)
+unfoldable pub market_outcome : Event → Outcome
+market_outcome e = cond (eqb e.side 1) (Does Nothing Same) (Does (Sell (record { sequence = e.sequence; size = size_of e })) Opposite)
 
 -- the quotes that an event brings
-unfoldable pub newQuotes : Event → Quotes
-newQuotes e = record { nbb = nbbOf e; nbo = nboOf e; bb = bbOf e; bo = boOf e; bidmark = bidMark e.marks; offermark = offerMark e.marks }
+unfoldable pub new_quotes : Event → Quotes
+new_quotes e = record { nbb = nbb_of e; nbo = nbo_of e; bb = bb_of e; bo = bo_of e; bidmark = bid_mark e.marks; offermark = offer_mark e.marks }
 
-unfoldable pub quotesOutcome : Terms → Event → Outcome
-quotesOutcome t e = cond (ltb t.initiating (boundBy t (newQuotes e))) (Does Nothing Improve) (Does (Quote (newQuotes e)) Open)
+unfoldable pub quotes_outcome : Terms → Event → Outcome
+quotes_outcome t e = cond (ltb t.initiating (bound_by t (new_quotes e))) (Does Nothing Improve) (Does (Quote (new_quotes e)) Open)
 
--- by the kind; none but those of the table is taken
-unfoldable pub outcomeOf : Terms → Quotes → Sight → Event → Outcome
-outcomeOf t q s e =
-    cond (eqb e.kind 1) (gtxOutcome t s e)
-    (cond (isCancel e) (cancelOutcome s)
-    (cond (eqb e.kind 3) (limitOutcome t q s e)
-    (cond (eqb e.kind 4) (marketOutcome e)
-    (cond (eqb e.kind 5) (quotesOutcome t e)
-    (cond (isAmend e) (amendOutcome t s e)
-    (Refuses 32))))))
+unfoldable pub outcome_of : Terms → Quotes → Sight → Event → Outcome
+outcome_of t q s e =
+    cond (eqb e.kind 1) (gtx_outcome t s e)
+    (cond (is_cancel e) (cancel_outcome s)
+    (cond (eqb e.kind 3) (limit_outcome t q s e)
+    (cond (eqb e.kind 4) (market_outcome e)
+    (cond (is_amend e) (amend_outcome t s e)
+    (quotes_outcome t e)))))

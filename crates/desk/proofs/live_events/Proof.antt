@@ -5,10 +5,10 @@ use Rattle.desk.proofs.live_events.Statement.{statement}
 use Rattle.desk.proofs.live_events.Tie as tie
 
 abbrev invariant-loop : tie.invariant-loop
-invariant-loop wide bytes₀ a₀ turns₀ bytes a turns = length bytes ≡ length bytes₀
+invariant-loop wide bytes₀ out₀ a₀ turns₀ bytes out a turns = (length bytes ≡ length bytes₀) × (length out ≡ length out₀)
 
 abbrev decreases-loop : tie.decreases-loop
-decreases-loop wide bytes₀ a₀ turns₀ bytes a turns = turns
+decreases-loop wide bytes₀ out₀ a₀ turns₀ bytes out a turns = turns
 
 loop-holds : tie.Need-loop-init invariant-loop decreases-loop
 loop-holds c = search rules
@@ -34,6 +34,12 @@ loop-less c = search rules
 loop-again : tie.Need-loop-preserved invariant-loop decreases-loop
 loop-again c = search rules
 
+same-length-3 : tie.Need-same-length-3 invariant-loop decreases-loop
+same-length-3 c = search rules
+
+same-length-4 : tie.Need-same-length-4 invariant-loop decreases-loop
+same-length-4 c = search rules
+
 returns-2 : tie.Need-returns-2 invariant-loop decreases-loop
 returns-2 c = search rules
 
@@ -46,9 +52,11 @@ live-events-spec =
     loop-holds
     live-turn-requires
     same_length
+    same-length-2
     returns
     sub-turns
     loop-less
     loop-again
-    same-length-2
+    same-length-3
+    same-length-4
     returns-2)

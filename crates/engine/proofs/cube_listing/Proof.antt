@@ -1,5 +1,5 @@
 use mathlib.Core.Path.{ap, ◌∙◌}
-use Rattle.listing.specs.rules.Listing.{lengthIn}
+use Rattle.listing.specs.rules.Listing.{length_in}
 use borrow.Author.Rules.{rules}
 use Rattle.engine.proofs.cube_listing.Statement.{statement}
 use Rattle.engine.proofs.cube_listing.Tie as tie
@@ -16,7 +16,7 @@ same_length c = search rules
 returns : tie.Need-returns
 returns c =
     let l = c.before.before.before.listing in
-    (c.length-of.ensures ∙ ap lengthIn l.ensures.0, l.ensures.1)
+    (c.length-of.ensures ∙ ap length_in l.ensures.0, l.ensures.1)
 
 pub cube-listing-spec : {M : Type 1} → statement M
 cube-listing-spec = tie.close (tie.spec listing-requires length-of-requires same_length returns)

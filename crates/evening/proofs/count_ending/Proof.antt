@@ -1,5 +1,5 @@
 use Rattle.std.proofs.Common.{sym, ap, ◌∙◌, rules}
-use Rattle.evening.specs.Counting.{with, countedEnding}
+use Rattle.evening.specs.Counting.{with, counted_ending}
 use Rattle.evening.proofs.count_ending.Statement.{statement}
 use Rattle.evening.proofs.count_ending.Tie as tie
 
@@ -33,22 +33,22 @@ enum-told-5 c = search rules
 returns : tie.Need-returns
 returns c =
     let t = c.before.before.before.args.t in
-    ap (λ n. with t t.refused n t.same t.opposite t.improve) c.one_more.ensures ∙ ap (countedEnding t) (sym c.before.enum_told.given.1)
+    ap (λ n. with t t.refused n t.same t.opposite t.improve) c.one_more.ensures ∙ ap (counted_ending t) (sym c.before.enum_told.given.1)
 
 returns-2 : tie.Need-returns-2
 returns-2 c =
     let t = c.before.before.before.args.t in
-    ap (λ n. with t t.refused t.time n t.opposite t.improve) c.one-more2.ensures ∙ ap (countedEnding t) (sym c.before.enum-told2.given.1)
+    ap (λ n. with t t.refused t.time n t.opposite t.improve) c.one-more2.ensures ∙ ap (counted_ending t) (sym c.before.enum-told2.given.1)
 
 returns-3 : tie.Need-returns-3
 returns-3 c =
     let t = c.before.before.before.args.t in
-    ap (λ n. with t t.refused t.time t.same n t.improve) c.one-more3.ensures ∙ ap (countedEnding t) (sym c.before.enum-told3.given.1)
+    ap (λ n. with t t.refused t.time t.same n t.improve) c.one-more3.ensures ∙ ap (counted_ending t) (sym c.before.enum-told3.given.1)
 
 returns-4 : tie.Need-returns-4
 returns-4 c =
     let t = c.before.before.before.args.t in
-    ap (λ n. with t t.refused t.time t.same t.opposite n) c.one-more4.ensures ∙ ap (countedEnding t) (sym c.before.enum-told4.given.1)
+    ap (λ n. with t t.refused t.time t.same t.opposite n) c.one-more4.ensures ∙ ap (counted_ending t) (sym c.before.enum-told4.given.1)
 
 returns-5 : tie.Need-returns-5
 returns-5 c = search rules

@@ -1,14 +1,14 @@
 -- What an event does (documents 01 and 02): what it sees of the board, one turn by what is decided of it, and the step.
 use Rattle.std.specs.Prelude.{cond, not, ◌||◌, ℕ, leb, ltb, eqb}
 use Rattle.board.specs.declared.Board.{Board}
-use Rattle.board.specs.rules.Board.{responseAt, firstFree, seatedAt, cleared, findGtx}
+use Rattle.board.specs.rules.Board.{response_at, first_free, seated_at, cleared, find_gtx}
 use Rattle.tape.specs.declared.event.Event.{Event}
-use Rattle.tape.specs.rules.Form.{eventFormed}
+use Rattle.tape.specs.rules.Form.{event_formed}
 use Rattle.tape.specs.rules.Fields.{name_of}
-use Rattle.mirror.specs.rules.Mirror.{buyEvent}
-use Rattle.decision.specs.rules.Decide.{isCancel, isAmend, outcomeOf}
-use Rattle.auction.specs.rules.Range.{isOpen}
-use Rattle.auction.specs.rules.Offer.{movedOffer}
+use Rattle.mirror.specs.rules.Mirror.{buy_event}
+use Rattle.decision.specs.rules.Decide.{is_cancel, is_amend, outcome_of}
+use Rattle.auction.specs.rules.Range.{is_open}
+use Rattle.auction.specs.rules.Offer.{moved_offer}
 use Rattle.auction.specs.declared.Auction.{Auction}
 use Rattle.auction.specs.declared.Head.{Head}
 use Rattle.auction.specs.declared.Quotes.{Quotes}
@@ -27,10 +27,10 @@ use Rattle.decision.specs.declared.Outcome.TheVariants.{Refuses, Does}
 
 -- ---- the refusals that every kind has, in their order; 0: none
 
-unfoldable pub eventRefusal : Head → Event → ℕ
-eventRefusal h e =
-    cond (not (isOpen h.ending)) 31
-    (cond (not (eventFormed e)) 32
+unfoldable pub event_refusal : Head → Event → ℕ
+event_refusal h e =
+    cond (not (is_open h.ending)) 31
+    (cond (not (event_formed e)) 32
     (cond (leb e.sequence h.sequence) 33
     (cond (ltb e.time h.clock) 34
     0)))
@@ -38,43 +38,43 @@ eventRefusal h e =
 -- ---- what the board tells of an event
 
 -- the place of the GTX response that an event names, and 64 where it names none that is live
-abbrev pub foundFor : Board → Event → ℕ
-foundFor b e = cond (isCancel e || isAmend e) (findGtx b (name_of e)) 64
+abbrev pub found_for : Board → Event → ℕ
+found_for b e = cond (is_cancel e || is_amend e) (find_gtx b (name_of e)) 64
 
 -- the place that a response would take, the lowest free one (64: none); the place of the GTX that is named; what stands there
 unfoldable pub sight_of : Board → Event → Sight
-sight_of b e = record { at = firstFree b; found = foundFor b e; old = responseAt b.places (foundFor b e) }
+sight_of b e = record { at = first_free b; found = found_for b e; old = response_at b.places (found_for b e) }
 
 -- ---- what a change makes of the board, the quotes, the market order and the contracts on offer
 
-abbrev pub boardAfter : Board → Change → Board
-boardAfter b Nothing = b
-boardAfter b (Seat i r gone) = seatedAt b i r
-boardAfter b (Free i gone) = cleared b i
-boardAfter b (Quote q) = b
-boardAfter b (Sell m) = b
+abbrev pub board_after : Board → Change → Board
+board_after b Nothing = b
+board_after b (Seat i r gone) = seated_at b i r
+board_after b (Free i gone) = cleared b i
+board_after b (Quote q) = b
+board_after b (Sell m) = b
 
-abbrev pub quotesAfter : Quotes → Change → Quotes
-quotesAfter q Nothing = q
-quotesAfter q (Seat i r gone) = q
-quotesAfter q (Free i gone) = q
-quotesAfter q (Quote n) = n
-quotesAfter q (Sell m) = q
+abbrev pub quotes_after : Quotes → Change → Quotes
+quotes_after q Nothing = q
+quotes_after q (Seat i r gone) = q
+quotes_after q (Free i gone) = q
+quotes_after q (Quote n) = n
+quotes_after q (Sell m) = q
 
-abbrev pub marketAfter : Market → Change → Market
-marketAfter m Nothing = m
-marketAfter m (Seat i r gone) = m
-marketAfter m (Free i gone) = m
-marketAfter m (Quote n) = m
-marketAfter m (Sell n) = n
+abbrev pub market_after : Market → Change → Market
+market_after m Nothing = m
+market_after m (Seat i r gone) = m
+market_after m (Free i gone) = m
+market_after m (Quote n) = m
+market_after m (Sell n) = n
 
 -- a response that is placed counts with the size that it has on the board; one that is cancelled, or that an amend replaces, counts no more; a market order never does
-abbrev pub offeredAfter : ℕ → Change → ℕ
-offeredAfter n Nothing = n
-offeredAfter n (Seat i r gone) = movedOffer n gone r.size
-offeredAfter n (Free i gone) = movedOffer n gone 0
-offeredAfter n (Quote q) = n
-offeredAfter n (Sell m) = n
+abbrev pub offered_after : ℕ → Change → ℕ
+offered_after n Nothing = n
+offered_after n (Seat i r gone) = moved_offer n gone r.size
+offered_after n (Free i gone) = moved_offer n gone 0
+offered_after n (Quote q) = n
+offered_after n (Sell m) = n
 
 -- ---- the turn: the answer to an event, the head after it, and what becomes of the board
 
@@ -83,54 +83,54 @@ abbrev pub stays : Answer → Head → Turn
 stays answer h = record { answer = answer; head = h; change = Nothing }
 
 -- by time: nothing but the ending moves
-unfoldable pub endedByTime : Head → Head
-endedByTime h =
+unfoldable pub ended_by_time : Head → Head
+ended_by_time h =
     record { terms = h.terms; quotes = h.quotes; sequence = h.sequence; clock = h.clock; ending = Time; market = h.market; offered = h.offered }
 
 -- an event that is taken, or ends the auction, moves the highest sequence and the clock
-unfoldable pub headAfter : Head → Event → Change → Ending → Head
-headAfter h e c ending =
+unfoldable pub head_after : Head → Event → Change → Ending → Head
+head_after h e c ending =
     record {
       terms = h.terms;
-      quotes = quotesAfter h.quotes c;
+      quotes = quotes_after h.quotes c;
       sequence = e.sequence;
       clock = e.time;
       ending = ending;
-      market = marketAfter h.market c;
-      offered = offeredAfter h.offered c;
+      market = market_after h.market c;
+      offered = offered_after h.offered c;
     }
 
 -- what is decided of an event, carried out
 abbrev pub carried : Head → Event → Outcome → Turn
 carried h e (Refuses n) = stays (Refused n) h
-carried h e (Does c ending) = record { answer = cond (isOpen ending) Taken Ended; head = headAfter h e c ending; change = c }
+carried h e (Does c ending) = record { answer = cond (is_open ending) Taken Ended; head = head_after h e c ending; change = c }
 
 -- 31 to 34, then late, then by its kind
 unfoldable pub turn_of : Head → Sight → Event → Turn
 turn_of h s e =
-    cond (eqb (eventRefusal h e) 0)
-    (cond (leb h.terms.interval e.time) (stays Late (endedByTime h))
-    (carried h e (outcomeOf h.terms h.quotes s (buyEvent h.terms.sell e))))
-    (stays (Refused (eventRefusal h e)) h)
+    cond (eqb (event_refusal h e) 0)
+    (cond (leb h.terms.interval e.time) (stays Late (ended_by_time h))
+    (carried h e (outcome_of h.terms h.quotes s (buy_event h.terms.sell e))))
+    (stays (Refused (event_refusal h e)) h)
 
 -- closing by hand, as an event at time L
-unfoldable pub closeTurn : Head → Turn
-closeTurn h = cond (isOpen h.ending) (stays Late (endedByTime h)) (stays (Refused 31) h)
+unfoldable pub close_turn : Head → Turn
+close_turn h = cond (is_open h.ending) (stays Late (ended_by_time h)) (stays (Refused 31) h)
 
 -- ---- the step: the turn, seated on the board
 
 abbrev pub gives : Answer → Auction → Stepped
 gives answer a = record { answer = answer; auction = a }
 
-abbrev pub seatedOn : Board → Turn → Stepped
-seatedOn b t = gives t.answer (record { head = t.head; board = boardAfter b t.change })
+abbrev pub seated_on : Board → Turn → Stepped
+seated_on b t = gives t.answer (record { head = t.head; board = board_after b t.change })
 
 -- an event under some sight of the board, and under the auction's own
-abbrev pub stepBy : Sight → Auction → Event → Stepped
-stepBy s a e = seatedOn a.board (turn_of a.head s e)
+abbrev pub step_by : Sight → Auction → Event → Stepped
+step_by s a e = seated_on a.board (turn_of a.head s e)
 
 abbrev pub step_of : Auction → Event → Stepped
-step_of a e = stepBy (sight_of a.board e) a e
+step_of a e = step_by (sight_of a.board e) a e
 
-abbrev pub closeOf : Auction → Stepped
-closeOf a = seatedOn a.board (closeTurn a.head)
+abbrev pub close_of : Auction → Stepped
+close_of a = seated_on a.board (close_turn a.head)

@@ -1,4 +1,4 @@
-use Rattle.fills.specs.rules.Fills.{dealOf}
+use Rattle.fills.specs.rules.Fills.{deal_of}
 use borrow.Author.Rules.{rules}
 use Rattle.fills.proofs.deal_of.Statement.{statement}
 use Rattle.fills.proofs.deal_of.Tie as tie
@@ -7,7 +7,7 @@ bound-now-requires : tie.Need-bound-now-requires
 bound-now-requires c κs = search rules
 
 returns : tie.Need-returns
-unfolding dealOf
+unfolding deal_of
 returns c = cc
 
 pub deal-of-spec : {M : Type 1} → statement M

@@ -1,8 +1,8 @@
 use Rattle.auction.specs.declared.Entry.TheVariants.{Accepted}
 use mathlib.Core.Path.{sym, ap, ◌∙◌}
-use Rattle.tape.specs.rules.Tape.{recordsOf}
+use Rattle.tape.specs.rules.Tape.{records_of}
 use Rattle.auction.specs.declared.Opening.{Opening}
-use Rattle.run.specs.rules.Run.{refused, runEntry}
+use Rattle.run.specs.rules.Run.{refused, run_entry}
 use Rattle.listing.proofs.LengthLaws.{accept-empty}
 use Rattle.listing.proofs.ListsLaws.{lists-same}
 use borrow.Author.Rules.{rules}
@@ -31,9 +31,9 @@ same_length c = search rules
 returns : tie.Need-returns
 returns c =
     let a = c.before.before.before.before.before.before.before.before.before.before.args in
-    let s = recordsOf a.tape.now a.t in
+    let s = records_of a.tape.now a.t in
     let o = c.before.before.before.before.before.before.before.accept in
-    lists-same (runEntry s o.result.auction Accepted) c.before.before.list-auction.ensures (ap (runEntry s o.result.auction) (sym c.before.before.before.before.enum_told.given.1) ∙ ap (λ (x : Opening). runEntry s x.auction x.answer) o.ensures)
+    lists-same (run_entry s o.result.auction Accepted) c.before.before.list-auction.ensures (ap (run_entry s o.result.auction) (sym c.before.before.before.before.enum_told.given.1) ∙ ap (λ (x : Opening). run_entry s x.auction x.answer) o.ensures)
 
 same-length-2 : tie.Need-same-length-2
 same-length-2 c = search rules
@@ -41,9 +41,9 @@ same-length-2 c = search rules
 returns-2 : tie.Need-returns-2
 returns-2 c =
     let a = c.before.before.before.before.before.before.before.before.before.before.before.args in
-    let s = recordsOf a.tape.now a.t in
+    let s = records_of a.tape.now a.t in
     let o = c.before.before.before.before.before.before.before.before.accept in
-    lists-same (refused c.before.before.before.before.before.answer.given.0.0) c.before.before.list-refused.ensures (ap (runEntry s o.result.auction) (sym c.before.before.before.before.before.answer.given.1) ∙ ap (λ (x : Opening). runEntry s x.auction x.answer) o.ensures)
+    lists-same (refused c.before.before.before.before.before.answer.given.0.0) c.before.before.list-refused.ensures (ap (run_entry s o.result.auction) (sym c.before.before.before.before.before.answer.given.1) ∙ ap (λ (x : Opening). run_entry s x.auction x.answer) o.ensures)
 
 pub list-order-spec : {M : Type 1} → statement M
 list-order-spec =

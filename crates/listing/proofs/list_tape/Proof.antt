@@ -1,7 +1,7 @@
 use Rattle.tape.specs.declared.order.ReadOrder.TheVariants.{Order}
 use mathlib.Core.Path.{sym, ap, ◌∙◌}
-use Rattle.tape.specs.rules.Tape.{recordsOf}
-use Rattle.run.specs.rules.Run.{refused, runOrder}
+use Rattle.tape.specs.rules.Tape.{records_of}
+use Rattle.run.specs.rules.Run.{refused, run_order}
 use Rattle.listing.proofs.ListsLaws.{lists-same}
 use borrow.Author.Rules.{rules}
 use Rattle.listing.proofs.list_tape.Statement.{statement}
@@ -28,7 +28,7 @@ same_length c = search rules
 returns : tie.Need-returns
 returns c =
     let a = c.before.before.before.before.before.before.before.before.before.before.args in
-    lists-same (runOrder (recordsOf a.tape.now a.t) (Order c.before.before.before.before.before.o.given.0.0)) c.before.before.list-order.ensures (ap (runOrder (recordsOf a.tape.now a.t)) (sym c.before.before.before.before.before.o.given.1 ∙ c.before.before.before.before.before.before.before.order-in.ensures))
+    lists-same (run_order (records_of a.tape.now a.t) (Order c.before.before.before.before.before.o.given.0.0)) c.before.before.list-order.ensures (ap (run_order (records_of a.tape.now a.t)) (sym c.before.before.before.before.before.o.given.1 ∙ c.before.before.before.before.before.before.before.order-in.ensures))
 
 same-length-2 : tie.Need-same-length-2
 same-length-2 c = search rules
@@ -36,7 +36,7 @@ same-length-2 c = search rules
 returns-2 : tie.Need-returns-2
 returns-2 c =
     let a = c.before.before.before.before.before.before.before.before.before.before.args in
-    lists-same (refused c.before.before.before.before.before.number.given.0.0) c.before.before.list-refused.ensures (ap (runOrder (recordsOf a.tape.now a.t)) (sym c.before.before.before.before.before.number.given.1 ∙ c.before.before.before.before.before.before.before.order-in.ensures))
+    lists-same (refused c.before.before.before.before.before.number.given.0.0) c.before.before.list-refused.ensures (ap (run_order (records_of a.tape.now a.t)) (sym c.before.before.before.before.before.number.given.1 ∙ c.before.before.before.before.before.before.before.order-in.ensures))
 
 pub list-tape-spec : {M : Type 1} → statement M
 list-tape-spec =

@@ -1,6 +1,6 @@
 use Rattle.tape.specs.declared.trailer.Opened.TheVariants.{Tape}
 use mathlib.Core.Path.{sym, ap, ◌∙◌}
-use Rattle.run.specs.rules.Run.{refused, runTape, run_of}
+use Rattle.run.specs.rules.Run.{refused, run_tape, run_of}
 use Rattle.listing.proofs.RunLaws.{tape-fits}
 use Rattle.listing.proofs.ListsLaws.{lists-same, too_small, lists-whole}
 use borrow.Author.Rules.{rules}
@@ -34,7 +34,7 @@ returns-2 : tie.Need-returns-2
 unfolding run_of
 returns-2 c =
     let a = c.before.before.before.before.before.before.before.before.before.before.before.args in
-    lists-whole a.tape.now a.out.now c.before.before.before.before.before.before.before.before.if1.false (lists-same (runTape a.tape.now (Tape c.before.before.before.before.before.t.given.0.0)) c.before.before.list-tape.ensures (ap (runTape a.tape.now) (sym c.before.before.before.before.before.t.given.1 ∙ c.before.before.before.before.before.before.before.open-tape.ensures)))
+    lists-whole a.tape.now a.out.now c.before.before.before.before.before.before.before.before.if1.false (lists-same (run_tape a.tape.now (Tape c.before.before.before.before.before.t.given.0.0)) c.before.before.list-tape.ensures (ap (run_tape a.tape.now) (sym c.before.before.before.before.before.t.given.1 ∙ c.before.before.before.before.before.before.before.open-tape.ensures)))
 
 same-length-2 : tie.Need-same-length-2
 same-length-2 c = search rules
@@ -43,7 +43,7 @@ returns-3 : tie.Need-returns-3
 unfolding run_of
 returns-3 c =
     let a = c.before.before.before.before.before.before.before.before.before.before.before.args in
-    lists-whole a.tape.now a.out.now c.before.before.before.before.before.before.before.before.if1.false (lists-same (refused c.before.before.before.before.before.number.given.0.0) c.before.before.list-refused.ensures (ap (runTape a.tape.now) (sym c.before.before.before.before.before.number.given.1 ∙ c.before.before.before.before.before.before.before.open-tape.ensures)))
+    lists-whole a.tape.now a.out.now c.before.before.before.before.before.before.before.before.if1.false (lists-same (refused c.before.before.before.before.before.number.given.0.0) c.before.before.list-refused.ensures (ap (run_tape a.tape.now) (sym c.before.before.before.before.before.number.given.1 ∙ c.before.before.before.before.before.before.before.open-tape.ensures)))
 
 pub listing-spec : {M : Type 1} → statement M
 listing-spec =

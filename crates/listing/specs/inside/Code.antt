@@ -16,11 +16,11 @@ pub record Lists (run : Run) (xs : List ℕ) (r : Listed) (ys : List ℕ) : Type
 -- ---- fills as the writer of fills leaves them
 
 -- n fills, by their words
-unfoldable pub fillsIn : ℕ → List ℕ → List Fill
-fillsIn zero ws = []
-fillsIn (suc n) ws = fill (get_or ws 0 0) (get_or ws 1 0) (get_or ws 2 0) ∷ fillsIn n (drop 3 ws)
+unfoldable pub fills_in : ℕ → List ℕ → List Fill
+fills_in zero ws = []
+fills_in (suc n) ws = fill (get_or ws 0 0) (get_or ws 1 0) (get_or ws 2 0) ∷ fills_in n (drop 3 ws)
 
 -- how many were written; none where they were refused
-abbrev pub countIn : Filled → ℕ
-countIn (Count n) = n
-countIn (NoFills n) = 0
+abbrev pub count_in : Filled → ℕ
+count_in (Count n) = n
+count_in (NoFills n) = 0

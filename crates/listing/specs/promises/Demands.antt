@@ -2,14 +2,14 @@
 use Rattle.std.specs.Prelude.{◌≡◌, Bool, false, List, [], ◌∷◌, ◌++◌, ℕ, ◌+◌, ◌-◌, ◌*◌, ◌^◌, ◌≤◌, ◌<◌, length, drop}
 use Rattle.tape.specs.declared.order.Order.{Order}
 use Rattle.tape.specs.declared.event.Event.{Event}
-use Rattle.tape.specs.rules.Tape.{tapeOf}
+use Rattle.tape.specs.rules.Tape.{tape_of}
 use Rattle.listing.specs.rules.Text.{text, decimal}
-use Rattle.listing.specs.rules.Listing.{listingOf, roomOf, lengthIn, listed_of, bytes_of}
+use Rattle.listing.specs.rules.Listing.{listing_of, room_of, length_in, listed_of, bytes_of}
 
 -- ---- the example of document 01 (case c): an order, a response, and the same record again
 
-abbrev pub exampleOrder : Order
-exampleOrder =
+abbrev pub example_order : Order
+example_order =
     record {
       side = 1;
       mode = 2;
@@ -29,14 +29,14 @@ exampleOrder =
       collar = 0;
     }
 
-abbrev pub exampleResponse : Event
-exampleResponse = record { sequence = 1; time = 20; kind = 1; marks = 0; side = 2; f12 = 3; f16 = 105; f20 = 0; f24 = 0; participant = 0 }
+abbrev pub example_response : Event
+example_response = record { sequence = 1; time = 20; kind = 1; marks = 0; side = 2; f12 = 3; f16 = 105; f20 = 0; f24 = 0; participant = 0 }
 
-abbrev pub exampleTape : List ℕ
-exampleTape = tapeOf false [] exampleOrder (exampleResponse ∷ exampleResponse ∷ [])
+abbrev pub example_tape : List ℕ
+example_tape = tape_of false [] example_order (example_response ∷ example_response ∷ [])
 
-abbrev pub exampleListing : List ℕ
-exampleListing =
+abbrev pub example_listing : List ℕ
+example_listing =
     text "AUCTION buy size 10 range 101 to 109\n"
     ++ (text "EVENT 1 taken\n"
     ++ (text "EVENT 1 refused 33\n"
@@ -48,8 +48,8 @@ exampleListing =
 
 -- ---- a sell (case e), with a record out of form before its ending and one after it, after two bytes of the recorder's own: as an old tape, and as a new one, where the market order has a participant
 
-abbrev pub orderE : Order
-orderE =
+abbrev pub order_e : Order
+order_e =
     record {
       side = 2;
       mode = 2;
@@ -70,17 +70,17 @@ orderE =
     }
 
 -- of no kind
-abbrev pub noEvent : ℕ → Event
-noEvent k = record { sequence = k; time = 20; kind = 9; marks = 0; side = 0; f12 = 0; f16 = 0; f20 = 0; f24 = 0; participant = 0 }
+abbrev pub no_event : ℕ → Event
+no_event k = record { sequence = k; time = 20; kind = 9; marks = 0; side = 0; f12 = 0; f16 = 0; f20 = 0; f24 = 0; participant = 0 }
 
-abbrev pub marketE : Event
-marketE = record { sequence = 2; time = 20; kind = 4; marks = 0; side = 1; f12 = 4; f16 = 0; f20 = 0; f24 = 0; participant = 77 }
+abbrev pub market_e : Event
+market_e = record { sequence = 2; time = 20; kind = 4; marks = 0; side = 1; f12 = 4; f16 = 0; f20 = 0; f24 = 0; participant = 77 }
 
-abbrev pub tapeE : Bool → List ℕ
-tapeE wide = tapeOf wide (7 ∷ 7 ∷ []) orderE (noEvent 1 ∷ marketE ∷ noEvent 3 ∷ [])
+abbrev pub tape_e : Bool → List ℕ
+tape_e wide = tape_of wide (7 ∷ 7 ∷ []) order_e (no_event 1 ∷ market_e ∷ no_event 3 ∷ [])
 
-abbrev pub listingE : List ℕ
-listingE =
+abbrev pub listing_e : List ℕ
+listing_e =
     text "AUCTION sell size 10 range 102 to 109\n"
     ++ (text "EVENT 1 refused 32\n"
     ++ (text "EVENT 2 ended\n"
@@ -93,21 +93,21 @@ listingE =
 -- ---- the theorems
 
 -- the number that decimal digits say, after those that say m
-abbrev pub valueFrom : ℕ → List ℕ → ℕ
-valueFrom m [] = m
-valueFrom m (d ∷ ds) = valueFrom (m * 10 + (d - 48)) ds
+abbrev pub value_from : ℕ → List ℕ → ℕ
+value_from m [] = m
+value_from m (d ∷ ds) = value_from (m * 10 + (d - 48)) ds
 
 pub record Demands : Type 0 where
   -- the listing of document 01, byte for byte; another; and that of no bytes
-  pub case-c : listingOf exampleTape ≡ exampleListing
-  pub case-e : (wide : Bool) → listingOf (tapeE wide) ≡ listingE
-  pub no_bytes : listingOf [] ≡ text "REFUSED 21\n"
+  pub case-c : listing_of example_tape ≡ example_listing
+  pub case-e : (wide : Bool) → listing_of (tape_e wide) ≡ listing_e
+  pub no_bytes : listing_of [] ≡ text "REFUSED 21\n"
   -- every tape's listing fits the room
-  pub fits : (s : List ℕ) → length (listingOf s) ≤ roomOf
+  pub fits : (s : List ℕ) → length (listing_of s) ≤ room_of
   -- what is answered as written is within the lent bytes
-  pub within : (s out : List ℕ) → lengthIn (listed_of s out) ≤ length out
+  pub within : (s out : List ℕ) → length_in (listed_of s out) ≤ length out
   -- too small a room keeps its bytes; else the listing stands at the start, and every byte past it stays
-  pub kept : (s out : List ℕ) → length out < roomOf → bytes_of s out ≡ out
-  pub stands : (s out : List ℕ) → roomOf ≤ length out → bytes_of s out ≡ listingOf s ++ drop (length (listingOf s)) out
+  pub kept : (s out : List ℕ) → length out < room_of → bytes_of s out ≡ out
+  pub stands : (s out : List ℕ) → room_of ≤ length out → bytes_of s out ≡ listing_of s ++ drop (length (listing_of s)) out
   -- a number reads back as it was written
-  pub spoken : (n : ℕ) → n < 10 ^ 20 → valueFrom 0 (decimal n) ≡ n
+  pub spoken : (n : ℕ) → n < 10 ^ 20 → value_from 0 (decimal n) ≡ n

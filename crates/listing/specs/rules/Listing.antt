@@ -11,7 +11,7 @@ use Rattle.auction.specs.declared.Ending.TheVariants.{Open, Time, Same, Opposite
 use Rattle.events.specs.declared.Answer.{Answer}
 use Rattle.events.specs.declared.Answer.TheVariants.{Taken, Ended, Late, Refused}
 use Rattle.auction.specs.rules.Range.{range_of}
-use Rattle.fills.specs.rules.Fills.{auctionFills}
+use Rattle.fills.specs.rules.Fills.{auction_fills}
 use Rattle.listing.specs.rules.Text.{text, newline, decimal}
 use Rattle.run.specs.rules.Run.{Said, Run, refused, ended, run_of}
 use Rattle.listing.specs.declared.Listed.{Listed}
@@ -24,80 +24,80 @@ abbrev pub field : String → ℕ → List ℕ
 field s n = text s ++ decimal n
 
 -- REFUSED and the number
-unfoldable pub refusedLine : ℕ → List ℕ
-refusedLine number = field "REFUSED " number ++ newline
+unfoldable pub refused_line : ℕ → List ℕ
+refused_line number = field "REFUSED " number ++ newline
 
 -- a range, low to high, up to the line's end
-unfoldable pub rangeText : Range → List ℕ
-rangeText r = field " range " r.low ++ (field " to " r.high ++ newline)
+unfoldable pub range_text : Range → List ℕ
+range_text r = field " range " r.low ++ (field " to " r.high ++ newline)
 
-abbrev pub sideText : Bool → List ℕ
-sideText sell = cond sell (text "AUCTION sell") (text "AUCTION buy")
+abbrev pub side_text : Bool → List ℕ
+side_text sell = cond sell (text "AUCTION sell") (text "AUCTION buy")
 
 -- the order's side and size, and the range at the opening
-unfoldable pub auctionLine : Head → List ℕ
-auctionLine h = sideText h.terms.sell ++ (field " size " h.terms.size ++ rangeText (range_of h))
+unfoldable pub auction_line : Head → List ℕ
+auction_line h = side_text h.terms.sell ++ (field " size " h.terms.size ++ range_text (range_of h))
 
-unfoldable pub answerText : Answer → List ℕ
-answerText Taken = text " taken"
-answerText Ended = text " ended"
-answerText Late = text " late"
-answerText (Refused number) = field " refused " number
+unfoldable pub answer_text : Answer → List ℕ
+answer_text Taken = text " taken"
+answer_text Ended = text " ended"
+answer_text Late = text " late"
+answer_text (Refused number) = field " refused " number
 
 -- the sequence and the answer
-unfoldable pub eventText : Said → List ℕ
-eventText e = field "EVENT " e.sequence ++ answerText e.answer
+unfoldable pub event_text : Said → List ℕ
+event_text e = field "EVENT " e.sequence ++ answer_text e.answer
 
-unfoldable pub eventLine : Said → List ℕ
-eventLine e = eventText e ++ newline
+unfoldable pub event_line : Said → List ℕ
+event_line e = event_text e ++ newline
 
 -- the same with the contracts on offer at its end, for a watch
-unfoldable pub eventLineWith : Said → ℕ → List ℕ
-eventLineWith e offered = eventText e ++ (field " on offer " offered ++ newline)
+unfoldable pub event_line_with : Said → ℕ → List ℕ
+event_line_with e offered = event_text e ++ (field " on offer " offered ++ newline)
 
 -- why it ended (never `open`: an auction still open is closed by hand)
-unfoldable pub endText : Ending → List ℕ
-endText Time = text "END time"
-endText Same = text "END same"
-endText Opposite = text "END opposite"
-endText Improve = text "END improve"
-endText Open = text "END open"
+unfoldable pub end_text : Ending → List ℕ
+end_text Time = text "END time"
+end_text Same = text "END same"
+end_text Opposite = text "END opposite"
+end_text Improve = text "END improve"
+end_text Open = text "END open"
 
 -- and the range that then holds
-unfoldable pub endLine : Head → List ℕ
-endLine h = endText h.ending ++ rangeText (range_of h)
+unfoldable pub end_line : Head → List ℕ
+end_line h = end_text h.ending ++ range_text (range_of h)
 
 -- the party is 0 for the Contra Order
-unfoldable pub partyText : ℕ → List ℕ
-partyText party = cond (eqb party 0) (text "FILL contra") (field "FILL " party)
+unfoldable pub party_text : ℕ → List ℕ
+party_text party = cond (eqb party 0) (text "FILL contra") (field "FILL " party)
 
 -- party, price, quantity
-unfoldable pub fillLine : Fill → List ℕ
-fillLine f = partyText f.party ++ (field " " f.price ++ (field " " f.quantity ++ newline))
+unfoldable pub fill_line : Fill → List ℕ
+fill_line f = party_text f.party ++ (field " " f.price ++ (field " " f.quantity ++ newline))
 
-unfoldable pub totalLine : ℕ → List ℕ
-totalLine n = field "TOTAL " n ++ newline
+unfoldable pub total_line : ℕ → List ℕ
+total_line n = field "TOTAL " n ++ newline
 
 -- ---- the listing
 
-abbrev pub eventLines : List Said → List ℕ
-eventLines [] = []
-eventLines (e ∷ es) = eventLine e ++ eventLines es
+abbrev pub event_lines : List Said → List ℕ
+event_lines [] = []
+event_lines (e ∷ es) = event_line e ++ event_lines es
 
-abbrev pub fillLines : List Fill → List ℕ
-fillLines [] = []
-fillLines (f ∷ fs) = fillLine f ++ fillLines fs
+abbrev pub fill_lines : List Fill → List ℕ
+fill_lines [] = []
+fill_lines (f ∷ fs) = fill_line f ++ fill_lines fs
 
 -- the ending, the fills, and the sum of their quantities
-unfoldable pub endLines : Auction → List ℕ
-endLines a = endLine a.head ++ (fillLines (auctionFills a) ++ totalLine (traded (auctionFills a)))
+unfoldable pub end_lines : Auction → List ℕ
+end_lines a = end_line a.head ++ (fill_lines (auction_fills a) ++ total_line (traded (auction_fills a)))
 
 abbrev pub lines_of : Run → List ℕ
-lines_of (refused number) = refusedLine number
-lines_of (ended first said last) = auctionLine first.head ++ (eventLines said ++ endLines last)
+lines_of (refused number) = refused_line number
+lines_of (ended first said last) = auction_line first.head ++ (event_lines said ++ end_lines last)
 
-unfoldable pub listingOf : List ℕ → List ℕ
-listingOf s = lines_of (run_of s)
+unfoldable pub listing_of : List ℕ → List ℕ
+listing_of s = lines_of (run_of s)
 
 -- ---- what `listing` answers, and the lent bytes after it
 
@@ -106,8 +106,8 @@ abbrev pub at_start : ℕ → List ℕ → List ℕ → List ℕ
 at_start room t out = cond (ltb (length out) room) out (t ++ drop (length t) out)
 
 -- the room that every listing fits
-abbrev pub roomOf : ℕ
-roomOf = 131072
+abbrev pub room_of : ℕ
+room_of = 131072
 
 -- what kind of result it is, and how long the listing
 abbrev pub answer_of : ℕ → Run → Listed
@@ -115,13 +115,13 @@ answer_of n (refused number) = NoAuction number n
 answer_of n (ended first said last) = Auctioned last.head.ending n
 
 -- the length in an answer
-abbrev pub lengthIn : Listed → ℕ
-lengthIn (NoAuction number n) = n
-lengthIn (Auctioned ending n) = n
+abbrev pub length_in : Listed → ℕ
+length_in (NoAuction number n) = n
+length_in (Auctioned ending n) = n
 
 -- 24, before anything else, where the room is too small
 unfoldable pub listed_of : List ℕ → List ℕ → Listed
-listed_of s out = cond (ltb (length out) roomOf) (NoAuction 24 0) (answer_of (length (listingOf s)) (run_of s))
+listed_of s out = cond (ltb (length out) room_of) (NoAuction 24 0) (answer_of (length (listing_of s)) (run_of s))
 
 unfoldable pub bytes_of : List ℕ → List ℕ → List ℕ
-bytes_of s out = at_start roomOf (listingOf s) out
+bytes_of s out = at_start room_of (listing_of s) out

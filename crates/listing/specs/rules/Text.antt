@@ -4,12 +4,12 @@ use Prim.Native.Char.{code}
 use Prim.Native.String.{String, len, char_at}
 
 -- n bytes of a text, from i on
-abbrev pub bytesFrom : String → ℕ → ℕ → List ℕ
-bytesFrom s i zero = []
-bytesFrom s i (suc n) = code (char_at s i) ∷ bytesFrom s (i + 1) n
+abbrev pub bytes_from : String → ℕ → ℕ → List ℕ
+bytes_from s i zero = []
+bytes_from s i (suc n) = code (char_at s i) ∷ bytes_from s (i + 1) n
 
 abbrev pub text : String → List ℕ
-text s = bytesFrom s 0 (len s)
+text s = bytes_from s 0 (len s)
 
 abbrev pub newline : List ℕ
 newline = 10 ∷ []

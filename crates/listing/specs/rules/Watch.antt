@@ -2,41 +2,34 @@
 use Rattle.std.specs.Prelude.{cond, List, [], ◌∷◌, ◌++◌, ℕ, ltb, length}
 use Rattle.tape.specs.declared.event.Event.{Event}
 use Rattle.auction.specs.declared.Auction.{Auction}
-use Rattle.auction.specs.rules.Offer.{onOffer}
+use Rattle.auction.specs.rules.Offer.{on_offer}
 use Rattle.events.specs.rules.Step.{step_of}
 use Rattle.run.specs.rules.Run.{said}
-use Rattle.listing.specs.rules.Listing.{eventLineWith, at_start}
+use Rattle.listing.specs.rules.Listing.{event_line_with, at_start}
 use Rattle.listing.specs.declared.watch.Watched.{Watched}
-use Rattle.listing.specs.declared.watch.Lines.{Lines}
-use Rattle.listing.specs.declared.watch.Lines.TheVariants.{Length, Refused}
 
 -- the line of an event: its sequence, its answer, and the contracts on offer after it
-abbrev pub watchLine : Auction → Event → List ℕ
-watchLine a e = eventLineWith (said e.sequence (step_of a e).answer) (onOffer (step_of a e).auction)
+abbrev pub watch_line : Auction → Event → List ℕ
+watch_line a e = event_line_with (said e.sequence (step_of a e).answer) (on_offer (step_of a e).auction)
 
 -- the lines of many, each event met by the auction that the one before left
-abbrev pub watchLines : Auction → List Event → List ℕ
-watchLines a [] = []
-watchLines a (e ∷ es) = watchLine a e ++ watchLines (step_of a e).auction es
+abbrev pub watch_lines : Auction → List Event → List ℕ
+watch_lines a [] = []
+watch_lines a (e ∷ es) = watch_line a e ++ watch_lines (step_of a e).auction es
 
 -- ---- what each function answers, and the lent bytes after it
 
 -- the room that every line fits, and those of the end together
-abbrev pub linesRoom : ℕ
-linesRoom = 9216
+abbrev pub lines_room : ℕ
+lines_room = 9216
 
--- 24 where the room is too small, else how long the line is
-abbrev pub shownOf : List ℕ → List ℕ → Lines
-shownOf line out = cond (ltb (length out) linesRoom) (Refused 24) (Length (length line))
+-- how many bytes were written: none where the room is too small
+abbrev pub shown_length : List ℕ → List ℕ → ℕ
+shown_length line out = cond (ltb (length out) lines_room) 0 (length line)
 
--- how many bytes were written
-abbrev pub shownLength : Lines → ℕ
-shownLength (Length n) = n
-shownLength (Refused number) = 0
-
-abbrev pub shownBytes : List ℕ → List ℕ → List ℕ
-shownBytes line out = at_start linesRoom line out
+abbrev pub shown_bytes : List ℕ → List ℕ → List ℕ
+shown_bytes line out = at_start lines_room line out
 
 -- an event: where the room is too small it is not met
-unfoldable pub watchedOf : Auction → Event → List ℕ → Watched
-watchedOf a e out = record { lines = shownOf (watchLine a e) out; auction = cond (ltb (length out) linesRoom) a (step_of a e).auction }
+unfoldable pub watched_of : Auction → Event → List ℕ → Watched
+watched_of a e out = record { auction = cond (ltb (length out) lines_room) a (step_of a e).auction; length = shown_length (watch_line a e) out }

@@ -1,4 +1,4 @@
-use Rattle.mirror.specs.rules.Mirror.{buyEvent}
+use Rattle.mirror.specs.rules.Mirror.{buy_event}
 use borrow.Author.Rules.{rules}
 use Rattle.mirror.proofs.buy_event.Statement.{statement}
 use Rattle.mirror.proofs.buy_event.Tie as tie
@@ -7,11 +7,11 @@ mirror-event-requires : tie.Need-mirror-event-requires
 mirror-event-requires c κs = search rules
 
 returns : tie.Need-returns
-unfolding buyEvent
+unfolding buy_event
 returns c = simp (c.before.if1.true) c.mirror-event.ensures
 
 returns-2 : tie.Need-returns-2
-unfolding buyEvent
+unfolding buy_event
 returns-2 c = simp (c.if1.false)
 
 pub buy-event-spec : {M : Type 1} → statement M

@@ -1,4 +1,4 @@
-use Rattle.mirror.specs.rules.Mirror.{mirroredOrder}
+use Rattle.mirror.specs.rules.Mirror.{mirrored_order}
 use borrow.Author.Rules.{rules}
 use Rattle.mirror.proofs.mirror_order.Statement.{statement}
 use Rattle.mirror.proofs.mirror_order.Tie as tie
@@ -31,7 +31,7 @@ mirror-unless-requires-2 : tie.Need-mirror-unless-requires-2
 mirror-unless-requires-2 c κs = search rules
 
 returns : tie.Need-returns
-unfolding mirroredOrder
+unfolding mirrored_order
 returns c = cc
 
 pub mirror-order-spec : {M : Type 1} → statement M

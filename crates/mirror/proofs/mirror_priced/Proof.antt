@@ -1,4 +1,4 @@
-use Rattle.mirror.specs.rules.Mirror.{mirroredPriced}
+use Rattle.mirror.specs.rules.Mirror.{mirrored_priced}
 use borrow.Author.Rules.{rules}
 use Rattle.mirror.proofs.mirror_priced.Statement.{statement}
 use Rattle.mirror.proofs.mirror_priced.Tie as tie
@@ -10,7 +10,7 @@ mirror-requires : tie.Need-mirror-requires
 mirror-requires c κs = search rules
 
 returns : tie.Need-returns
-unfolding mirroredPriced
+unfolding mirrored_priced
 returns c = cc
 
 pub mirror-priced-spec : {M : Type 1} → statement M

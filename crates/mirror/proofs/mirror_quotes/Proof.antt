@@ -1,4 +1,4 @@
-use Rattle.mirror.specs.rules.Mirror.{mirroredQuotes}
+use Rattle.mirror.specs.rules.Mirror.{mirrored_quotes}
 use borrow.Author.Rules.{rules}
 use Rattle.mirror.proofs.mirror_quotes.Statement.{statement}
 use Rattle.mirror.proofs.mirror_quotes.Tie as tie
@@ -19,7 +19,7 @@ mirror-requires-4 : tie.Need-mirror-requires-4
 mirror-requires-4 c κs = search rules
 
 returns : tie.Need-returns
-unfolding mirroredQuotes
+unfolding mirrored_quotes
 returns c = cc
 
 pub mirror-quotes-spec : {M : Type 1} → statement M

@@ -8,7 +8,7 @@ use borrow.Author.Tests.{not-true, not-false}
 use Rattle.tape.specs.declared.trailer.Trailer.{Trailer}
 use Rattle.tape.specs.rules.Records.{width_of}
 use Rattle.tape.specs.rules.Tape.{length_of}
-use Rattle.tape.specs.rules.Whole.{parts, recordsBytes}
+use Rattle.tape.specs.rules.Whole.{parts, records_bytes}
 use Rattle.moving.specs.rules.Moving.{all_bare}
 use Rattle.moving.proofs.CodeLaws.{bare-turn}
 use borrow.Author.Rules.{rules}
@@ -27,8 +27,8 @@ new-long : (s : List ℕ) (t : Trailer) → t.wide ≡ true → length_of t ≡ 
 unfolding width_of
 new-long s t w l = omega (arith, ap (λ (b : Bool). t.events * cond b 40 32) w)
 
-records-are : (s : List ℕ) (t : Trailer) → t.wide ≡ true → recordsBytes s t ≡ parts 40 (drop (t.order + 64) s) t.events
-unfolding recordsBytes width_of
+records-are : (s : List ℕ) (t : Trailer) → t.wide ≡ true → records_bytes s t ≡ parts 40 (drop (t.order + 64) s) t.events
+unfolding records_bytes width_of
 records-are s t w = ap (λ (b : Bool). parts (cond b 40 32) (drop (t.order + 64) s) t.events) w
 
 cast-n : tie.Need-overflow-cast-n invariant-loop decreases-loop
@@ -60,7 +60,7 @@ is-bare-requires : tie.Need-is-bare-requires invariant-loop decreases-loop
 is-bare-requires c κs = search rules
 
 -- one event, and those after it
-turn : (c : tie.After-is-bare invariant-loop decreases-loop) → all_bare (recordsBytes c.before.before.before.before.before.before.before.args.s.now c.before.before.before.before.before.before.before.args.t)
+turn : (c : tie.After-is-bare invariant-loop decreases-loop) → all_bare (records_bytes c.before.before.before.before.before.before.before.args.s.now c.before.before.before.before.before.before.before.args.t)
     ≡ (c.is-bare.result && all_bare (parts 40 (drop (c.before.before.before.loop.at + 40) c.before.before.before.before.before.before.before.args.s.now) (c.before.before.before.before.before.before.before.args.t.events - (c.before.before.before.loop.k + 1))))
 turn c =
     let s = c.before.before.before.before.before.before.before in

@@ -4,45 +4,45 @@ use native.Mathlib.Omega.{arith}
 use lib.ListN.{length}
 use borrow.Author.Tests.{lt-ltb, le-ltb, eq-eqb, ne_eqb, not-true, not-false}
 use Rattle.tape.specs.rules.Tape.{length_of}
-use Rattle.tape.specs.rules.Whole.{recordsBytes}
-use Rattle.moving.specs.rules.Moving.{hasForm, movedTrailer, all_bare, moveOpened}
+use Rattle.tape.specs.rules.Whole.{records_bytes}
+use Rattle.moving.specs.rules.Moving.{has_form, moved_trailer, all_bare, move_opened}
 use borrow.Author.Rules.{rules}
 use Rattle.moving.proofs.move_opened.Statement.{statement}
 use Rattle.moving.proofs.move_opened.Tie as tie
 
 -- what is known after each test that was passed
-other : (c : tie.Else1) → hasForm c.before.before.before.before.args.t c.before.before.before.before.args.wide ≡ false
+other : (c : tie.Else1) → has_form c.before.before.before.before.args.t c.before.before.before.before.args.wide ≡ false
 other c = sym c.before.has-form.ensures ∙ c.if1.false
 
 adds : (c : tie.Else2) → length_of c.before.before.before.before.before.before.args.t ≡ length c.before.before.before.before.before.before.args.s.now
 adds c = sym c.before.length-of.ensures ∙ c.if2.false
 
-kept : (c : tie.Else3) → (c.before.before.before.before.before.before.before.before.args.wide || all_bare (recordsBytes c.before.before.before.before.before.before.before.before.args.s.now c.before.before.before.before.before.before.before.before.args.t)) ≡ true
+kept : (c : tie.Else3) → (c.before.before.before.before.before.before.before.before.args.wide || all_bare (records_bytes c.before.before.before.before.before.before.before.before.args.s.now c.before.before.before.before.before.before.before.before.args.t)) ≡ true
 kept c = sym c.before.nothing-lost.ensures ∙ not-false _ c.if3.false
 
 -- the length of the moved tape
-long : (c : tie.After-length-of2) → c.length-of2.result ≡ length_of (movedTrailer c.before.before.before.before.before.before.before.before.before.before.args.wide c.before.before.before.before.before.before.before.before.before.before.args.t)
+long : (c : tie.After-length-of2) → c.length-of2.result ≡ length_of (moved_trailer c.before.before.before.before.before.before.before.before.before.before.args.wide c.before.before.before.before.before.before.before.before.before.before.args.t)
 long c = c.length-of2.ensures ∙ ap length_of c.before.moved-trailer.ensures
 
 has-form-requires : tie.Need-has-form-requires
 has-form-requires c κs = search rules
 
 returns : tie.Need-returns
-unfolding moveOpened
+unfolding move_opened
 returns c = record { answer = simp (sym c.before.has-form.ensures ∙ c.if1.true); bytes = refl }
 
 length-of-requires : tie.Need-length-of-requires
 length-of-requires c κs = search rules
 
 returns-2 : tie.Need-returns-2
-unfolding moveOpened
+unfolding move_opened
 returns-2 c = record { answer = simp (other c.before.before, ← c.before.length-of.ensures, ne_eqb _ _ c.if2.true); bytes = refl }
 
 nothing-lost-requires : tie.Need-nothing-lost-requires
 nothing-lost-requires c κs = (other c.before.before, adds c)
 
 returns-3 : tie.Need-returns-3
-unfolding moveOpened
+unfolding move_opened
 returns-3 c =
     let e = c.before.before in
     record { answer = simp (other e.before.before, eq-eqb _ _ (adds e), ← c.before.nothing-lost.ensures, not-true c.before.nothing-lost.result c.if3.true); bytes = refl }
@@ -54,14 +54,14 @@ length-of-requires-2 : tie.Need-length-of-requires-2
 length-of-requires-2 c κs = search rules
 
 returns-4 : tie.Need-returns-4
-unfolding moveOpened
+unfolding move_opened
 returns-4 c =
     let k = c.before.before.before in
     let e = k.before.before in
     record { answer = simp (other e.before.before, eq-eqb _ _ (adds e), kept k, rw (long c.before) at (lt-ltb _ _ c.if4.true)); bytes = refl }
 
 returns-5 : tie.Need-returns-5
-unfolding moveOpened
+unfolding move_opened
 returns-5 c =
     let l = c.before.before in
     let k = l.before.before in
@@ -78,7 +78,7 @@ same_length : tie.Need-same-length
 same_length c = search rules
 
 returns-6 : tie.Need-returns-6
-unfolding moveOpened
+unfolding move_opened
 returns-6 c =
     let n = c.before.before.before.before in
     let l = n.before.before in

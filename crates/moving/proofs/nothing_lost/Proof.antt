@@ -2,13 +2,13 @@ use mathlib.Core.Path.{◌≡◌, sym, ap, ◌∙◌}
 use mathlib.Core.Bool.{Bool, true, false}
 use borrow.Author.Tests.{not-false}
 use Rattle.tape.specs.declared.trailer.Trailer.{Trailer}
-use Rattle.moving.specs.rules.Moving.{hasForm}
+use Rattle.moving.specs.rules.Moving.{has_form}
 use Rattle.moving.proofs.nothing_lost.Statement.{statement}
 use Rattle.moving.proofs.nothing_lost.Tie as tie
 
 -- a tape that is moved back is a new one
-is-new : (wide : Bool) (t : Trailer) → wide ≡ false → hasForm t wide ≡ false → t.wide ≡ true
-is-new wide t e h = not-false t.wide (sym (ap (hasForm t) e) ∙ h)
+is-new : (wide : Bool) (t : Trailer) → wide ≡ false → has_form t wide ≡ false → t.wide ≡ true
+is-new wide t e h = not-false t.wide (sym (ap (has_form t) e) ∙ h)
 
 returns : tie.Need-returns
 returns c = simp c.if1.true

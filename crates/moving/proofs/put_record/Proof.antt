@@ -8,7 +8,7 @@ use lib.Seq.{length-take-le}
 use Rattle.words.proofs.WroteLaws.{wrote-append, wrote-same}
 use Rattle.tape.specs.rules.Records.{width_of}
 use Rattle.tape.proofs.RecordLaws.{width-ge}
-use Rattle.moving.specs.rules.Moving.{movedRecord}
+use Rattle.moving.specs.rules.Moving.{moved_record}
 use borrow.Author.Rules.{rules}
 use Rattle.moving.proofs.put_record.Statement.{statement}
 use Rattle.moving.proofs.put_record.Tie as tie
@@ -18,12 +18,12 @@ eight : {wide : Bool} → wide ≡ true → width_of wide ≡ 40
 unfolding width_of
 eight e = ap (λ (w : Bool). cond w 40 32) e
 
-moved_new : {wide : Bool} (r : List ℕ) → wide ≡ true → take 32 r ++ (0 ∷ 0 ∷ 0 ∷ 0 ∷ 0 ∷ 0 ∷ 0 ∷ 0 ∷ []) ≡ movedRecord wide r
-unfolding movedRecord
+moved_new : {wide : Bool} (r : List ℕ) → wide ≡ true → take 32 r ++ (0 ∷ 0 ∷ 0 ∷ 0 ∷ 0 ∷ 0 ∷ 0 ∷ 0 ∷ []) ≡ moved_record wide r
+unfolding moved_record
 moved_new r e = simp e
 
-moved-old : {wide : Bool} (r : List ℕ) → wide ≡ false → take 32 r ≡ movedRecord wide r
-unfolding movedRecord
+moved-old : {wide : Bool} (r : List ℕ) → wide ≡ false → take 32 r ≡ moved_record wide r
+unfolding moved_record
 moved-old r e = simp e (sym (append-nil (take 32 r)))
 
 slice-aggregate-put-bytes : tie.Need-slice-aggregate-put-bytes

@@ -9,8 +9,8 @@ use Rattle.words.specs.inside.Writing.{LeftBytes}
 use Rattle.words.proofs.WroteLaws.{left-start, left-same, left-done, wrote-same}
 use Rattle.tape.specs.declared.trailer.Trailer.{Trailer}
 use Rattle.tape.specs.rules.Records.{width_of}
-use Rattle.tape.specs.rules.Whole.{together, parts, recordsBytes}
-use Rattle.moving.specs.rules.Moving.{movedRecord}
+use Rattle.tape.specs.rules.Whole.{together, parts, records_bytes}
+use Rattle.moving.specs.rules.Moving.{moved_record}
 use Rattle.moving.proofs.MoveLaws.{moved-width}
 use Rattle.moving.proofs.CodeLaws.{less-long, record-turn}
 use borrow.Author.Rules.{rules}
@@ -19,15 +19,15 @@ use Rattle.moving.proofs.put_records.Tie as tie
 
 -- n records of `long` bytes from a place on, in the other form
 abbrev rest : Bool → List ℕ → ℕ → ℕ → ℕ → List ℕ
-rest wide s long at n = together (map (movedRecord wide) (parts long (drop at s) n))
+rest wide s long at n = together (map (moved_record wide) (parts long (drop at s) n))
 
 -- what is left of bytes from a place on
 length_rest : (s : List ℕ) (at : ℕ) → length (take (length s - at) (drop at s)) ≡ length s - at
 length_rest s at = ap length (rest-is s at) ∙ length-drop at s
 
 -- all of a tape's
-records-are : (wide : Bool) (s : List ℕ) (t : Trailer) {long : ℕ} → long ≡ width_of t.wide → rest wide s long (t.order + 64) t.events ≡ together (map (movedRecord wide) (recordsBytes s t))
-unfolding recordsBytes
+records-are : (wide : Bool) (s : List ℕ) (t : Trailer) {long : ℕ} → long ≡ width_of t.wide → rest wide s long (t.order + 64) t.events ≡ together (map (moved_record wide) (records_bytes s t))
+unfolding records_bytes
 records-are wide s t e = ap (λ (n : ℕ). rest wide s n (t.order + 64) t.events) e
 
 -- the invariant: to write the records still to come comes to the same as to write all

@@ -6,10 +6,10 @@ use lib.ListN.{length, take, drop, length-drop}
 use lib.Seq.{length-take-le}
 use Rattle.words.specs.rules.Bytes.{word_bytes}
 use Rattle.tape.specs.declared.trailer.Trailer.{Trailer}
-use Rattle.tape.specs.rules.Records.{trailerWords, trailerWrote}
+use Rattle.tape.specs.rules.Records.{trailer_words, trailer_wrote}
 use Rattle.tape.specs.rules.Tape.{length_of}
 use Rattle.base.proofs.SetsLaws.{rest-is}
-use Rattle.moving.specs.rules.Moving.{movedTrailer}
+use Rattle.moving.specs.rules.Moving.{moved_trailer}
 use Rattle.moving.proofs.CodeLaws.{put-at, trailer-put, trailer-16, records-width, wrote-tape}
 use borrow.Author.Rules.{rules}
 use Rattle.moving.proofs.put_tape.Statement.{statement}
@@ -38,7 +38,7 @@ moved-trailer-requires : tie.Need-moved-trailer-requires
 moved-trailer-requires c κs = search rules
 
 -- the place of the trailer
-end : (c : tie.After-put-records) → c.put-records.result + 16 ≡ length_of (movedTrailer c.before.before.before.before.before.before.before.before.before.before.args.wide c.before.before.before.before.before.before.before.before.before.before.args.t)
+end : (c : tie.After-put-records) → c.put-records.result + 16 ≡ length_of (moved_trailer c.before.before.before.before.before.before.before.before.before.before.args.wide c.before.before.before.before.before.before.before.before.before.before.args.t)
 end c =
     let s = c.before.before.before.before.before.before.before.before.before.before in
     omega (arith, first-long s, c.before.before.before.before.put-bytes.ensures.place, c.put-records.ensures.place, records-width s.args.wide s.args.s.now s.args.t s.requires.0)
@@ -65,12 +65,12 @@ returns c =
     let r = c.before.before.before.before.before.before.before in
     let t = c.before.before.before.before.moved-trailer in
     let w = c.before.before.write-trailer in
-    let m = movedTrailer a.wide a.t in
+    let m = moved_trailer a.wide a.t in
     let zs : List ℕ = r.put-records.new.1.1.1.0 in
     let same : length zs ≡ length a.out.now = search rules in
     wrote-tape a.wide a.s.now a.t s.requires.0 s.requires.1 c.before.before.before.before.before.before.before.before.before.before.before.put-bytes.ensures r.put-records.ensures
-    (put-at zs (word_bytes (trailerWords m)) w.new.1.0 r.put-records.result (omega (arith, end r, trailer-16 m, s.requires.1, same))
-    (w.ensures.1 ∙ ap (λ (x : Trailer). trailerWrote x (take (length zs - r.put-records.result) (drop r.put-records.result zs))) t.ensures ∙ trailer-put m (take (length zs - r.put-records.result) (drop r.put-records.result zs)) (omega (arith, end r, s.requires.1, ap length (rest-is zs r.put-records.result), length-drop r.put-records.result zs, same))))
+    (put-at zs (word_bytes (trailer_words m)) w.new.1.0 r.put-records.result (omega (arith, end r, trailer-16 m, s.requires.1, same))
+    (w.ensures.1 ∙ ap (λ (x : Trailer). trailer_wrote x (take (length zs - r.put-records.result) (drop r.put-records.result zs))) t.ensures ∙ trailer-put m (take (length zs - r.put-records.result) (drop r.put-records.result zs)) (omega (arith, end r, s.requires.1, ap length (rest-is zs r.put-records.result), length-drop r.put-records.result zs, same))))
     (end r)
 
 pub put-tape-spec : {M : Type 1} → statement M

@@ -4,32 +4,32 @@ use Rattle.words.specs.rules.Bytes.{word_bytes, word_at}
 use Rattle.tape.specs.declared.trailer.Trailer.{Trailer}
 use Rattle.tape.specs.declared.trailer.ReadTrailer.{ReadTrailer}
 use Rattle.tape.specs.declared.trailer.ReadTrailer.TheVariants.{Trailer as GotTrailer, Refused as NoTrailer}
-use Rattle.tape.specs.rules.Tape.{length_of, lastTrailer}
-use Rattle.tape.specs.rules.Whole.{tapeWith, ownBytes, orderBytes, recordsBytes}
+use Rattle.tape.specs.rules.Tape.{length_of, last_trailer}
+use Rattle.tape.specs.rules.Whole.{tape_with, own_bytes, order_bytes, records_bytes}
 use Rattle.moving.specs.declared.Moved.{Moved}
 use Rattle.moving.specs.declared.Moved.TheVariants.{Length, Refused}
 
 -- the tape has the form already
-abbrev pub hasForm : Trailer → Bool → Bool
-hasForm t wide = cond wide t.wide (not t.wide)
+abbrev pub has_form : Trailer → Bool → Bool
+has_form t wide = cond wide t.wide (not t.wide)
 
 -- ---- the moved tape
 
 -- a record in the other form, whatever stands in it: its first 32 bytes; in a new one participant 0 and a zero word after them
-unfoldable pub movedRecord : Bool → List ℕ → List ℕ
-movedRecord wide r = take 32 r ++ cond wide (word_bytes (0 ∷ 0 ∷ [])) []
+unfoldable pub moved_record : Bool → List ℕ → List ℕ
+moved_record wide r = take 32 r ++ cond wide (word_bytes (0 ∷ 0 ∷ [])) []
 
 -- the offset of the order and the count of the events stay
-abbrev pub movedTrailer : Bool → Trailer → Trailer
-movedTrailer wide t = record { order = t.order; events = t.events; wide = wide }
+abbrev pub moved_trailer : Bool → Trailer → Trailer
+moved_trailer wide t = record { order = t.order; events = t.events; wide = wide }
 
 -- the recorder's own bytes and the order's as they are, and each record in the other form
-unfoldable pub movedTape : Bool → List ℕ → Trailer → List ℕ
-movedTape wide s t = tapeWith wide (ownBytes s t) (orderBytes s t) (map (movedRecord wide) (recordsBytes s t))
+unfoldable pub moved_tape : Bool → List ℕ → Trailer → List ℕ
+moved_tape wide s t = tape_with wide (own_bytes s t) (order_bytes s t) (map (moved_record wide) (records_bytes s t))
 
 -- at the start of lent bytes; no byte past it changes
-abbrev pub movedBytes : Bool → List ℕ → Trailer → List ℕ → List ℕ
-movedBytes wide s t out = movedTape wide s t ++ drop (length_of (movedTrailer wide t)) out
+abbrev pub moved_bytes : Bool → List ℕ → Trailer → List ℕ → List ℕ
+moved_bytes wide s t out = moved_tape wide s t ++ drop (length_of (moved_trailer wide t)) out
 
 -- ---- what is moved, and the numbers
 
@@ -43,29 +43,29 @@ all_bare [] = true
 all_bare (r ∷ rs) = is_bare r && all_bare rs
 
 -- after 21 and 22: 22 for a tape that has the wanted form already; 23, lengths that don't add up; 25, moving back, an event that isn't bare; 26, too long a tape; 24, too short a room
-unfoldable pub moveOpened : Bool → List ℕ → Trailer → List ℕ → Moved
-moveOpened wide s t out =
-    let long = length_of (movedTrailer wide t) in
-    cond (hasForm t wide) (Refused 22)
+unfoldable pub move_opened : Bool → List ℕ → Trailer → List ℕ → Moved
+move_opened wide s t out =
+    let long = length_of (moved_trailer wide t) in
+    cond (has_form t wide) (Refused 22)
     (cond (not (eqb (length_of t) (length s))) (Refused 23)
-    (cond (not (wide || all_bare (recordsBytes s t))) (Refused 25)
+    (cond (not (wide || all_bare (records_bytes s t))) (Refused 25)
     (cond (ltb 65536 long) (Refused 26)
     (cond (ltb (length out) long) (Refused 24)
     (Length long)))))
 
-abbrev pub moveWith : Bool → List ℕ → List ℕ → ReadTrailer → Moved
-moveWith wide s out (GotTrailer t) = moveOpened wide s t out
-moveWith wide s out (NoTrailer number) = Refused number
+abbrev pub move_with : Bool → List ℕ → List ℕ → ReadTrailer → Moved
+move_with wide s out (GotTrailer t) = move_opened wide s t out
+move_with wide s out (NoTrailer number) = Refused number
 
 -- the length of the moved tape, or the number
-unfoldable pub moveAnswer : Bool → List ℕ → List ℕ → Moved
-moveAnswer wide s out = moveWith wide s out (lastTrailer s)
+unfoldable pub move_answer : Bool → List ℕ → List ℕ → Moved
+move_answer wide s out = move_with wide s out (last_trailer s)
 
 -- the lent bytes then: a refusal changes none
-abbrev pub bytesWith : Bool → List ℕ → List ℕ → ReadTrailer → Moved → List ℕ
-bytesWith wide s out (GotTrailer t) (Length n) = movedBytes wide s t out
-bytesWith wide s out (GotTrailer t) (Refused number) = out
-bytesWith wide s out (NoTrailer number) m = out
+abbrev pub bytes_with : Bool → List ℕ → List ℕ → ReadTrailer → Moved → List ℕ
+bytes_with wide s out (GotTrailer t) (Length n) = moved_bytes wide s t out
+bytes_with wide s out (GotTrailer t) (Refused number) = out
+bytes_with wide s out (NoTrailer number) m = out
 
-unfoldable pub moveWrote : Bool → List ℕ → List ℕ → List ℕ
-moveWrote wide s out = bytesWith wide s out (lastTrailer s) (moveAnswer wide s out)
+unfoldable pub move_wrote : Bool → List ℕ → List ℕ → List ℕ
+move_wrote wide s out = bytes_with wide s out (last_trailer s) (move_answer wide s out)

@@ -1,18 +1,18 @@
--- The theorems that the crates below the promise state, but for `Keeps` and the round trips, which the page itself has.
--- Removing a theorem breaks this record.
+-- The theorems that the crates below the promise state. One that goes missing is missed here.
 use Rattle.std.specs.Prelude.{List, ℕ}
 use Rattle.std.specs.Borrow.{Bor}
 use Rattle.words.specs.promises.Bits.{BitsMean}
 use Rattle.tape.specs.declared.trailer.Trailer.{Trailer}
 use Rattle.reader.specs.promises.Reading.{Reading}
+use Rattle.roundtrip.specs.promises.Demands.{Demands as RoundTrips}
 use Rattle.moving.specs.promises.Moves.{Moves}
 use Rattle.mirror.specs.promises.Records.{RecordsMirror}
 use Rattle.auction.specs.promises.Collared.{Collared}
 use Rattle.board.specs.promises.Board.{Changes, Seen, Finding, Ordering}
 use Rattle.share.specs.promises.Share.{ProRata}
-use Rattle.demand.specs.promises.Demands.{Few}
-use Rattle.exact.specs.promises.Fair.{Holds, Alike, Fair}
-use Rattle.run.specs.promises.Demands.{Resend, Amends, OnOffer, Demanded, Mirrors}
+use Rattle.demand.specs.promises.Demands.{Demands as Demands3, Few}
+use Rattle.demand.specs.promises.Shares.{SharedOut}
+use Rattle.run.specs.promises.Demands.{Keeps, Resend, Amends, OnOffer, Demanded, Mirrors}
 use Rattle.run.specs.promises.InPlace.{InPlace}
 use Rattle.run.specs.promises.Figures.{Figures, FirmFigures}
 use Rattle.listing.specs.promises.Demands.{Demands as Listings}
@@ -21,8 +21,9 @@ use Rattle.listing.specs.promises.Watching.{Watching}
 pub record Below : Type 0 where
   -- bits of a word
   pub bits : BitsMean
-  -- a held tape, read from place to place
+  -- a held tape, read from place to place; records of both forms read and written back
   pub reading : (bytes : Bor (List ℕ)) (t : Trailer) → Reading bytes t
+  pub round-trips : RoundTrips
   -- a tape moved from one form to the other
   pub moves : Moves
   -- mirrored orders and events
@@ -34,14 +35,13 @@ pub record Below : Type 0 where
   pub seen : Seen
   pub finding : Finding
   pub ordering : Ordering
-  -- pro rata over any number of responses; at most 130 fills
+  -- pro rata over any number of responses; demand 3 of every deal, and the others' shares at each price; at most 130 fills
   pub pro-rata : ProRata
+  pub demand-3 : Demands3
+  pub shared-out : SharedOut
   pub few : Few
-  -- who trades: the engine's fills meet the clauses, two lists that do are one, and demand 3's sentences follow
-  pub who-trades : Holds
-  pub alike : Alike
-  pub fair : Fair
-  -- every run: resends, amends, the contracts on offer, demand 3 of every list of events, sells, events in place
+  -- every run: refusals, resends, amends, the contracts on offer, demand 3 of every list of events, sells, events in place
+  pub keeps : Keeps
   pub resend : Resend
   pub amends : Amends
   pub on-offer : OnOffer

@@ -38,7 +38,7 @@ use denote.Triple.Table.{entered, cited}
 use denote.Triple.Walked.{says, Stays, stay_none, walk_of, Goes-none, Walks, ends_at, walked, walk_Meets}
 use denote.Exit.{yes}
 use denote.Triple.Clauses.{ensured, lasts}
-use Rattle.reader.specs.rules.Reader.{currentOf}
+use Rattle.reader.specs.rules.Reader.{current_of}
 use Rattle.reader.specs.declared.Tape.{Tape}
 use Rattle.tape.specs.declared.trailer.Trailer.{Trailer}
 use Rattle.reader.specs.declared.Current.{Current}
@@ -84,7 +84,7 @@ module _ {M : Type 1} {𝓤 : Ura M} (𝓛 : Logic 𝓤) (mem : Memory → SProp
   v = slice_val d.bytes.ref_ptr (length d.bytes.now)
 
   abbrev found : Current
-  found = currentOf d.bytes.now d.trailer d.place
+  found = current_of d.bytes.now d.trailer d.place
 
   abbrev Post : Val → SProp 𝓤
   Post = (walk_of 𝓛 current.ended stayed (current.clauses 𝓛 mem run)).post (((κ, tt), (q, tt), tt, (d, tt), (mach ∷ [], tt)), tt)

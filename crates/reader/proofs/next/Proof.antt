@@ -36,7 +36,7 @@ use denote.Triple.Table.{entered, cited}
 use denote.Triple.Walked.{says, Stays, stay_none, walk_of, Goes-none, Walks, ends_at, walked, walk_Meets}
 use denote.Triple.Clauses.{ensured, lasts}
 use denote.Exit.{yes}
-use Rattle.reader.specs.rules.Reader.{nextPlace}
+use Rattle.reader.specs.rules.Reader.{next_place}
 use Rattle.reader.specs.declared.Tape.{Tape}
 use Rattle.tape.specs.declared.trailer.Trailer.{Trailer}
 use Rattle.reader.specs.contracts.Tape as T
@@ -94,10 +94,10 @@ module _ {M : Type 1} {𝓤 : Ura M} (𝓛 : Logic 𝓤) (mem : Memory → SProp
   goes : ent 𝓤 (sep 𝓤 (sem 𝓛 ftrue) (sem 𝓛 (owns (R.the_row ∷ usize ∷ []) (d.trailer, (d.place, tt)) (trailer d.trailer ∷ [], (vint w64 d.place ∷ [], tt))))) ((After 𝓛 mem run).pre to)
   goes = qed 𝓛 (‵ ftrue ∷ ‵ (owns (R.the_row ∷ usize ∷ []) (d.trailer, (d.place, tt)) (trailer d.trailer ∷ [], (vint w64 d.place ∷ [], tt))) ∷ []) ∵ join ! $ frame ! $ done !
 
-  said : (r : ℕ) → ent 𝓤 (ensured 𝓛 after.ended (after.clauses 𝓛 mem run) tt (d.trailer, (d.place, tt)) tt r) (fact 𝓤 (r ≡ nextPlace d.trailer d.place))
-  said r = ex_e 𝓤 _ (λ ws. snd∗ 𝓤 (sem 𝓛 (lasts after.ended tt (d.trailer, (d.place, tt)) ws)) (fact 𝓤 (r ≡ nextPlace d.trailer d.place)))
+  said : (r : ℕ) → ent 𝓤 (ensured 𝓛 after.ended (after.clauses 𝓛 mem run) tt (d.trailer, (d.place, tt)) tt r) (fact 𝓤 (r ≡ next_place d.trailer d.place))
+  said r = ex_e 𝓤 _ (λ ws. snd∗ 𝓤 (sem 𝓛 (lasts after.ended tt (d.trailer, (d.place, tt)) ws)) (fact 𝓤 (r ≡ next_place d.trailer d.place)))
 
-  exits : (r : ℕ) → r < 2 ^ 64 → r ≡ nextPlace d.trailer d.place → ent 𝓤 (on_entry 𝓛 next.signature (κ, tt) (q, tt) (d, tt) at) (Post (T'.lowered (made r)))
+  exits : (r : ℕ) → r < 2 ^ 64 → r ≡ next_place d.trailer d.place → ent 𝓤 (on_entry 𝓛 next.signature (κ, tt) (q, tt) (d, tt) at) (Post (T'.lowered (made r)))
   exits r ok e =
       qed 𝓛 ((‵ (flft κ q) ⊛ ‵ ftrue) ∷ ‵ (owns (B (κ, tt) ∷ []) (d, tt) at) ∷ []) ∵
       suffices ! _ (ends_at 𝓛 next.ended stayed (next.clauses 𝓛 mem run) (((κ, tt), (q, tt), tt, (d, tt), at), tt) (T'.lowered (made r)) (made r) (tt, tt) (tt, tt)) $ says ! (ap made e) $
@@ -116,7 +116,7 @@ module _ {M : Type 1} {𝓤 : Ura M} (𝓛 : Logic 𝓤) (mem : Memory → SProp
         nothing ! $ owned ! usize (Is usize) (uint_Makes 𝓛 w64) d.place _ (refl, wt.1.1.1.0.fits) $ fjoin ! $ owned ! R.the_row (Is R.the_row) (LL.makes R.the_type R'.the_plain 𝓛) d.trailer _ is-t $ fjoin ! $ nothing ! $ use2 𝓛 (raw ((After 𝓛 mem run).pre to)) goes $
         calls_at ! fm (After 𝓛 mem run) known to (and_then ! (load ! (from ! (stop !)) (look ! 7 refl)) (and_then ! (load ! (from ! (stop !)) (look ! 5 refl)) (no_more !))) (λ u.
         use1 𝓛 (later (some (λ (r : ℕ). (‵ ftrue ⊛ ‵ (usize.own_val r (u ∷ []))) ⊛ raw (ensured 𝓛 after.ended (after.clauses 𝓛 mem run) tt (d.trailer, (d.place, tt)) tt r)))) (id⊢ 𝓤 _) $ await ! tt $ pick ! (λ r.
-        split ! $ move ! (1 ∷ []) $ use1 𝓛 (raw (fact 𝓤 (r ≡ nextPlace d.trailer d.place))) (said r) $ heard ! (r ≡ nextPlace d.trailer d.place) (λ e. split ! $ drop ! $
+        split ! $ move ! (1 ∷ []) $ use1 𝓛 (raw (fact 𝓤 (r ≡ next_place d.trailer d.place))) (said r) $ heard ! (r ≡ next_place d.trailer d.place) (λ e. split ! $ drop ! $
         peeks ! usize (Is usize) (shows 𝓛 usize) r (u ∷ []) (λ is. drop ! $
         land ! (from ! (stop !)) (init ! 8 refl ((uint_Lawful 𝓛 w64).typed r _ is).0) $ rewrite ! 8 (λ (v : Val). ‵ (fat full_share (ty_int w64) l₂ 0 v)) (ap only is.0) refl $
         assigns ! (of_opd ! (load ! (from ! (fld ! refl (stop !))) (look_in ! 10 (sub ! 0 refl (whole !))))) (from ! (stop !)) (init ! 2 refl (tt, wt.1.0)) $

@@ -1,7 +1,7 @@
 -- What reading one event after the other gives.
 use Rattle.std.specs.Prelude.{◌≡◌, List, [], ◌∷◌, ℕ, zero, suc, ◌≤◌, ◌<◌, min}
 use Rattle.std.specs.Borrow.{Bor}
-use Rattle.tape.specs.rules.Tape.{recordIn, recordsOf}
+use Rattle.tape.specs.rules.Tape.{record_in, records_of}
 use Rattle.tape.specs.declared.trailer.Trailer.{Trailer}
 use Rattle.tape.specs.declared.event.Event.{Event}
 use Rattle.reader.specs.rules.Reader.{held, next_of, standing}
@@ -28,9 +28,9 @@ pub record Reading (bytes : Bor (List ℕ)) (t : Trailer) : Type 0 where
   -- k steps lead to place k, and never past the end
   pub at : (k : ℕ) → advanced k (held bytes t 0) ≡ held bytes t (min k t.events)
   -- there stands the tape's record, for each event
-  pub event : (k : ℕ) → k < t.events → standing (advanced k (held bytes t 0)) ≡ There (recordIn bytes.now t k)
+  pub event : (k : ℕ) → k < t.events → standing (advanced k (held bytes t 0)) ≡ There (record_in bytes.now t k)
   -- and then, and only then, the end
   pub end : (k : ℕ) → t.events ≤ k → standing (advanced k (held bytes t 0)) ≡ End
   pub only : (k : ℕ) → standing (advanced k (held bytes t 0)) ≡ End → t.events ≤ k
   -- so that all of them together are the tape's records
-  pub all : (n : ℕ) → t.events ≤ n → gathered n (held bytes t 0) ≡ recordsOf bytes.now t
+  pub all : (n : ℕ) → t.events ≤ n → gathered n (held bytes t 0) ≡ records_of bytes.now t

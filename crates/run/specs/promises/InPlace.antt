@@ -1,10 +1,10 @@
 -- What many events in place come to: the auction lent and updated by each.
 use Rattle.std.specs.Prelude.{◌≡◌, List, [], ◌∷◌, ℕ, ◌<◌, ◌^◌, leb}
-use Rattle.tape.specs.rules.Form.{eventFormed}
+use Rattle.tape.specs.rules.Form.{event_formed}
 use Rattle.tape.specs.declared.event.Event.{Event}
 use Rattle.auction.specs.declared.Auction.{Auction}
 use Rattle.events.specs.rules.Step.{step_of}
-use Rattle.steps.specs.rules.Lent.{cancelEvent}
+use Rattle.steps.specs.rules.Lent.{cancel_event}
 use Rattle.events.specs.declared.Answer.{Answer}
 use Rattle.run.specs.rules.Run.{run, Said, said, heard}
 
@@ -17,4 +17,4 @@ pub record InPlace : Type 0 where
   -- in place or by value, the same auction and the same answers
   pub runs : (a : Auction) (es : List Event) (rs : List Said) (b : Auction) → Applies a es rs b → (rs ≡ heard a es) × (b ≡ run a es)
   -- a cancel by its numbers is in form wherever its time is
-  pub formed : (sequence time named : ℕ) → named < 2 ^ 32 → eventFormed (cancelEvent sequence time named) ≡ leb time 86400000
+  pub formed : (sequence time named : ℕ) → named < 2 ^ 32 → event_formed (cancel_event sequence time named) ≡ leb time 86400000

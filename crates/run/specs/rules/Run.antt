@@ -1,18 +1,18 @@
 -- A run: events one after the other, and what a tape comes to.
 use Rattle.std.specs.Prelude.{Bool, true, false, List, [], ◌∷◌, ℕ}
 use Rattle.base.specs.Lists.{keep}
-use Rattle.tape.specs.rules.Tape.{openTape, order_in, recordsOf}
+use Rattle.tape.specs.rules.Tape.{open_tape, order_in, records_of}
 use Rattle.tape.specs.declared.order.Order.{Order}
 use Rattle.tape.specs.declared.order.ReadOrder.{ReadOrder}
 use Rattle.tape.specs.declared.order.ReadOrder.TheVariants.{Order as GotOrder, Refused as NoOrder}
 use Rattle.tape.specs.declared.event.Event.{Event}
 use Rattle.tape.specs.declared.trailer.Opened.{Opened}
 use Rattle.tape.specs.declared.trailer.Opened.TheVariants.{Tape, Refused as NoTape}
-use Rattle.auction.specs.rules.Accept.{acceptOf}
+use Rattle.auction.specs.rules.Accept.{accept_of}
 use Rattle.auction.specs.declared.Auction.{Auction}
 use Rattle.auction.specs.declared.Entry.{Entry}
 use Rattle.auction.specs.declared.Entry.TheVariants.{Accepted, Refused as NoEntry}
-use Rattle.events.specs.rules.Step.{step_of, closeOf}
+use Rattle.events.specs.rules.Step.{step_of, close_of}
 use Rattle.events.specs.declared.Answer.{Answer}
 use Rattle.events.specs.declared.Answer.TheVariants.{Taken, Ended, Late, Refused}
 
@@ -38,11 +38,11 @@ heard a (e ∷ es) = said e.sequence (step_of a e).answer ∷ heard (step_of a e
 
 -- an auction still open after the last event is closed by hand
 abbrev pub closed : Auction → Auction
-closed a = (closeOf a).auction
+closed a = (close_of a).auction
 
 -- an order's auction after a list of events
 abbrev pub played : Order → List Event → Auction
-played o es = closed (run (acceptOf o).auction es)
+played o es = closed (run (accept_of o).auction es)
 
 -- taken, and those that end it; not late ones
 abbrev pub is_taken : Answer → Bool
@@ -65,17 +65,17 @@ pub data Run : Type 0 where
   ended : Auction → List Said → Auction → Run
 
 -- an order's answer, with its events
-abbrev pub runEntry : List Event → Auction → Entry → Run
-runEntry es a (NoEntry number) = refused number
-runEntry es a Accepted = ended a (heard a es) (closed (run a es))
+abbrev pub run_entry : List Event → Auction → Entry → Run
+run_entry es a (NoEntry number) = refused number
+run_entry es a Accepted = ended a (heard a es) (closed (run a es))
 
-abbrev pub runOrder : List Event → ReadOrder → Run
-runOrder es (NoOrder number) = refused number
-runOrder es (GotOrder o) = runEntry es (acceptOf o).auction (acceptOf o).answer
+abbrev pub run_order : List Event → ReadOrder → Run
+run_order es (NoOrder number) = refused number
+run_order es (GotOrder o) = run_entry es (accept_of o).auction (accept_of o).answer
 
-abbrev pub runTape : List ℕ → Opened → Run
-runTape s (NoTape number) = refused number
-runTape s (Tape t) = runOrder (recordsOf s t) (order_in s t)
+abbrev pub run_tape : List ℕ → Opened → Run
+run_tape s (NoTape number) = refused number
+run_tape s (Tape t) = run_order (records_of s t) (order_in s t)
 
 unfoldable pub run_of : List ℕ → Run
-run_of s = runTape s (openTape s)
+run_of s = run_tape s (open_tape s)

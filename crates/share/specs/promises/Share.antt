@@ -1,7 +1,7 @@
 -- What pro rata is, as statements. Each has its proof.
 use Rattle.std.specs.Prelude.{◌≡◌, List, [], ◌∷◌, ◌⊎◌, ℕ, ◌+◌, ◌*◌, ◌/◌, ◌≤◌, ◌<◌, min}
 use Rattle.base.specs.Lists.{sum}
-use Rattle.share.specs.rules.Share.{floors, fractions, plus, leftoverCount, leftovers, sharesBy, shares}
+use Rattle.share.specs.rules.Share.{floors, fractions, plus, leftover_count, leftovers, shares_by, shares}
 
 -- ---- the words of the laws
 
@@ -19,7 +19,7 @@ Mark s m = (m ≤ 1) × (m ≤ s)
 -- the leftovers go one each to distinct members: all that the laws ask of a rule
 pub record Marks (R : ℕ) (ss ms : List ℕ) : Type 0 where
   pub each : Each Mark ss ms
-  pub total : sum ms ≡ leftoverCount R ss
+  pub total : sum ms ≡ leftover_count R ss
 
 -- share x of a size s is the whole part, or one more
 abbrev pub Near : ℕ → ℕ → ℕ → ℕ → Type 0
@@ -58,11 +58,11 @@ pub record ByFraction (R : ℕ) (ss : List ℕ) : Type 0 where
   -- none to a member whose fraction is 0
   pub none_at_zero : Each Mark (fractions R (sum ss) ss) (leftovers R ss)
   -- the fractions come to as many wholes as there are leftovers
-  pub wholes : sum (fractions R (sum ss) ss) ≡ leftoverCount R ss * sum ss
+  pub wholes : sum (fractions R (sum ss) ss) ≡ leftover_count R ss * sum ss
 
 pub record ProRata : Type 0 where
   -- for any rule that gives the leftovers one each to distinct members
-  pub by-rule : (R : ℕ) (ss ms : List ℕ) → (R < sum ss → Marks R ss ms) → Fair R ss (sharesBy ms R ss)
+  pub by-rule : (R : ℕ) (ss ms : List ℕ) → (R < sum ss → Marks R ss ms) → Fair R ss (shares_by ms R ss)
   -- the largest fraction first is such a rule
   pub by_fraction : (R : ℕ) (ss : List ℕ) → R < sum ss → ByFraction R ss
   -- and no other is: one each to distinct members, the largest fractions first and of equal ones the earlier, make these shares

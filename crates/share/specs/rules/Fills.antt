@@ -13,18 +13,18 @@ abbrev pub fill : ℕ → ℕ → ℕ → Fill
 fill party price quantity = record { party = party; price = price; quantity = quantity }
 
 -- the fill of one party: none of zero
-abbrev pub fillOf : ℕ → ℕ → ℕ → List Fill
-fillOf party price quantity = keep (ltb 0 quantity) (fill party price quantity) []
+abbrev pub fill_of : ℕ → ℕ → ℕ → List Fill
+fill_of party price quantity = keep (ltb 0 quantity) (fill party price quantity) []
 
 abbrev pub sizes : List Response → List ℕ
 sizes [] = []
 sizes (r ∷ rs) = r.size ∷ sizes rs
 
 -- a quantity to each response, at the price p
-abbrev pub fillsBy : ℕ → List Response → List ℕ → List Fill
-fillsBy p [] qs = []
-fillsBy p (r ∷ rs) [] = []
-fillsBy p (r ∷ rs) (q ∷ qs) = fillOf r.sequence p q ++ fillsBy p rs qs
+abbrev pub fills_by : ℕ → List Response → List ℕ → List Fill
+fills_by p [] qs = []
+fills_by p (r ∷ rs) [] = []
+fills_by p (r ∷ rs) (q ∷ qs) = fill_of r.sequence p q ++ fills_by p rs qs
 
 -- ---- words
 

@@ -6,29 +6,29 @@ use Rattle.tape.specs.declared.event.Event.{Event}
 abbrev pub size_of : Event → ℕ
 size_of e = e.f12
 
-abbrev pub priceOf : Event → ℕ
-priceOf e = e.f16
+abbrev pub price_of : Event → ℕ
+price_of e = e.f16
 
 -- of a cancel and of an amend: the sequence of the GTX response that it names
 abbrev pub name_of : Event → ℕ
 name_of e = e.f12
 
 -- of an amend: the size and the price that the GTX response gets
-abbrev pub newSizeOf : Event → ℕ
-newSizeOf e = e.f16
+abbrev pub new_size_of : Event → ℕ
+new_size_of e = e.f16
 
-abbrev pub newPriceOf : Event → ℕ
-newPriceOf e = e.f20
+abbrev pub new_price_of : Event → ℕ
+new_price_of e = e.f20
 
 -- of quotes
-abbrev pub nbbOf : Event → ℕ
-nbbOf e = e.f12
+abbrev pub nbb_of : Event → ℕ
+nbb_of e = e.f12
 
-abbrev pub nboOf : Event → ℕ
-nboOf e = e.f16
+abbrev pub nbo_of : Event → ℕ
+nbo_of e = e.f16
 
-abbrev pub bbOf : Event → ℕ
-bbOf e = e.f20
+abbrev pub bb_of : Event → ℕ
+bb_of e = e.f20
 
-abbrev pub boOf : Event → ℕ
-boOf e = e.f24
+abbrev pub bo_of : Event → ℕ
+bo_of e = e.f24

@@ -17,28 +17,28 @@ within x low high = leb low x && leb x high
 -- ---- orders
 
 -- no stop in mode 2, a price else
-abbrev pub stopFormed : ℕ → ℕ → Bool
-stopFormed mode stop = (eqb mode 2 && eqb stop 0) || (not (eqb mode 2) && within stop 1 999999)
+abbrev pub stop_formed : ℕ → ℕ → Bool
+stop_formed mode stop = (eqb mode 2 && eqb stop 0) || (not (eqb mode 2) && within stop 1 999999)
 
 -- the result: for a buy the displayed price minus the collar, for a sell the displayed price plus the collar
-abbrev pub collarResult : ℕ → ℕ → ℕ → ℕ
-collarResult side displayed collar = cond (eqb side 2) (displayed + collar) (displayed - collar)
+abbrev pub collar_result : ℕ → ℕ → ℕ → ℕ
+collar_result side displayed collar = cond (eqb side 2) (displayed + collar) (displayed - collar)
 
 -- a collared order on the other side: both fields are zero where there is none, and else prices; the result is one too
-abbrev pub collarFormed : ℕ → ℕ → ℕ → Bool
-collarFormed side displayed collar =
+abbrev pub collar_formed : ℕ → ℕ → ℕ → Bool
+collar_formed side displayed collar =
     (eqb displayed 0 && eqb collar 0)
-    || (within displayed 1 999999 && within collar 1 999999 && within (collarResult side displayed collar) 1 999999)
+    || (within displayed 1 999999 && within collar 1 999999 && within (collar_result side displayed collar) 1 999999)
 
 -- side, mode, marks (bits 0 to 3), size (0 is number 3's), prices, best bid and offer, times, interval, the collared order
-unfoldable pub orderTests : Order → List Bool
-orderTests o =
+unfoldable pub order_tests : Order → List Bool
+order_tests o =
     within o.side 1 2
     ∷ within o.mode 1 3
     ∷ leb o.marks 15
     ∷ leb o.size 100000
     ∷ within o.limit 1 999999
-    ∷ stopFormed o.mode o.stop
+    ∷ stop_formed o.mode o.stop
     ∷ within o.nbb 1 999999
     ∷ within o.nbo 1 999999
     ∷ leb o.bb 999999
@@ -47,11 +47,11 @@ orderTests o =
     ∷ ltb o.opens o.closes
     ∷ leb o.closes 86400000
     ∷ within o.interval 100 1000
-    ∷ collarFormed o.side o.displayed o.collar
+    ∷ collar_formed o.side o.displayed o.collar
     ∷ []
 
-unfoldable pub orderFormed : Order → Bool
-orderFormed o = all_from true (orderTests o)
+unfoldable pub order_formed : Order → Bool
+order_formed o = all_from true (order_tests o)
 
 -- ---- events
 
@@ -73,8 +73,8 @@ sizes = range 1 100000
 abbrev pub prices : Range
 prices = range 1 999999
 
-abbrev pub anyNumber : Range
-anyNumber = range 0 4294967295
+abbrev pub any_number : Range
+any_number = range 0 4294967295
 
 abbrev pub bids : Range
 bids = range 0 999999
@@ -90,15 +90,15 @@ row marks low side f12 f16 f20 f24 = record { marks = marks; low = low; side = s
 unfoldable pub shape_of : ℕ → Shape
 shape_of kind =
     cond (eqb kind 1) (row (range 0 1) true sides sizes prices unused unused)
-    (cond (eqb kind 2) (row unused true unused anyNumber unused unused unused)
+    (cond (eqb kind 2) (row unused true unused any_number unused unused unused)
     (cond (eqb kind 3) (row (range 0 3) true sides sizes prices unused unused)
     (cond (eqb kind 4) (row (range 0 1) true sides sizes unused unused unused)
     (cond (eqb kind 5) (row (range 0 15) false unused prices prices bids offers)
-    (cond (eqb kind 6) (row unused true unused anyNumber sizes prices unused)
+    (cond (eqb kind 6) (row unused true unused any_number sizes prices unused)
     (row (range 1 0) true unused unused unused unused unused))))))
 
-unfoldable pub shapeTests : Shape → Event → List Bool
-shapeTests s e =
+unfoldable pub shape_tests : Shape → Event → List Bool
+shape_tests s e =
     leb e.time 86400000
     ∷ inside e.marks s.marks
     ∷ (s.low || (not (bit_at e.marks 0) && not (bit_at e.marks 1)))
@@ -109,5 +109,5 @@ shapeTests s e =
     ∷ inside e.f24 s.f24
     ∷ []
 
-unfoldable pub eventFormed : Event → Bool
-eventFormed e = all_from true (shapeTests (shape_of e.kind) e)
+unfoldable pub event_formed : Event → Bool
+event_formed e = all_from true (shape_tests (shape_of e.kind) e)

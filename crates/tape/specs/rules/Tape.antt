@@ -1,7 +1,7 @@
 -- A tape: the recorder's own bytes, the order record, the event records, the trailer. `wide` says that it is of the new form.
 use Rattle.std.specs.Prelude.{Bool, cond, ◌||◌, List, [], ◌∷◌, ◌++◌, ℕ, zero, suc, ◌+◌, ◌*◌, ◌-◌, ltb, eqb, length, take, drop}
 use Rattle.words.specs.rules.Bytes.{word_bytes}
-use Rattle.tape.specs.rules.Records.{width_of, orderWords, eventWords, trailerWords, orderWrote, eventWrote, trailerWrote, readOrder, recordAt, readTrailer}
+use Rattle.tape.specs.rules.Records.{width_of, order_words, event_words, trailer_words, order_wrote, event_wrote, trailer_wrote, read_order, record_at, read_trailer}
 use Rattle.tape.specs.declared.order.Order.{Order}
 use Rattle.tape.specs.declared.event.Event.{Event}
 use Rattle.tape.specs.declared.order.ReadOrder.{ReadOrder}
@@ -15,60 +15,60 @@ use Rattle.tape.specs.declared.trailer.Opened.TheVariants.{Tape, Refused}
 abbrev pub length_of : Trailer → ℕ
 length_of t = t.order + 64 + t.events * width_of t.wide + 16
 
-abbrev pub openedWith : ℕ → ReadTrailer → Opened
-openedWith n (GotTrailer t) = cond (eqb (length_of t) n) (Tape t) (Refused 23)
-openedWith n (NoTrailer number) = Refused number
+abbrev pub opened_with : ℕ → ReadTrailer → Opened
+opened_with n (GotTrailer t) = cond (eqb (length_of t) n) (Tape t) (Refused 23)
+opened_with n (NoTrailer number) = Refused number
 
 -- the last 16 bytes are the trailer: 21, 22
-unfoldable pub lastTrailer : List ℕ → ReadTrailer
-lastTrailer s =
+unfoldable pub last_trailer : List ℕ → ReadTrailer
+last_trailer s =
     cond (ltb (length s) 16 || ltb 65536 (length s)) (NoTrailer 21)
-    (readTrailer (drop (length s - 16) s))
+    (read_trailer (drop (length s - 16) s))
 
 -- and 23
-unfoldable pub openTape : List ℕ → Opened
-openTape s = openedWith (length s) (lastTrailer s)
+unfoldable pub open_tape : List ℕ → Opened
+open_tape s = opened_with (length s) (last_trailer s)
 
 -- where event k stands, after the order at `at`
-abbrev pub eventPlace : Bool → ℕ → ℕ → ℕ
-eventPlace wide at k = at + 64 + k * width_of wide
+abbrev pub event_place : Bool → ℕ → ℕ → ℕ
+event_place wide at k = at + 64 + k * width_of wide
 
 -- ---- a tape's records one by one, where its trailer says that they stand
 
 unfoldable pub order_in : List ℕ → Trailer → ReadOrder
-order_in s t = readOrder (drop t.order s)
+order_in s t = read_order (drop t.order s)
 
 -- the event that stands in record k, counted from 0
-unfoldable pub recordIn : List ℕ → Trailer → ℕ → Event
-recordIn s t k = recordAt t.wide (drop (eventPlace t.wide t.order k) s)
+unfoldable pub record_in : List ℕ → Trailer → ℕ → Event
+record_in s t k = record_at t.wide (drop (event_place t.wide t.order k) s)
 
 -- n records, from record k on
-unfoldable pub recordsFrom : List ℕ → Trailer → ℕ → ℕ → List Event
-recordsFrom s t k zero = []
-recordsFrom s t k (suc n) = recordIn s t k ∷ recordsFrom s t (k + 1) n
+unfoldable pub records_from : List ℕ → Trailer → ℕ → ℕ → List Event
+records_from s t k zero = []
+records_from s t k (suc n) = record_in s t k ∷ records_from s t (k + 1) n
 
 -- all of them
-unfoldable pub recordsOf : List ℕ → Trailer → List Event
-recordsOf s t = recordsFrom s t 0 t.events
+unfoldable pub records_of : List ℕ → Trailer → List Event
+records_of s t = records_from s t 0 t.events
 
 -- ---- a tape that is put together
 
 -- after the recorder's own bytes, for events or for their records
-abbrev pub trailerFor : {A : Type 0} → Bool → List ℕ → List A → Trailer
-trailerFor wide own es = record { order = length own; events = length es; wide = wide }
+abbrev pub trailer_for : {A : Type 0} → Bool → List ℕ → List A → Trailer
+trailer_for wide own es = record { order = length own; events = length es; wide = wide }
 
-abbrev pub eventsBytes : Bool → List Event → List ℕ
-eventsBytes wide [] = []
-eventsBytes wide (e ∷ es) = word_bytes (eventWords wide e) ++ eventsBytes wide es
+abbrev pub events_bytes : Bool → List Event → List ℕ
+events_bytes wide [] = []
+events_bytes wide (e ∷ es) = word_bytes (event_words wide e) ++ events_bytes wide es
 
 -- the whole tape of an order and its events after the recorder's own bytes
-unfoldable pub tapeOf : Bool → List ℕ → Order → List Event → List ℕ
-tapeOf wide own o es = own ++ (word_bytes (orderWords o) ++ (eventsBytes wide es ++ word_bytes (trailerWords (trailerFor wide own es))))
+unfoldable pub tape_of : Bool → List ℕ → Order → List Event → List ℕ
+tape_of wide own o es = own ++ (word_bytes (order_words o) ++ (events_bytes wide es ++ word_bytes (trailer_words (trailer_for wide own es))))
 
 -- what the writers make of lent bytes, each lent the part after the last record: the events and the trailer, and a whole tape
-abbrev pub wroteEvents : List Event → Trailer → List ℕ → List ℕ
-wroteEvents [] t room = trailerWrote t room
-wroteEvents (e ∷ es) t room = take (width_of t.wide) (eventWrote t.wide e room) ++ wroteEvents es t (drop (width_of t.wide) (eventWrote t.wide e room))
+abbrev pub wrote_events : List Event → Trailer → List ℕ → List ℕ
+wrote_events [] t room = trailer_wrote t room
+wrote_events (e ∷ es) t room = take (width_of t.wide) (event_wrote t.wide e room) ++ wrote_events es t (drop (width_of t.wide) (event_wrote t.wide e room))
 
-unfoldable pub wroteTape : Bool → List ℕ → Order → List Event → List ℕ → List ℕ
-wroteTape wide own o es room = own ++ (take 64 (orderWrote o room) ++ wroteEvents es (trailerFor wide own es) (drop 64 (orderWrote o room)))
+unfoldable pub wrote_tape : Bool → List ℕ → Order → List Event → List ℕ → List ℕ
+wrote_tape wide own o es room = own ++ (take 64 (order_wrote o room) ++ wrote_events es (trailer_for wide own es) (drop 64 (order_wrote o room)))

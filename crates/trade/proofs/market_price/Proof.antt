@@ -1,7 +1,7 @@
 use mathlib.Core.Path.{refl}
 use native.Mathlib.Omega.{arith}
 use borrow.Author.Tests.{eq-eqb, ne_eqb}
-use Rattle.trade.specs.inside.Code.{marketBy}
+use Rattle.trade.specs.inside.Code.{market_by}
 use borrow.Author.Rules.{rules}
 use Rattle.trade.proofs.market_price.Statement.{statement}
 use Rattle.trade.proofs.market_price.Tie as tie
@@ -19,11 +19,11 @@ add-result-2 : tie.Need-overflow-add-result-2
 add-result-2 c = search rules
 
 returns : tie.Need-returns
-unfolding marketBy
+unfolding market_by
 returns c = (rw (eq-eqb _ 2 c.before.before.before.if1.true, eq-eqb _ 0 c.before.before.if2.true, c.before.wide.ensures.0, c.wide2.ensures.0) refl, omega (arith, c.before.wide.ensures.1, c.wide2.ensures.1))
 
 returns-2 : tie.Need-returns-2
-unfolding marketBy
+unfolding market_by
 returns-2 c = (rw (eq-eqb _ 2 c.before.if1.true, ne_eqb _ 0 c.if2.false) refl, search rules)
 
 working-requires : tie.Need-working-requires
@@ -33,7 +33,7 @@ lesser-requires : tie.Need-lesser-requires
 lesser-requires c κs = search rules
 
 returns-3 : tie.Need-returns-3
-unfolding marketBy
+unfolding market_by
 returns-3 c = (rw (ne_eqb _ 2 c.before.before.if1.false, c.lesser.ensures, c.before.working.ensures.0) refl, omega (arith, c.lesser.ensures, c.before.working.ensures.1))
 
 pub market-price-spec : {M : Type 1} → statement M

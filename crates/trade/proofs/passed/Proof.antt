@@ -1,5 +1,5 @@
 use mathlib.Core.Path.{refl}
-use Rattle.trade.specs.inside.Code.{passedOf}
+use Rattle.trade.specs.inside.Code.{passed_of}
 use borrow.Author.Rules.{rules}
 use Rattle.trade.proofs.passed.Statement.{statement}
 use Rattle.trade.proofs.passed.Tie as tie
@@ -17,7 +17,7 @@ add-t7 : tie.Need-overflow-add-t7
 add-t7 c = search rules
 
 returns : tie.Need-returns
-unfolding passedOf
+unfolding passed_of
 returns c = refl
 
 pub passed-spec : {M : Type 1} → statement M

@@ -1,5 +1,5 @@
 use mathlib.Core.Path.{refl}
-use Rattle.trade.specs.inside.Code.{pricedOf}
+use Rattle.trade.specs.inside.Code.{priced_of}
 use native.Mathlib.Omega.{arith}
 use borrow.Author.Rules.{rules}
 use Rattle.trade.proofs.price_of.Statement.{statement}
@@ -45,7 +45,7 @@ in-turn-requires : tie.Need-in-turn-requires
 in-turn-requires c κs = search rules
 
 returns : tie.Need-returns
-unfolding pricedOf
+unfolding priced_of
 returns c =
     rw (c.in-turn.ensures, c.before.reported-price.ensures, c.before.before.left-of.ensures, c.before.before.before.contra-of.ensures, c.before.before.before.before.shared_of.ensures.0, c.before.before.before.before.before.wanted.ensures.0, c.before.before.before.before.before.before.is_last.ensures, c.before.before.before.before.before.before.before.matched.ensures.0, c.before.before.before.before.before.before.before.before.before.entry_of.ensures, c.before.before.before.before.before.before.before.before.before.before.top_of.ensures.0) refl
 

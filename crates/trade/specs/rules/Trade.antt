@@ -3,21 +3,21 @@ use Rattle.std.specs.Prelude.{Bool, true, false, cond, not, ◌&&◌, ◌||◌, 
 use Rattle.board.specs.declared.Response.{Response}
 use Rattle.board.specs.declared.Board.{Board}
 use Rattle.base.specs.Lists.{filter, sum}
-use Rattle.board.specs.rules.Board.{live_of, inSequence}
+use Rattle.board.specs.rules.Board.{live_of, in_sequence}
 use Rattle.share.specs.rules.Share.{shares, in_turn}
-use Rattle.share.specs.rules.Fills.{Fill, fillOf, fillsBy, sizes}
+use Rattle.share.specs.rules.Fills.{Fill, fill_of, fills_by, sizes}
 use Rattle.trade.specs.declared.Deal.{Deal}
 use Rattle.trade.specs.rules.Plan.{plan_of}
 
 -- the live responses, in rising order of sequence
 abbrev pub offers : Board → List Response
-offers b = inSequence (live_of b)
+offers b = in_sequence (live_of b)
 
-abbrev pub fromCustomer : Response → Bool
-fromCustomer r = r.customer
+abbrev pub from_customer : Response → Bool
+from_customer r = r.customer
 
-abbrev pub fromOther : Response → Bool
-fromOther r = not r.customer
+abbrev pub from_other : Response → Bool
+from_other r = not r.customer
 
 -- ---- one price
 
@@ -33,24 +33,24 @@ pub record Level : Type 0 where
   pub here : List Response
 
 abbrev pub customers : Level → List Response
-customers l = filter fromCustomer l.here
+customers l = filter from_customer l.here
 
 abbrev pub others : Level → List Response
-others l = filter fromOther l.here
+others l = filter from_other l.here
 
 -- the size of all responses at a level: document 01's A
-abbrev pub sizeHere : Level → ℕ
-sizeHere l = sum (sizes l.here)
+abbrev pub size_here : Level → ℕ
+size_here l = sum (sizes l.here)
 
-abbrev pub afterCustomers : Level → ℕ
-afterCustomers l = l.left - sum (sizes (customers l))
+abbrev pub after_customers : Level → ℕ
+after_customers l = l.left - sum (sizes (customers l))
 
 abbrev pub first : Level → ℕ
-first l = min (afterCustomers l) l.want
+first l = min (after_customers l) l.want
 
 -- what is left to the others: the R of the pro rata
 abbrev pub shared : Level → ℕ
-shared l = afterCustomers l - first l
+shared l = after_customers l - first l
 
 abbrev pub given : Level → List ℕ
 given l = shares (shared l) (sizes (others l))
@@ -62,10 +62,10 @@ abbrev pub contra : Level → ℕ
 contra l = first l + rest l
 
 -- Customers by sequence, the Contra Order, the others pro rata
-unfoldable pub levelFills : Level → List Fill
-levelFills l =
-    fillsBy l.price (customers l) (in_turn l.left (sizes (customers l)))
-    ++ (fillOf 0 l.price (contra l) ++ fillsBy l.price (others l) (given l))
+unfoldable pub level_fills : Level → List Fill
+level_fills l =
+    fills_by l.price (customers l) (in_turn l.left (sizes (customers l)))
+    ++ (fill_of 0 l.price (contra l) ++ fills_by l.price (others l) (given l))
 
 abbrev pub traded : List Fill → ℕ
 traded [] = 0
@@ -73,7 +73,7 @@ traded (f ∷ fs) = f.quantity + traded fs
 
 abbrev pub flat : List Level → List Fill
 flat [] = []
-flat (l ∷ ls) = levelFills l ++ flat ls
+flat (l ∷ ls) = level_fills l ++ flat ls
 
 -- ---- the range
 
@@ -83,16 +83,16 @@ module _ (d : Deal) where
   working r = max r.price d.bound
 
   -- the stop or auto-match limit as it works
-  abbrev pub workingStop : ℕ
-  workingStop = max d.stop d.bound
+  abbrev pub working_stop : ℕ
+  working_stop = max d.stop d.bound
 
   -- the last price of the walk
   unfoldable pub top : ℕ
-  top = cond (eqb d.mode 1) workingStop d.initiating
+  top = cond (eqb d.mode 1) working_stop d.initiating
 
   -- the price from which on the Contra Order takes part
   unfoldable pub entry : ℕ
-  entry = cond (eqb d.mode 2) 0 workingStop
+  entry = cond (eqb d.mode 2) 0 working_stop
 
   -- the least working price from `from` on, but at most the last price
   unfoldable pub next : ℕ → List Response → ℕ
@@ -100,51 +100,51 @@ module _ (d : Deal) where
   next from (r ∷ rs) = min (cond (leb from (working r)) (working r) top) (next from rs)
 
 -- 40%, and 50% where exactly one response is live; at least one contract
-unfoldable pub guaranteeOf : ℕ → ℕ → ℕ
-guaranteeOf size n = max 1 (cond (eqb n 1) (size * 5 / 10) (size * 4 / 10))
+unfoldable pub guarantee_of : ℕ → ℕ → ℕ
+guarantee_of size n = max 1 (cond (eqb n 1) (size * 5 / 10) (size * 4 / 10))
 
 -- ---- the walk of the deal d over the live responses rs, in rising order of sequence
 
 module _ (d : Deal) (rs : List Response) where
   abbrev pub guarantee : ℕ
-  guarantee = guaranteeOf d.size (length rs)
+  guarantee = guarantee_of d.size (length rs)
 
   -- the responses at a price
-  unfoldable pub offersAt : ℕ → List Response
-  offersAt p = filter (λ r. eqb (working d r) p) rs
+  unfoldable pub offers_at : ℕ → List Response
+  offers_at p = filter (λ r. eqb (working d r) p) rs
 
   -- the price p with the plan of its mode, where so much is left on arriving and the Contra Order holds so much
-  unfoldable pub levelAt : ℕ → ℕ → ℕ → Level
-  levelAt p left held =
-      let os = offersAt p in
-      let plan = plan_of d.mode (workingStop d) d.initiating guarantee p left held (sum (sizes os)) in
+  unfoldable pub level_at : ℕ → ℕ → ℕ → Level
+  level_at p left held =
+      let os = offers_at p in
+      let plan = plan_of d.mode (working_stop d) d.initiating guarantee p left held (sum (sizes os)) in
       record { price = p; left = left; held = held; want = plan.want; final = plan.final; here = os }
 
   -- from the price `from` on, until nothing is left or the last price is passed; n is fuel: one for each price is enough
   unfoldable pub walk : ℕ → ℕ → ℕ → ℕ → List Level
   walk zero from left held = []
   walk (suc n) from left held =
-      let l = levelAt (next d from rs) left held in
-      elim (eqb left 0 || ltb (top d) from) [ true ↦ [] | false ↦ l ∷ walk n (l.price + 1) (left - traded (levelFills l)) (held + contra l) ]
+      let l = level_at (next d from rs) left held in
+      elim (eqb left 0 || ltb (top d) from) [ true ↦ [] | false ↦ l ∷ walk n (l.price + 1) (left - traded (level_fills l)) (held + contra l) ]
 
   -- ---- the market order that ended the auction
 
   -- in mode 2 the lowest working price, or the midpoint where nobody responded, half cents up; else the lower of the lowest working price, if there is a response, and the working stop or limit
-  unfoldable pub marketPrice : ℕ
-  marketPrice =
+  unfoldable pub market_price : ℕ
+  market_price =
       let lowest = next d 0 rs in
-      cond (eqb d.mode 2) (cond (eqb (length rs) 0) ((d.initiating + d.bound + 1) / 2) lowest) (min lowest (workingStop d))
+      cond (eqb d.mode 2) (cond (eqb (length rs) 0) ((d.initiating + d.bound + 1) / 2) lowest) (min lowest (working_stop d))
 
-  abbrev pub marketTakes : ℕ
-  marketTakes = min d.size d.selling
+  abbrev pub market_takes : ℕ
+  market_takes = min d.size d.selling
 
-  abbrev pub marketFill : List Fill
-  marketFill = fillOf d.market marketPrice marketTakes
+  abbrev pub market_fill : List Fill
+  market_fill = fill_of d.market market_price market_takes
 
   -- ---- all the fills
 
   unfoldable pub levels : List Level
-  levels = walk (suc (top d)) 0 (d.size - marketTakes) 0
+  levels = walk (suc (top d)) 0 (d.size - market_takes) 0
 
   unfoldable pub fills : List Fill
-  fills = marketFill ++ flat levels
+  fills = market_fill ++ flat levels

@@ -9,27 +9,27 @@ use Rattle.trade.specs.declared.Filled.TheVariants.{Count, Refused}
 use Rattle.trade.specs.rules.Trade.{offers, fills}
 
 -- a sell's prices are mirrored back
-abbrev pub reportedPrice : Bool → ℕ → ℕ
-reportedPrice sell p = cond sell (mirrored p) p
+abbrev pub reported_price : Bool → ℕ → ℕ
+reported_price sell p = cond sell (mirrored p) p
 
 abbrev pub reported : Bool → List Fill → List Fill
 reported sell [] = []
-reported sell (f ∷ fs) = fill f.party (reportedPrice sell f.price) f.quantity ∷ reported sell fs
+reported sell (f ∷ fs) = fill f.party (reported_price sell f.price) f.quantity ∷ reported sell fs
 
--- the fills of a deal over a board, as they are written
-unfoldable pub fillsOf : Deal → Board → List Fill
-fillsOf d b = reported d.sell (fills d (offers b))
+-- the fills of an ended auction, as they are written
+unfoldable pub fills_of : Deal → Board → List Fill
+fills_of d b = reported d.sell (fills d (offers b))
 
 -- whether 390 words stand from the start place on
 unfoldable pub roomy : List ℕ → ℕ → Bool
 roomy xs start = leb start (length xs) && leb 390 (length xs - start)
 
-unfoldable pub fillAnswer : Deal → Board → List ℕ → ℕ → Filled
-fillAnswer d b xs start = cond (roomy xs start) (Count (length (fillsOf d b))) (Refused 39)
+unfoldable pub fill_answer : Bool → Deal → Board → List ℕ → ℕ → Filled
+fill_answer ended d b xs start = cond ended (cond (roomy xs start) (Count (length (fills_of d b))) (Refused 39)) (Refused 40)
 
 -- the fills' words from the start place on; all other words stay
-unfoldable pub fillWords : Deal → Board → List ℕ → ℕ → List ℕ
-fillWords d b xs start =
-    cond (roomy xs start)
-    (take start xs ++ (words (fillsOf d b) ++ drop (start + 3 * length (fillsOf d b)) xs))
+unfoldable pub fill_words : Bool → Deal → Board → List ℕ → ℕ → List ℕ
+fill_words ended d b xs start =
+    cond (ended && roomy xs start)
+    (take start xs ++ (words (fills_of d b) ++ drop (start + 3 * length (fills_of d b)) xs))
     xs

@@ -8,18 +8,18 @@ abbrev pub bit_at : ℕ → ℕ → Bool
 bit_at w i = eqb (w / 2 ^ i % 2) 1
 
 -- w with bit i set, where it has one: 2 ^ i more where that is clear
-unfoldable pub withBit : ℕ → ℕ → ℕ
-withBit w i = cond (ltb i 64) (cond (bit_at w i) w (w + 2 ^ i)) w
+unfoldable pub with_bit : ℕ → ℕ → ℕ
+with_bit w i = cond (ltb i 64) (cond (bit_at w i) w (w + 2 ^ i)) w
 
 -- w with bit i clear: 2 ^ i less where it is set
-unfoldable pub withoutBit : ℕ → ℕ → ℕ
-withoutBit w i = cond (bit_at w i) (w - 2 ^ i) w
+unfoldable pub without_bit : ℕ → ℕ → ℕ
+without_bit w i = cond (bit_at w i) (w - 2 ^ i) w
 
 -- the lowest of the k lowest bits of w that is clear, and k where all are set
-unfoldable pub clearIn : ℕ → ℕ → ℕ
-clearIn zero w = 0
-clearIn (suc k) w = cond (eqb (w % 2) 1) (suc (clearIn k (w / 2))) 0
+unfoldable pub clear_in : ℕ → ℕ → ℕ
+clear_in zero w = 0
+clear_in (suc k) w = cond (eqb (w % 2) 1) (suc (clear_in k (w / 2))) 0
 
 -- w with its lowest set bit clear, and 0 where w is 0
-unfoldable pub withoutLowest : ℕ → ℕ
-withoutLowest w = withoutBit w (count_trailing_zeros 64 w)
+unfoldable pub without_lowest : ℕ → ℕ
+without_lowest w = without_bit w (count_trailing_zeros 64 w)

@@ -11,13 +11,13 @@ abbrev pub joined : ℕ → ℕ → ℕ → ℕ → ℕ
 joined a b c d = a + b * 256 + c * 65536 + d * 16777216
 
 -- the four bytes of a number
-abbrev pub u32Bytes : ℕ → List ℕ
-u32Bytes v = v % 256 ∷ v / 256 % 256 ∷ v / 65536 % 256 ∷ v / 16777216 % 256 ∷ []
+abbrev pub u32_bytes : ℕ → List ℕ
+u32_bytes v = v % 256 ∷ v / 256 % 256 ∷ v / 65536 % 256 ∷ v / 16777216 % 256 ∷ []
 
 -- the bytes of a row of words
 abbrev pub word_bytes : List ℕ → List ℕ
 word_bytes [] = []
-word_bytes (v ∷ vs) = u32Bytes v ++ word_bytes vs
+word_bytes (v ∷ vs) = u32_bytes v ++ word_bytes vs
 
 -- the word at `at`; 0 where the bytes end before it does
 unfoldable pub word_at : List ℕ → ℕ → ℕ

@@ -1,5 +1,5 @@
 use mathlib.Core.Path.{ap, ◌∙◌}
-use Rattle.auction.specs.rules.Range.{word, boundNow}
+use Rattle.auction.specs.rules.Range.{word, bound_now}
 use borrow.Author.Rules.{rules}
 use Rattle.auction.proofs.bounds.bound_now.Statement.{statement}
 use Rattle.auction.proofs.bounds.bound_now.Tie as tie
@@ -11,7 +11,7 @@ to-word-requires : tie.Need-to-word-requires
 to-word-requires c κs = search rules
 
 returns : tie.Need-returns
-unfolding boundNow
+unfolding bound_now
 returns c = c.to_word.ensures ∙ ap word c.before.bound_by.ensures.0
 
 pub bound-now-spec : {M : Type 1} → statement M

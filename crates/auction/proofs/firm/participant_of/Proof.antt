@@ -1,5 +1,5 @@
 use borrow.Author.Tests.{lt-ltb, le-ltb}
-use Rattle.auction.specs.rules.Firm.{participantOf}
+use Rattle.auction.specs.rules.Firm.{participant_of}
 use borrow.Author.Rules.{rules}
 use Rattle.auction.proofs.firm.participant_of.Statement.{statement}
 use Rattle.auction.proofs.firm.participant_of.Tie as tie
@@ -8,11 +8,11 @@ find-requires : tie.Need-find-requires
 find-requires c κs = search rules
 
 returns : tie.Need-returns
-unfolding participantOf
+unfolding participant_of
 returns c = let f = c.before.before.before.find.ensures in simp (f, rw f at (lt-ltb _ _ c.before.if1.true))
 
 returns-2 : tie.Need-returns-2
-unfolding participantOf
+unfolding participant_of
 returns-2 c = let f = c.before.before.find.ensures in simp (rw f at (le-ltb _ _ c.if1.false))
 
 pub participant-of-spec : {M : Type 1} → statement M

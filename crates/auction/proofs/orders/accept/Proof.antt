@@ -1,5 +1,5 @@
 use borrow.Author.Tests.{eq-eqb, ne_eqb}
-use Rattle.auction.specs.rules.Accept.{acceptOf}
+use Rattle.auction.specs.rules.Accept.{accept_of}
 use borrow.Author.Rules.{rules}
 use Rattle.auction.proofs.orders.accept.Statement.{statement}
 use Rattle.auction.proofs.orders.accept.Tie as tie
@@ -14,14 +14,14 @@ opened-by-requires : tie.Need-opened-by-requires
 opened-by-requires c κs = search rules
 
 returns : tie.Need-returns
-unfolding acceptOf
+unfolding accept_of
 returns c = simp ((rw c.before.before.before.before.order-refusal.ensures at (eq-eqb _ _ c.before.before.before.if1.true))) (cc)
 
 no-auction-requires : tie.Need-no-auction-requires
 no-auction-requires c κs = search rules
 
 returns-2 : tie.Need-returns-2
-unfolding acceptOf
+unfolding accept_of
 returns-2 c = simp ((rw c.before.before.order-refusal.ensures at (ne_eqb _ _ c.before.if1.false))) (cc)
 
 pub accept-spec : {M : Type 1} → statement M

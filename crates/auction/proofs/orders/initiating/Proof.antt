@@ -1,5 +1,5 @@
 use borrow.Author.Tests.{lt-ltb, le-ltb}
-use Rattle.auction.specs.rules.Accept.{initiatingOf}
+use Rattle.auction.specs.rules.Accept.{initiating_of}
 use borrow.Author.Rules.{rules}
 use Rattle.auction.proofs.orders.initiating.Statement.{statement}
 use Rattle.auction.proofs.orders.initiating.Tie as tie
@@ -17,14 +17,14 @@ lower-requires-2 : tie.Need-lower-requires-2
 lower-requires-2 c κs = search rules
 
 returns : tie.Need-returns
-unfolding initiatingOf
+unfolding initiating_of
 returns c = simp ((lt-ltb _ _ c.before.before.before.before.if1.true)) (cc)
 
 lower-requires-3 : tie.Need-lower-requires-3
 lower-requires-3 c κs = search rules
 
 returns-2 : tie.Need-returns-2
-unfolding initiatingOf
+unfolding initiating_of
 returns-2 c = simp ((le-ltb _ _ c.before.if1.false)) c.lower3.ensures
 
 pub initiating-spec : {M : Type 1} → statement M

@@ -1,4 +1,4 @@
-use Rattle.auction.specs.rules.Accept.{openedBy}
+use Rattle.auction.specs.rules.Accept.{opened_by}
 use borrow.Author.Rules.{rules}
 use Rattle.auction.proofs.orders.opened_by.Statement.{statement}
 use Rattle.auction.proofs.orders.opened_by.Tie as tie
@@ -13,7 +13,7 @@ empty-requires : tie.Need-empty-requires
 empty-requires c κs = search rules
 
 returns : tie.Need-returns
-unfolding openedBy
+unfolding opened_by
 returns c = cc
 
 pub opened-by-spec : {M : Type 1} → statement M

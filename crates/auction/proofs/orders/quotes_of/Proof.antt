@@ -1,4 +1,4 @@
-use Rattle.auction.specs.rules.Accept.{quotesOf}
+use Rattle.auction.specs.rules.Accept.{quotes_of}
 use borrow.Author.Rules.{rules}
 use Rattle.auction.proofs.orders.quotes_of.Statement.{statement}
 use Rattle.auction.proofs.orders.quotes_of.Tie as tie
@@ -10,7 +10,7 @@ mark-requires-2 : tie.Need-mark-requires-2
 mark-requires-2 c κs = search rules
 
 returns : tie.Need-returns
-unfolding quotesOf
+unfolding quotes_of
 returns c = cc
 
 pub quotes-of-spec : {M : Type 1} → statement M

@@ -1,4 +1,4 @@
-use Rattle.events.specs.rules.Step.{closeTurn}
+use Rattle.events.specs.rules.Step.{close_turn}
 use borrow.Author.Rules.{rules}
 use Rattle.events.proofs.turns.close_turn.Statement.{statement}
 use Rattle.events.proofs.turns.close_turn.Tie as tie
@@ -13,14 +13,14 @@ stay-requires : tie.Need-stay-requires
 stay-requires c κs = search rules
 
 returns : tie.Need-returns
-unfolding closeTurn
+unfolding close_turn
 returns c = simp (rw c.before.before.before.is_open.ensures at c.before.before.if1.true) (cc)
 
 stay-requires-2 : tie.Need-stay-requires-2
 stay-requires-2 c κs = search rules
 
 returns-2 : tie.Need-returns-2
-unfolding closeTurn
+unfolding close_turn
 returns-2 c = simp (rw c.before.before.is_open.ensures at c.before.if1.false) (cc)
 
 pub close-turn-spec : {M : Type 1} → statement M

@@ -1,4 +1,4 @@
-use Rattle.events.specs.rules.Step.{headAfter}
+use Rattle.events.specs.rules.Step.{head_after}
 use borrow.Author.Rules.{rules}
 use Rattle.events.proofs.turns.head_after.Statement.{statement}
 use Rattle.events.proofs.turns.head_after.Tie as tie
@@ -13,7 +13,7 @@ offered-after-requires : tie.Need-offered-after-requires
 offered-after-requires c κs = search rules
 
 returns : tie.Need-returns
-unfolding headAfter
+unfolding head_after
 returns c = simp (c.before.before.quotes-after.ensures, c.before.market-after.ensures, c.offered-after.ensures)
 
 pub head-after-spec : {M : Type 1} → statement M

@@ -1,5 +1,5 @@
 use mathlib.Core.Path.{sym, ap, ◌∙◌}
-use Rattle.events.specs.rules.Step.{offeredAfter}
+use Rattle.events.specs.rules.Step.{offered_after}
 use borrow.Author.Rules.{rules}
 use Rattle.events.proofs.turns.offered_after.Statement.{statement}
 use Rattle.events.proofs.turns.offered_after.Tie as tie
@@ -29,10 +29,10 @@ returns : tie.Need-returns
 returns c = search rules
 
 returns-2 : tie.Need-returns-2
-returns-2 c = c.moved-offer.ensures ∙ ap (offeredAfter c.before.before.before.before.args.n) (sym c.before.before.c.given.1)
+returns-2 c = c.moved-offer.ensures ∙ ap (offered_after c.before.before.before.before.args.n) (sym c.before.before.c.given.1)
 
 returns-3 : tie.Need-returns-3
-returns-3 c = c.moved-offer2.ensures ∙ ap (offeredAfter c.before.before.before.before.args.n) (sym c.before.before.c2.given.1)
+returns-3 c = c.moved-offer2.ensures ∙ ap (offered_after c.before.before.before.before.args.n) (sym c.before.before.c2.given.1)
 
 returns-4 : tie.Need-returns-4
 returns-4 c = search rules

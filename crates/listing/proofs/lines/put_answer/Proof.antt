@@ -1,7 +1,7 @@
 use mathlib.Core.Path.{sym, ap}
 use native.Mathlib.Omega.{arith}
 use Rattle.words.proofs.WroteLaws.{wrote-same}
-use Rattle.listing.specs.rules.Listing.{answerText}
+use Rattle.listing.specs.rules.Listing.{answer_text}
 use borrow.Author.Rules.{rules}
 use Rattle.listing.proofs.lines.put_answer.Statement.{statement}
 use Rattle.listing.proofs.lines.put_answer.Tie as tie
@@ -46,29 +46,29 @@ same_length : tie.Need-same-length
 same_length c = search rules
 
 returns : tie.Need-returns
-unfolding answerText
-returns c = (wrote-same c.before.before.put-text.ensures (ap answerText (sym c.before.before.before.before.before.enum_told.given.1)), omega arith)
+unfolding answer_text
+returns c = (wrote-same c.before.before.put-text.ensures (ap answer_text (sym c.before.before.before.before.before.enum_told.given.1)), omega arith)
 
 same-length-2 : tie.Need-same-length-2
 same-length-2 c = search rules
 
 returns-2 : tie.Need-returns-2
-unfolding answerText
-returns-2 c = (wrote-same c.before.before.put-text2.ensures (ap answerText (sym c.before.before.before.before.before.enum-told2.given.1)), omega arith)
+unfolding answer_text
+returns-2 c = (wrote-same c.before.before.put-text2.ensures (ap answer_text (sym c.before.before.before.before.before.enum-told2.given.1)), omega arith)
 
 same-length-3 : tie.Need-same-length-3
 same-length-3 c = search rules
 
 returns-3 : tie.Need-returns-3
-unfolding answerText
-returns-3 c = (wrote-same c.before.before.put-text3.ensures (ap answerText (sym c.before.before.before.before.before.enum-told3.given.1)), omega arith)
+unfolding answer_text
+returns-3 c = (wrote-same c.before.before.put-text3.ensures (ap answer_text (sym c.before.before.before.before.before.enum-told3.given.1)), omega arith)
 
 same-length-4 : tie.Need-same-length-4
 same-length-4 c = search rules
 
 returns-4 : tie.Need-returns-4
-unfolding answerText
-returns-4 c = (wrote-same c.before.before.put_word.ensures.0 (ap answerText (sym c.before.before.before.before.before.before.answer.given.1)), omega arith)
+unfolding answer_text
+returns-4 c = (wrote-same c.before.before.put_word.ensures.0 (ap answer_text (sym c.before.before.before.before.before.before.answer.given.1)), omega arith)
 
 pub put-answer-spec : {M : Type 1} → statement M
 put-answer-spec =

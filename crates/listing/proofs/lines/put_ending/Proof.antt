@@ -1,7 +1,7 @@
 use mathlib.Core.Path.{sym, ap}
 use native.Mathlib.Omega.{arith}
 use Rattle.words.proofs.WroteLaws.{wrote-same}
-use Rattle.listing.specs.rules.Listing.{endText}
+use Rattle.listing.specs.rules.Listing.{end_text}
 use borrow.Author.Rules.{rules}
 use Rattle.listing.proofs.lines.put_ending.Statement.{statement}
 use Rattle.listing.proofs.lines.put_ending.Tie as tie
@@ -55,36 +55,36 @@ same_length : tie.Need-same-length
 same_length c = search rules
 
 returns : tie.Need-returns
-unfolding endText
-returns c = (wrote-same c.before.before.put-text.ensures (ap endText (sym c.before.before.before.before.before.enum_told.given.1)), omega arith)
+unfolding end_text
+returns c = (wrote-same c.before.before.put-text.ensures (ap end_text (sym c.before.before.before.before.before.enum_told.given.1)), omega arith)
 
 same-length-2 : tie.Need-same-length-2
 same-length-2 c = search rules
 
 returns-2 : tie.Need-returns-2
-unfolding endText
-returns-2 c = (wrote-same c.before.before.put-text2.ensures (ap endText (sym c.before.before.before.before.before.enum-told2.given.1)), omega arith)
+unfolding end_text
+returns-2 c = (wrote-same c.before.before.put-text2.ensures (ap end_text (sym c.before.before.before.before.before.enum-told2.given.1)), omega arith)
 
 same-length-3 : tie.Need-same-length-3
 same-length-3 c = search rules
 
 returns-3 : tie.Need-returns-3
-unfolding endText
-returns-3 c = (wrote-same c.before.before.put-text3.ensures (ap endText (sym c.before.before.before.before.before.enum-told3.given.1)), omega arith)
+unfolding end_text
+returns-3 c = (wrote-same c.before.before.put-text3.ensures (ap end_text (sym c.before.before.before.before.before.enum-told3.given.1)), omega arith)
 
 same-length-4 : tie.Need-same-length-4
 same-length-4 c = search rules
 
 returns-4 : tie.Need-returns-4
-unfolding endText
-returns-4 c = (wrote-same c.before.before.put-text4.ensures (ap endText (sym c.before.before.before.before.before.enum-told4.given.1)), omega arith)
+unfolding end_text
+returns-4 c = (wrote-same c.before.before.put-text4.ensures (ap end_text (sym c.before.before.before.before.before.enum-told4.given.1)), omega arith)
 
 same-length-5 : tie.Need-same-length-5
 same-length-5 c = search rules
 
 returns-5 : tie.Need-returns-5
-unfolding endText
-returns-5 c = (wrote-same c.before.before.put-text5.ensures (ap endText (sym c.before.before.before.before.before.enum-told5.given.1)), omega arith)
+unfolding end_text
+returns-5 c = (wrote-same c.before.before.put-text5.ensures (ap end_text (sym c.before.before.before.before.before.enum-told5.given.1)), omega arith)
 
 pub put-ending-spec : {M : Type 1} → statement M
 put-ending-spec =

@@ -1,6 +1,6 @@
 use native.Mathlib.Omega.{arith}
 use Rattle.words.proofs.WroteLaws.{wrote-append}
-use Rattle.listing.specs.rules.Listing.{eventLine}
+use Rattle.listing.specs.rules.Listing.{event_line}
 use borrow.Author.Rules.{rules}
 use Rattle.listing.proofs.lines.put_event.Statement.{statement}
 use Rattle.listing.proofs.lines.put_event.Tie as tie
@@ -18,7 +18,7 @@ same_length : tie.Need-same-length
 same_length c = search rules
 
 returns : tie.Need-returns
-unfolding eventLine
+unfolding event_line
 returns c = (wrote-append c.before.before.before.before.before.before.before.put-said.ensures.0 c.before.before.put-text.ensures, omega arith)
 
 pub put-event-spec : {M : Type 1} → statement M

@@ -1,6 +1,6 @@
 use native.Mathlib.Omega.{arith}
 use Rattle.words.proofs.WroteLaws.{wrote-append}
-use Rattle.listing.specs.rules.Listing.{fillLine}
+use Rattle.listing.specs.rules.Listing.{fill_line}
 use borrow.Author.Rules.{rules}
 use Rattle.listing.proofs.lines.put_fill.Statement.{statement}
 use Rattle.listing.proofs.lines.put_fill.Tie as tie
@@ -30,7 +30,7 @@ same_length : tie.Need-same-length
 same_length c = search rules
 
 returns : tie.Need-returns
-unfolding fillLine
+unfolding fill_line
 returns c = (wrote-append c.before.before.before.before.before.before.before.before.before.before.before.before.before.before.before.before.before.put-party.ensures.0 (wrote-append c.before.before.before.before.before.before.before.before.before.before.before.before.put_word.ensures.0 (wrote-append c.before.before.before.before.before.before.before.put-word2.ensures.0 c.before.before.put-text.ensures)), omega arith)
 
 pub put-fill-spec : {M : Type 1} → statement M

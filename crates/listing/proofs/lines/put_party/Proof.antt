@@ -1,6 +1,6 @@
 use borrow.Author.Tests.{eq-eqb, ne_eqb}
 use native.Mathlib.Omega.{arith}
-use Rattle.listing.specs.rules.Listing.{partyText}
+use Rattle.listing.specs.rules.Listing.{party_text}
 use borrow.Author.Rules.{rules}
 use Rattle.listing.proofs.lines.put_party.Statement.{statement}
 use Rattle.listing.proofs.lines.put_party.Tie as tie
@@ -15,7 +15,7 @@ same_length : tie.Need-same-length
 same_length c = search rules
 
 returns : tie.Need-returns
-unfolding partyText
+unfolding party_text
 returns c = (rw (eq-eqb _ _ c.before.before.before.before.before.if1.true) c.before.before.put-text.ensures, omega arith)
 
 slice-aggregate-put-word : tie.Need-slice-aggregate-put-word
@@ -28,7 +28,7 @@ same-length-2 : tie.Need-same-length-2
 same-length-2 c = search rules
 
 returns-2 : tie.Need-returns-2
-unfolding partyText
+unfolding party_text
 returns-2 c = (rw (ne_eqb _ _ c.before.before.before.before.before.if1.false) c.before.before.put_word.ensures.0, omega arith)
 
 pub put-party-spec : {M : Type 1} → statement M

@@ -1,6 +1,6 @@
 use native.Mathlib.Omega.{arith}
 use Rattle.words.proofs.WroteLaws.{wrote-append}
-use Rattle.listing.specs.rules.Listing.{rangeText}
+use Rattle.listing.specs.rules.Listing.{range_text}
 use borrow.Author.Rules.{rules}
 use Rattle.listing.proofs.lines.put_range.Statement.{statement}
 use Rattle.listing.proofs.lines.put_range.Tie as tie
@@ -27,7 +27,7 @@ same_length : tie.Need-same-length
 same_length c = search rules
 
 returns : tie.Need-returns
-unfolding rangeText
+unfolding range_text
 returns c = (wrote-append c.before.before.before.before.before.before.before.before.before.before.before.before.put_word.ensures.0 (wrote-append c.before.before.before.before.before.before.before.put-word2.ensures.0 c.before.before.put-text.ensures), omega arith)
 
 pub put-range-spec : {M : Type 1} → statement M

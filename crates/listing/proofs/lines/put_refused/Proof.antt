@@ -1,5 +1,5 @@
 use Rattle.words.proofs.WroteLaws.{wrote-append}
-use Rattle.listing.specs.rules.Listing.{refusedLine}
+use Rattle.listing.specs.rules.Listing.{refused_line}
 use borrow.Author.Rules.{rules}
 use Rattle.listing.proofs.lines.put_refused.Statement.{statement}
 use Rattle.listing.proofs.lines.put_refused.Tie as tie
@@ -20,7 +20,7 @@ same_length : tie.Need-same-length
 same_length c = search rules
 
 returns : tie.Need-returns
-unfolding refusedLine
+unfolding refused_line
 returns c = wrote-append c.before.before.before.before.before.before.before.put_word.ensures.0 c.before.before.put-text.ensures
 
 pub put-refused-spec : {M : Type 1} → statement M

@@ -1,6 +1,6 @@
 use native.Mathlib.Omega.{arith}
 use Rattle.words.proofs.WroteLaws.{wrote-append}
-use Rattle.listing.specs.rules.Listing.{eventText}
+use Rattle.listing.specs.rules.Listing.{event_text}
 use borrow.Author.Rules.{rules}
 use Rattle.listing.proofs.lines.put_said.Statement.{statement}
 use Rattle.listing.proofs.lines.put_said.Tie as tie
@@ -18,7 +18,7 @@ same_length : tie.Need-same-length
 same_length c = search rules
 
 returns : tie.Need-returns
-unfolding eventText
+unfolding event_text
 returns c = (wrote-append c.before.before.before.before.before.before.put_word.ensures.0 c.before.before.put-answer.ensures.0, omega arith)
 
 pub put-said-spec : {M : Type 1} → statement M

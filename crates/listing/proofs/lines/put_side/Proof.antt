@@ -1,7 +1,7 @@
 use mathlib.Core.Path.{sym, ap}
 use native.Mathlib.Omega.{arith}
 use Rattle.words.proofs.WroteLaws.{wrote-same}
-use Rattle.listing.specs.rules.Listing.{sideText}
+use Rattle.listing.specs.rules.Listing.{side_text}
 use borrow.Author.Rules.{rules}
 use Rattle.listing.proofs.lines.put_side.Statement.{statement}
 use Rattle.listing.proofs.lines.put_side.Tie as tie
@@ -16,7 +16,7 @@ same_length : tie.Need-same-length
 same_length c = search rules
 
 returns : tie.Need-returns
-returns c = (wrote-same c.before.before.put-text.ensures (ap sideText (sym c.before.before.before.before.before.if1.true)), omega arith)
+returns c = (wrote-same c.before.before.put-text.ensures (ap side_text (sym c.before.before.before.before.before.if1.true)), omega arith)
 
 slice-aggregate-put-text-2 : tie.Need-slice-aggregate-put-text-2
 slice-aggregate-put-text-2 c = search rules
@@ -28,7 +28,7 @@ same-length-2 : tie.Need-same-length-2
 same-length-2 c = search rules
 
 returns-2 : tie.Need-returns-2
-returns-2 c = (wrote-same c.before.before.put-text2.ensures (ap sideText (sym c.before.before.before.before.before.if1.false)), omega arith)
+returns-2 c = (wrote-same c.before.before.put-text2.ensures (ap side_text (sym c.before.before.before.before.before.if1.false)), omega arith)
 
 pub put-side-spec : {M : Type 1} → statement M
 put-side-spec =

@@ -1,5 +1,5 @@
 use Rattle.words.proofs.WroteLaws.{wrote-append}
-use Rattle.listing.specs.rules.Listing.{eventLineWith}
+use Rattle.listing.specs.rules.Listing.{event_line_with}
 use borrow.Author.Rules.{rules}
 use Rattle.listing.proofs.lines.put_watched.Statement.{statement}
 use Rattle.listing.proofs.lines.put_watched.Tie as tie
@@ -23,7 +23,7 @@ same_length : tie.Need-same-length
 same_length c = search rules
 
 returns : tie.Need-returns
-unfolding eventLineWith
+unfolding event_line_with
 returns c =
     wrote-append c.before.before.before.before.before.before.before.before.before.before.before.before.put-said.ensures.0
     (wrote-append c.before.before.before.before.before.before.before.put_word.ensures.0 c.before.before.put-text.ensures)

@@ -3,13 +3,13 @@ use native.Mathlib.Omega.{arith}
 use lib.ListN.{length, replicate}
 use Rattle.base.proofs.ListLaws.{length-mapped}
 use Rattle.trade.specs.rules.Trade.{traded}
-use Rattle.listing.specs.rules.Listing.{fillLines, totalLine, endLines}
+use Rattle.listing.specs.rules.Listing.{fill_lines, total_line, end_lines}
 use Rattle.words.proofs.WroteLaws.{wrote-append, wrote-same}
 use Rattle.listing.proofs.FillLaws.{Reported, reported}
 use borrow.Author.Rules.{rules}
 use Rattle.listing.proofs.results.put_results.Statement.{statement}
 use Rattle.listing.proofs.results.put_results.Tie as tie
-use Rattle.listing.specs.inside.Code.{countIn}
+use Rattle.listing.specs.inside.Code.{count_in}
 
 len : (c : tie.Start) → length c.args.a.board.places ≡ 64
 len c = search (rules, length-mapped)
@@ -18,7 +18,7 @@ found : (c : tie.After-count-of) → Reported c.before.before.before.before.befo
 found c =
     let s = c.before.before.before.before.before in
     let w = c.before.before.write-fills in
-    reported s.args.a (replicate 390 0) c.count_of.result w.new.1.0 s.requires.0 (len s) refl (c.count_of.ensures ∙ ap countIn w.ensures.0) w.ensures.1
+    reported s.args.a (replicate 390 0) c.count_of.result w.new.1.0 s.requires.0 (len s) refl (c.count_of.ensures ∙ ap count_in w.ensures.0) w.ensures.1
 
 slice-aggregate-write-fills : tie.Need-slice-aggregate-write-fills
 slice-aggregate-write-fills c = search rules
@@ -51,10 +51,10 @@ same_length : tie.Need-same-length
 same_length c = search rules
 
 returns : tie.Need-returns
-unfolding endLines
+unfolding end_lines
 returns c =
     let f = found c.before.before.before.before.before.before.before.before.before.before.before.before.before.before.before.before in
-    wrote-append c.before.before.before.before.before.before.before.before.before.before.before.before.before.put-end.ensures.0 (wrote-append (wrote-same c.before.before.before.before.before.before.before.before.put-fills.ensures.0 (ap fillLines f.fills)) (wrote-same c.before.before.put-total.ensures (ap totalLine (c.before.before.before.sum_of.ensures ∙ ap traded f.fills))))
+    wrote-append c.before.before.before.before.before.before.before.before.before.before.before.before.before.put-end.ensures.0 (wrote-append (wrote-same c.before.before.before.before.before.before.before.before.put-fills.ensures.0 (ap fill_lines f.fills)) (wrote-same c.before.before.put-total.ensures (ap total_line (c.before.before.before.sum_of.ensures ∙ ap traded f.fills))))
 
 pub put-results-spec : {M : Type 1} → statement M
 put-results-spec =

@@ -3,13 +3,13 @@ use Prim.Native.Nat.{◌+◌, ◌-◌, ◌*◌, ◌≤◌}
 use native.Mathlib.Omega.{arith}
 use borrow.Author.Rules.{rules}
 use Rattle.trade.specs.rules.Trade.{traded}
-use Rattle.listing.proofs.FillLaws.{fillsFrom, fills-all, fills-more, fills-none}
+use Rattle.listing.proofs.FillLaws.{fills_from, fills-all, fills-more, fills-none}
 use Rattle.listing.proofs.results.sum_of.Statement.{statement}
 use Rattle.listing.proofs.results.sum_of.Tie as tie
-use Rattle.listing.specs.inside.Code.{fillsIn}
+use Rattle.listing.specs.inside.Code.{fills_in}
 
 abbrev invariant-loop : tie.invariant-loop
-invariant-loop words n sum₀ i₀ sum i = (i ≤ n) × (sum ≤ 4294967295 * i) × (sum + traded (fillsFrom n words i) ≡ traded (fillsIn n words))
+invariant-loop words n sum₀ i₀ sum i = (i ≤ n) × (sum ≤ 4294967295 * i) × (sum + traded (fills_from n words i) ≡ traded (fills_in n words))
 
 abbrev decreases-loop : tie.decreases-loop
 decreases-loop words n sum₀ i₀ sum i = n - i

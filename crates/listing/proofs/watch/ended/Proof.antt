@@ -3,9 +3,9 @@ use native.Mathlib.Omega.{arith}
 use lib.ListN.{length}
 use Rattle.base.proofs.ListLaws.{length-mapped}
 use Rattle.events.specs.declared.Stepped.{Stepped}
-use Rattle.fills.specs.rules.Fills.{hasEnded}
+use Rattle.fills.specs.rules.Fills.{has_ended}
 use Rattle.run.specs.rules.Run.{closed}
-use Rattle.listing.specs.rules.Listing.{endLines}
+use Rattle.listing.specs.rules.Listing.{end_lines}
 use Rattle.listing.proofs.LengthLaws.{end-lines-short, closed-kept}
 use Rattle.listing.proofs.RunLaws.{closed-ended}
 use Rattle.words.proofs.WroteLaws.{wrote-same}
@@ -18,7 +18,7 @@ len : (c : tie.Start) → length c.args.a.board.places ≡ 64
 len c = search (rules, length-mapped)
 
 returns : tie.Need-returns
-returns c = let a = c.before.before.args in unshown (endLines (closed a.a)) a.out.now c.if1.true
+returns c = let a = c.before.before.args in unshown (end_lines (closed a.a)) a.out.now c.if1.true
 
 close-requires : tie.Need-close-requires
 close-requires c κs = search rules
@@ -26,7 +26,7 @@ close-requires c κs = search rules
 put-results-requires : tie.Need-put-results-requires
 put-results-requires c κs =
     let a = c.before.before.before.before.args in
-    (ap (λ (s : Stepped). hasEnded s.auction.head) c.before.close.ensures ∙ closed-ended a.a, omega (arith, c.before.before.if1.false))
+    (ap (λ (s : Stepped). has_ended s.auction.head) c.before.close.ensures ∙ closed-ended a.a, omega (arith, c.before.before.if1.false))
 
 same_length : tie.Need-same-length
 same_length c = search rules
@@ -34,8 +34,8 @@ same_length c = search rules
 returns-2 : tie.Need-returns-2
 returns-2 c =
     let a = c.before.before.before.before.before.before.before.args in
-    shown (endLines (closed a.a)) a.out.now c.before.before.before.before.before.if1.false (omega (arith, end-lines-short (closed a.a) (closed-kept a.a ∙ len c.before.before.before.before.before.before.before)))
-    (wrote-same c.before.before.put-results.ensures (ap (λ (s : Stepped). endLines s.auction) c.before.before.before.before.close.ensures))
+    shown (end_lines (closed a.a)) a.out.now c.before.before.before.before.before.if1.false (omega (arith, end-lines-short (closed a.a) (closed-kept a.a ∙ len c.before.before.before.before.before.before.before)))
+    (wrote-same c.before.before.put-results.ensures (ap (λ (s : Stepped). end_lines s.auction) c.before.before.before.before.close.ensures))
 
 pub ended-spec : {M : Type 1} → statement M
 ended-spec = tie.close (tie.spec returns close-requires put-results-requires same_length returns-2)

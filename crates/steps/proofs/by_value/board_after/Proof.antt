@@ -1,5 +1,5 @@
 use mathlib.Core.Path.{sym, ap, ◌∙◌}
-use Rattle.events.specs.rules.Step.{boardAfter}
+use Rattle.events.specs.rules.Step.{board_after}
 use borrow.Author.Rules.{rules}
 use Rattle.steps.proofs.by_value.board_after.Statement.{statement}
 use Rattle.steps.proofs.by_value.board_after.Tie as tie
@@ -10,17 +10,11 @@ enum_told c = search rules
 enum-known-c : tie.Need-enum-known-c
 enum-known-c c = search rules
 
-cast-seated : tie.Need-overflow-cast-seated
-cast-seated c = search rules
-
 seated-requires : tie.Need-seated-requires
 seated-requires c κs = search rules
 
 enum-known-c-2 : tie.Need-enum-known-c-2
 enum-known-c-2 c = search rules
-
-cast-clear : tie.Need-overflow-cast-clear
-cast-clear c = search rules
 
 clear-requires : tie.Need-clear-requires
 clear-requires c κs = search rules
@@ -35,10 +29,10 @@ returns : tie.Need-returns
 returns c = search rules
 
 returns-2 : tie.Need-returns-2
-returns-2 c = c.seated.ensures ∙ ap (boardAfter c.before.before.before.before.args.b) (sym c.before.before.c.given.1)
+returns-2 c = c.seated.ensures ∙ ap (board_after c.before.before.before.before.args.b) (sym c.before.before.c.given.1)
 
 returns-3 : tie.Need-returns-3
-returns-3 c = c.clear.ensures ∙ ap (boardAfter c.before.before.before.before.args.b) (sym c.before.before.c2.given.1)
+returns-3 c = c.clear.ensures ∙ ap (board_after c.before.before.before.before.args.b) (sym c.before.before.c2.given.1)
 
 returns-4 : tie.Need-returns-4
 returns-4 c = search rules
@@ -52,10 +46,8 @@ board-after-spec =
     (tie.spec
     enum_told
     enum-known-c
-    cast-seated
     seated-requires
     enum-known-c-2
-    cast-clear
     clear-requires
     enum-told-2
     enum-told-3

@@ -40,7 +40,7 @@ use denote.Triple.Walked.{says, Stays, stay_ref, stay_none, walk_of, AllGo, Goes
 use denote.Triple.Clauses.{ensured, lasts}
 use denote.Exit.{yes}
 use Rattle.events.specs.rules.Step.{step_of}
-use Rattle.steps.specs.rules.Lent.{cancelEvent}
+use Rattle.steps.specs.rules.Lent.{cancel_event}
 use Rattle.auction.specs.declared.Auction.{Auction}
 use Rattle.events.specs.declared.Answer.{Answer}
 use Rattle.events.specs.contracts.Answer as N
@@ -80,8 +80,8 @@ module _ {M : Type 1} {𝓤 : Ura M} (𝓛 : Logic 𝓤) (at_mem : Memory → SP
   abbrev Step : Contract 𝓤
   Step = triple_of 𝓛 step.signature (step.spec 𝓛 at_mem run)
 
-  did : (h : Auction) (i j k : ℕ) (r : Stepped) → ent 𝓤 (ensured 𝓛 step.ended (step.clauses 𝓛 at_mem run) tt (h, (i, (j, (k, tt)))) tt r) (fact 𝓤 (r ≡ step_of h (cancelEvent i j k)))
-  did h i j k r = ex_e 𝓤 _ (λ ws. snd∗ 𝓤 (sem 𝓛 (lasts step.ended tt (h, (i, (j, (k, tt)))) ws)) (fact 𝓤 (r ≡ step_of h (cancelEvent i j k))))
+  did : (h : Auction) (i j k : ℕ) (r : Stepped) → ent 𝓤 (ensured 𝓛 step.ended (step.clauses 𝓛 at_mem run) tt (h, (i, (j, (k, tt)))) tt r) (fact 𝓤 (r ≡ step_of h (cancel_event i j k)))
+  did h i j k r = ex_e 𝓤 _ (λ ws. snd∗ 𝓤 (sem 𝓛 (lasts step.ended tt (h, (i, (j, (k, tt)))) ws)) (fact 𝓤 (r ≡ step_of h (cancel_event i j k))))
 
 module _ {M : Type 1} {𝓤 : Ura M} (𝓛 : Logic 𝓤) (at_mem : Memory → SProp 𝓤) (run : Routine → Fun 𝓤) (κ : Lft) (q : Share) (b o : ℕ) (γ : GName) (h : Auction) (i j k : ℕ) (oi : i < 2 ^ 32) (oj : j < 2 ^ 32) (ok : k < 2 ^ 32) where
   open 𝓛 use {H, A}
@@ -95,7 +95,7 @@ module _ {M : Type 1} {𝓤 : Ura M} (𝓛 : Logic 𝓤) (at_mem : Memory → SP
   abbrev Post : Val → SProp 𝓤
   Post = (walk_of 𝓛 this.ended stayed (this.clauses 𝓛 at_mem run)).post (((κ, tt), (q, tt), tt, x, at), tt)
 
-  exits : (r : Stepped) → r ≡ step_of h (cancelEvent i j k) → Is N.the_row r.answer (reply r.answer ∷ [])
+  exits : (r : Stepped) → r ≡ step_of h (cancel_event i j k) → Is N.the_row r.answer (reply r.answer ∷ [])
       → ent 𝓤 (sep 𝓤 (A.obs γ ((T.the_row).coded.code r.auction)) (sep 𝓤 (A.bor κ (Body (mem T.the_row) b o γ)) (A.lft κ q))) (Post (reply r.answer))
   exits r same is-n =
       qed 𝓛 (‵ (fobs γ ((T.the_row).coded.code r.auction)) ∷ ‵ (fbor κ (Body (mem T.the_row) b o γ)) ∷ ‵ (flft κ q) ∷ []) ∵
@@ -134,7 +134,7 @@ module _ {M : Type 1} {𝓤 : Ura M} (𝓛 : Logic 𝓤) (at_mem : Memory → SP
         -- [the call's pre; the state's cell; the open borrow; obs; auth; _6; …; _5; …; _4; …; _3; …; _2; …; _1; …; room for _0; …]
         calls_at ! fm (Step 𝓛 at_mem run) known to_step (and_then ! (load ! (from ! (stop !)) (look ! 5 refl)) (and_then ! (load ! (from ! (stop !)) (look ! 13 refl)) (and_then ! (load ! (from ! (stop !)) (look ! 11 refl)) (and_then ! (load ! (from ! (stop !)) (look ! 9 refl)) (no_more !))))) (λ v.
         use1 𝓛 (later (some (λ (r : Stepped). (‵ ftrue ⊛ ‵ ((S.the_row).own_val r (v ∷ []))) ⊛ raw (ensured 𝓛 step.ended (step.clauses 𝓛 at_mem run) tt (h, (i, (j, (k, tt)))) tt r)))) (id⊢ 𝓤 _) $ await ! tt $ pick ! (λ r.
-        split ! $ move ! (1 ∷ []) $ use1 𝓛 (raw (fact 𝓤 (r ≡ step_of h (cancelEvent i j k)))) (did 𝓛 at_mem run h i j k r) $ heard ! (r ≡ step_of h (cancelEvent i j k)) (λ same. split ! $ drop ! $
+        split ! $ move ! (1 ∷ []) $ use1 𝓛 (raw (fact 𝓤 (r ≡ step_of h (cancel_event i j k)))) (did 𝓛 at_mem run h i j k r) $ heard ! (r ≡ step_of h (cancel_event i j k)) (λ same. split ! $ drop ! $
         peeks ! S.the_row (Is S.the_row) (shows 𝓛 S.the_row) r (v ∷ []) (λ is. drop ! $
         -- [the state's cell; the open borrow; obs; auth; _6; …; _5; …; _4; …; _3; …; _2; …; _1; …; room for _0; …]
         land ! (from ! (stop !)) (init ! 6 refl ((LL.lawful S.the_type S'.the_laws 𝓛).typed r _ is).0) $ rewrite ! 6 (λ (u : Val). ‵ (fat full_share S'.mir l₅ 0 u)) (ap only (LL.tells S.the_type S'.the_laws r (v ∷ []) is)) refl $

@@ -1,4 +1,4 @@
-use Rattle.tape.specs.rules.Records.{eventOf}
+use Rattle.tape.specs.rules.Records.{event_of}
 use borrow.Author.Rules.{rules}
 use Rattle.tape.proofs.event.event_of.Statement.{statement}
 use Rattle.tape.proofs.event.event_of.Tie as tie
@@ -34,7 +34,7 @@ new-word-requires : tie.Need-new-word-requires
 new-word-requires c κs = search rules
 
 returns : tie.Need-returns
-unfolding eventOf
+unfolding event_of
 returns c = cc
 
 pub event-of-spec : {M : Type 1} → statement M

@@ -1,4 +1,4 @@
-use Rattle.tape.specs.rules.Records.{eventSpare}
+use Rattle.tape.specs.rules.Records.{event_spare}
 use borrow.Author.Rules.{rules}
 use Rattle.tape.proofs.event.event_spare.Statement.{statement}
 use Rattle.tape.proofs.event.event_spare.Tie as tie
@@ -13,7 +13,7 @@ new-word-requires : tie.Need-new-word-requires
 new-word-requires c κs = search rules
 
 returns : tie.Need-returns
-unfolding eventSpare
+unfolding event_spare
 returns c = cc
 
 pub event-spare-spec : {M : Type 1} → statement M

@@ -1,4 +1,4 @@
-use Rattle.tape.specs.rules.Form.{shapeTests}
+use Rattle.tape.specs.rules.Form.{shape_tests}
 use borrow.Author.Rules.{rules}
 use Rattle.tape.proofs.form.fits.Statement.{statement}
 use Rattle.tape.proofs.form.fits.Tie as tie
@@ -34,7 +34,7 @@ within-requires-6 : tie.Need-within-requires-6
 within-requires-6 c κs = search rules
 
 returns : tie.Need-returns
-unfolding shapeTests
+unfolding shape_tests
 returns c = cc
 
 pub fits-spec : {M : Type 1} → statement M

@@ -1,4 +1,4 @@
-use Rattle.tape.specs.rules.Records.{orderSpare}
+use Rattle.tape.specs.rules.Records.{order_spare}
 use borrow.Author.Rules.{rules}
 use Rattle.tape.proofs.order.order_spare.Statement.{statement}
 use Rattle.tape.proofs.order.order_spare.Tie as tie
@@ -13,7 +13,7 @@ read-word-requires-2 : tie.Need-read-word-requires-2
 read-word-requires-2 c κs = search rules
 
 returns : tie.Need-returns
-unfolding orderSpare
+unfolding order_spare
 returns c = cc
 
 pub order-spare-spec : {M : Type 1} → statement M

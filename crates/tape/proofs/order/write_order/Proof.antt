@@ -1,7 +1,7 @@
 use mathlib.Core.Path.{sym, ◌∙◌}
 use native.Mathlib.Omega.{arith}
 use borrow.Author.Tests.{not-true, not-false}
-use Rattle.tape.specs.rules.Records.{orderWords, orderAnswer, orderWrote}
+use Rattle.tape.specs.rules.Records.{order_words, order_answer, order_wrote}
 use Rattle.tape.proofs.RecordLaws.{wrote-formless, wrote-short, wrote-done}
 use borrow.Author.Rules.{rules}
 use Rattle.tape.proofs.order.write_order.Statement.{statement}
@@ -11,16 +11,16 @@ order-form-requires : tie.Need-order-form-requires
 order-form-requires c κs = search rules
 
 returns : tie.Need-returns
-unfolding orderAnswer orderWrote
+unfolding order_answer order_wrote
 returns c =
     let a = c.before.before.before.args in
-    wrote-formless 1 (orderWords a.o) a.out.now (sym c.before.order-form.ensures ∙ not-true _ c.if1.true)
+    wrote-formless 1 (order_words a.o) a.out.now (sym c.before.order-form.ensures ∙ not-true _ c.if1.true)
 
 returns-2 : tie.Need-returns-2
-unfolding orderAnswer orderWrote orderWords
+unfolding order_answer order_wrote order_words
 returns-2 c =
     let a = c.before.before.before.before.args in
-    wrote-short 1 (orderWords a.o) a.out.now (sym c.before.before.order-form.ensures ∙ not-false _ c.before.if1.false) (omega arith)
+    wrote-short 1 (order_words a.o) a.out.now (sym c.before.before.order-form.ensures ∙ not-false _ c.before.if1.false) (omega arith)
 
 join-requires : tie.Need-join-requires
 join-requires c κs = search rules
@@ -35,10 +35,10 @@ same_length : tie.Need-same-length
 same_length c = search rules
 
 returns-3 : tie.Need-returns-3
-unfolding orderAnswer orderWrote orderWords
+unfolding order_answer order_wrote order_words
 returns-3 c =
     let a = c.before.before.before.before.before.before.before.before.before.before.args in
-    wrote-done 1 (orderWords a.o) a.out.now (sym c.before.before.before.before.before.before.before.before.order-form.ensures ∙ not-false _ c.before.before.before.before.before.before.before.if1.false) (omega arith) (cc)
+    wrote-done 1 (order_words a.o) a.out.now (sym c.before.before.before.before.before.before.before.before.order-form.ensures ∙ not-false _ c.before.before.before.before.before.before.before.if1.false) (omega arith) (cc)
 
 pub write-order-spec : {M : Type 1} → statement M
 write-order-spec =

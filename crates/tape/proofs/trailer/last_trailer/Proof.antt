@@ -4,14 +4,14 @@ use lib.ListN.{length}
 use borrow.Author.Tests.{ltb-false}
 use Rattle.base.proofs.SetsLaws.{rest-is}
 use Rattle.base.proofs.Bools.{or_left}
-use Rattle.tape.specs.rules.Records.{readTrailer}
-use Rattle.tape.specs.rules.Tape.{lastTrailer}
+use Rattle.tape.specs.rules.Records.{read_trailer}
+use Rattle.tape.specs.rules.Tape.{last_trailer}
 use borrow.Author.Rules.{rules}
 use Rattle.tape.proofs.trailer.last_trailer.Statement.{statement}
 use Rattle.tape.proofs.trailer.last_trailer.Tie as tie
 
 returns : tie.Need-returns
-unfolding lastTrailer
+unfolding last_trailer
 returns c = simp c.if1.true
 
 sub_at : tie.Need-overflow-sub-at
@@ -30,10 +30,10 @@ read-trailer-requires : tie.Need-read-trailer-requires
 read-trailer-requires c κs = search rules
 
 returns-2 : tie.Need-returns-2
-unfolding lastTrailer
+unfolding last_trailer
 returns-2 c =
     let s = c.before.before.before.before.args.s.now in
-    simp c.before.before.if1.false (c.read-trailer.ensures ∙ ap readTrailer (rest-is s (length s - 16)))
+    simp c.before.before.if1.false (c.read-trailer.ensures ∙ ap read_trailer (rest-is s (length s - 16)))
 
 pub last-trailer-spec : {M : Type 1} → statement M
 last-trailer-spec =

@@ -1,4 +1,4 @@
-use Rattle.trade.specs.inside.Code.{amongOf, meanOf}
+use Rattle.trade.specs.inside.Code.{among_of, mean_of}
 use borrow.Author.Rules.{rules}
 use Rattle.trade.proofs.leftovers.among.Statement.{statement}
 use Rattle.trade.proofs.leftovers.among.Tie as tie
@@ -19,7 +19,7 @@ div-t8 : tie.Need-nonzero-div-t8
 div-t8 c = search rules
 
 returns : tie.Need-returns
-unfolding amongOf meanOf
+unfolding among_of mean_of
 returns c = rw (← c.before.ones.ensures, ← c.wide.ensures.0)
 
 pub among-spec : {M : Type 1} → statement M

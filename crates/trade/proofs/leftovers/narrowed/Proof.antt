@@ -2,7 +2,7 @@ use mathlib.Core.Path.{◌≡◌, ap, ◌∙◌}
 use Prim.Native.Nat.{ℕ, ◌-◌}
 use native.Mathlib.Omega.{arith}
 use Rattle.words.specs.rules.Bits.{ones_in}
-use Rattle.trade.specs.inside.Code.{amongOf}
+use Rattle.trade.specs.inside.Code.{among_of}
 use Rattle.trade.proofs.NarrowLaws.{narrowed-upper, narrowed-lower}
 use borrow.Author.Rules.{rules}
 use Rattle.trade.proofs.leftovers.narrowed.Statement.{statement}
@@ -47,7 +47,7 @@ returns-2 c =
     let w = c.before.before.before.before.before.before.before.before in
     let a = w.before.before.args in
     c.among2.ensures
-    ∙ ap (λ (n : ℕ). amongOf (a.a.word - a.u.word) (a.a.sum - a.u.sum) (a.a.leftovers - n)) (many w)
+    ∙ ap (λ (n : ℕ). among_of (a.a.word - a.u.word) (a.a.sum - a.u.sum) (a.a.leftovers - n)) (many w)
     ∙ narrowed-lower a.a a.u (omega (arith, many w, c.before.before.before.before.before.before.if1.false))
 
 pub narrowed-spec : {M : Type 1} → statement M

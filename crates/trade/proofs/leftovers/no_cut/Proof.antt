@@ -1,10 +1,10 @@
 use mathlib.Core.Path.{refl}
-use Rattle.trade.specs.inside.Code.{noCut}
+use Rattle.trade.specs.inside.Code.{no_cut}
 use Rattle.trade.proofs.leftovers.no_cut.Statement.{statement}
 use Rattle.trade.proofs.leftovers.no_cut.Tie as tie
 
 returns : tie.Need-returns
-unfolding noCut
+unfolding no_cut
 returns c = refl
 
 pub no-cut-spec : {M : Type 1} → statement M

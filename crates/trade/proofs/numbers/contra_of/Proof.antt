@@ -1,4 +1,4 @@
-use Rattle.trade.specs.inside.Code.{contraOf}
+use Rattle.trade.specs.inside.Code.{contra_of}
 use Rattle.trade.proofs.CodeLaws.{contra-last, contra-open, contra-fits}
 use mathlib.Core.Path.{sym, ap, ◌∙◌}
 use native.Mathlib.Omega.{arith}
@@ -28,10 +28,10 @@ add-result : tie.Need-overflow-add-result
 add-result c = let a = c.before.before.before.before.before.args in omega (arith, contra-fits a.left a.c a.want _ _ _ c.before.before.before.before.lesser.ensures c.before.before.before.lesser2.ensures c.before.shared_of.ensures.0)
 
 returns : tie.Need-returns
-returns c = let a = c.before.before.before.before.before.args in contra-last a.left a.c a.t a.want _ _ _ _ c.before.before.before.before.lesser.ensures c.before.before.before.lesser2.ensures c.before.shared_of.ensures.0 c.lesser3.ensures ∙ ap (contraOf a.left a.c a.t a.want) (sym c.before.before.if1.true)
+returns c = let a = c.before.before.before.before.before.args in contra-last a.left a.c a.t a.want _ _ _ _ c.before.before.before.before.lesser.ensures c.before.before.before.lesser2.ensures c.before.shared_of.ensures.0 c.lesser3.ensures ∙ ap (contra_of a.left a.c a.t a.want) (sym c.before.before.if1.true)
 
 returns-2 : tie.Need-returns-2
-returns-2 c = let a = c.before.before.before.args in contra-open a.left a.c a.t a.want _ _ c.before.before.lesser.ensures c.before.lesser2.ensures ∙ ap (contraOf a.left a.c a.t a.want) (sym c.if1.false)
+returns-2 c = let a = c.before.before.before.args in contra-open a.left a.c a.t a.want _ _ c.before.before.lesser.ensures c.before.lesser2.ensures ∙ ap (contra_of a.left a.c a.t a.want) (sym c.if1.false)
 
 pub contra-of-spec : {M : Type 1} → statement M
 contra-of-spec =

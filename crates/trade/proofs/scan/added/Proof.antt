@@ -1,6 +1,6 @@
 use native.Mathlib.Omega.{arith}
 use borrow.Author.Rules.{rules}
-use Rattle.trade.specs.inside.Code.{addedTo}
+use Rattle.trade.specs.inside.Code.{added_to}
 use Rattle.trade.proofs.scan.added.Statement.{statement}
 use Rattle.trade.proofs.scan.added.Tie as tie
 
@@ -17,7 +17,7 @@ ranked-requires : tie.Need-ranked-requires
 ranked-requires c κs = search rules
 
 returns : tie.Need-returns
-unfolding addedTo
+unfolding added_to
 returns c = (rw (c.before.before.before.before.if1.true, c.before.before.before.with-bit.ensures, c.before.before.wide.ensures.0, c.ranked.ensures), omega (arith, c.before.before.wide.ensures))
 
 with-bit-requires-2 : tie.Need-with-bit-requires-2
@@ -33,7 +33,7 @@ ranked-requires-2 : tie.Need-ranked-requires-2
 ranked-requires-2 c κs = search rules
 
 returns-2 : tie.Need-returns-2
-unfolding addedTo
+unfolding added_to
 returns-2 c = (rw (c.before.before.before.before.if1.false, c.before.before.before.with-bit2.ensures, c.before.before.wide2.ensures.0, c.ranked2.ensures), omega (arith, c.before.before.wide2.ensures))
 
 pub added-spec : {M : Type 1} → statement M

@@ -1,10 +1,10 @@
 use mathlib.Core.Path.{refl}
-use Rattle.trade.specs.inside.Code.{huntingOf}
+use Rattle.trade.specs.inside.Code.{hunting_of}
 use Rattle.trade.proofs.write.hunting.Statement.{statement}
 use Rattle.trade.proofs.write.hunting.Tie as tie
 
 returns : tie.Need-returns
-unfolding huntingOf
+unfolding hunting_of
 returns c = refl
 
 pub hunting-spec : {M : Type 1} → statement M

@@ -1,6 +1,6 @@
 use borrow.Author.Rules.{rules}
 use borrow.Author.Tests.{not-true, not-false}
-use Rattle.trade.specs.inside.Code.{doneAt}
+use Rattle.trade.specs.inside.Code.{done_at}
 use Rattle.trade.proofs.RunLaws.{next-late, next-writes, next-others, next-done}
 use Rattle.trade.proofs.write.next.Statement.{statement}
 use Rattle.trade.proofs.write.next.Tie as tie
@@ -28,7 +28,7 @@ returns-2 c =
     next-others a.h a.l a.spare _ _ o.result c.before.before.before.before.before.before.if1.false (not-true a.h.last c.before.before.before.before.if2.true) o.ensures.0 o.ensures.1
 
 returns-3 : tie.Need-returns-3
-unfolding doneAt
+unfolding done_at
 returns-3 c =
     let a = c.before.before.before.before.before.args in
     next-done a.h a.l a.spare _ c.before.before.if1.false (not-false a.h.last c.if2.false)

@@ -5,7 +5,7 @@ use native.Mathlib.Omega.{arith}
 use borrow.Author.Rules.{rules}
 use lib.ListN.{length, take, get_or}
 use lib.Seq.{sets, take_all}
-use Rattle.words.specs.rules.Bytes.{word_bytes, u32Bytes}
+use Rattle.words.specs.rules.Bytes.{word_bytes, u32_bytes}
 use Rattle.words.proofs.ByteLaws.{word_more}
 use Rattle.words.proofs.bytes.put_words.Statement.{statement}
 use Rattle.words.proofs.bytes.put_words.Tie as tie
@@ -47,7 +47,7 @@ loop-again c =
       search rules,
       search rules,
       c.before.before.put_word.ensures
-          ∙ ap (λ (x : List ℕ). sets x (a.at + l.i * 4) (u32Bytes (get_or a.ws.now l.i 0))) l.invariant.2
+          ∙ ap (λ (x : List ℕ). sets x (a.at + l.i * 4) (u32_bytes (get_or a.ws.now l.i 0))) l.invariant.2
           ∙ word_more a.out.now a.ws.now a.at l.i (omega arith),
     )
 

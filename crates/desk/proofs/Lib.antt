@@ -1,2 +1,0 @@
--- Laws of a tape that is played.
-pub mod PlayLaws

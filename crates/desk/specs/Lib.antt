@@ -1,2 +1,0 @@
--- What the contracts of `desk` cite.
-pub mod Play

@@ -1,2 +1,0 @@
--- Laws of the texts that wait.
-pub mod GatheringLaws

@@ -1,0 +1,2 @@
+-- What the two walks share.
+pub mod Lies

@@ -1,0 +1,79 @@
+// Names of tape files on standard input, one to a line: each name and its tape's listing on standard output, as `evening` prints it, but
+// played by the forms that document 01 names. A line `WRONG ..` stops the program.
+ghost use Rattle.std.specs.Prelude.{◌≡◌, ◌≤◌, length};
+
+use input::MOST;
+use libc::STDIN_FILENO;
+use lines::print_name;
+use play::play_tape;
+
+mod lines;
+mod loans;
+mod play;
+mod results;
+mod seen;
+
+fn tape_buffer() -> [u8; MOST]
+    ensures { 65537 ≡ length result }
+{
+    [0; MOST]
+}
+
+// The end of the line that begins at a place.
+fn line_end(names: &[u8], at: usize) -> usize
+    requires { at ≤ length names.now }
+    ensures { (at ≤ result) × (result ≤ length names.now) }
+{
+    let mut i = at;
+    while i < names.len() {
+        if names[i] == b'\n' {
+            return i;
+        }
+        i += 1;
+    }
+    i
+}
+
+// A file that can't be read is nothing wrong with the forms.
+fn unreadable(name: &[u8]) -> bool {
+    print_name(b"UNREADABLE ", name);
+    true
+}
+
+// One tape by its name; whether nothing was wrong.
+fn serve(name: &[u8], tape: &mut [u8]) -> bool {
+    print_name(b"TAPE ", name);
+    let fd = os::open_read(name);
+    if fd < 0 {
+        return unreadable(name);
+    }
+    let c = input::read_tape(fd, tape);
+    libc::close(fd);
+    if !c.whole {
+        return unreadable(name);
+    }
+    let n = c.length;
+    play_tape(&tape[..n])
+}
+
+// Each line in turn.
+fn serve_all(names: &[u8], tape: &mut [u8]) {
+    let mut at = 0;
+    while at < names.len() {
+        let end = line_end(names, at);
+        if !serve(&names[at..end], tape) {
+            return;
+        }
+        if end == names.len() {
+            return;
+        }
+        at = end + 1;
+    }
+}
+
+fn main() {
+    let mut names = io::large_buffer();
+    let mut tape = tape_buffer();
+    let n = io::read_full(STDIN_FILENO, &mut names);
+    serve_all(&names[..n], &mut tape);
+}

@@ -1,0 +1,125 @@
+// A tape played by the forms that document 01 names: the tape is held; a cancel, and every second other event, goes to a lent auction, the
+// others to the step by value; the auction is closed by hand.
+ghost use Rattle.std.specs.Prelude.{◌≡◌, true};
+ghost use Rattle.events.specs.rules.Step.{step_of};
+ghost use Rattle.steps.specs.rules.Lent.{cancel_event};
+
+use crate::lines::{print_auction, print_end, print_event, print_last, print_refused};
+use crate::loans::{applied, cancelled};
+use crate::results::print_results;
+use crate::seen::is_right;
+use auction::{Auction, Entry};
+use base::wide;
+use events::Stepped;
+use reader::Current;
+use tape::{Event, Opened, Order, ReadOrder, Trailer};
+
+// A cancel that its numbers tell whole.
+fn is_cancel(e: Event) -> bool
+    ensures { result ≡ true → e ≡ cancel_event e.sequence e.time e.f12 }
+{
+    (e.kind == 2)
+        & (e.marks == 0)
+        & (e.side == 0)
+        & (e.f16 == 0)
+        & (e.f20 == 0)
+        & (e.f24 == 0)
+        & (e.participant == 0)
+}
+
+// One event by the form that is its turn.
+fn played(a: Auction, e: Event, place: usize) -> Stepped
+    ensures { result ≡ step_of a e }
+{
+    if is_cancel(e) {
+        return cancelled(a, e.sequence, e.time, e.f12);
+    }
+    if place % 2 == 0 {
+        return steps::step(a, e);
+    }
+    applied(a, e)
+}
+
+// The auction after its events, and whether nothing was wrong.
+#[derive(Drop)]
+struct Heard {
+    right: bool,
+    auction: Auction,
+}
+
+// One event, with its line.
+fn play_event(a: Auction, e: Event, place: usize) -> Heard {
+    let s = played(a, e, place);
+    let answer = s.answer;
+    let auction = s.auction;
+    print_event(e.sequence, answer);
+    Heard {
+        right: is_right(a.board, auction.board, e.kind, answer),
+        auction,
+    }
+}
+
+// The events up to the end of the tape.
+fn play_events(bytes: &[u8], t: Trailer, a: Auction) -> Heard {
+    let mut last = a;
+    let mut place = 0;
+    let mut current = reader::tape_event(bytes, t, place);
+    loop {
+        let Current::Event(e) = current else {
+            return Heard {
+                right: true,
+                auction: last,
+            };
+        };
+        let p = play_event(last, e, place);
+        if !p.right {
+            print_last(b"WRONG board after event ", wide(e.sequence));
+            return p;
+        }
+        last = p.auction;
+        current = reader::tape_next(bytes, t, place);
+        place += 1;
+    }
+}
+
+fn play_auction(bytes: &[u8], t: Trailer, a: Auction) -> bool {
+    print_auction(a.head);
+    let p = play_events(bytes, t, a);
+    if !p.right {
+        return false;
+    }
+    let s = steps::close(p.auction);
+    let last = s.auction;
+    print_end(last.head);
+    print_results(last)
+}
+
+fn play_refused(number: u32) -> bool {
+    print_refused(number);
+    true
+}
+
+fn play_order(bytes: &[u8], t: Trailer, o: Order) -> bool {
+    let opening = auction::accept(o);
+    let answer = opening.answer;
+    let a = opening.auction;
+    match answer {
+        Entry::Accepted => play_auction(bytes, t, a),
+        Entry::Refused(number) => play_refused(number),
+    }
+}
+
+fn play_opened(bytes: &[u8], t: Trailer) -> bool {
+    match reader::tape_order(bytes, t) {
+        ReadOrder::Order(o) => play_order(bytes, t, o),
+        ReadOrder::Refused(number) => play_refused(number),
+    }
+}
+
+// The listing of a tape; whether nothing was wrong.
+pub(crate) fn play_tape(bytes: &[u8]) -> bool {
+    match tape::open_tape(bytes) {
+        Opened::Tape(t) => play_opened(bytes, t),
+        Opened::Refused(number) => play_refused(number),
+    }
+}
