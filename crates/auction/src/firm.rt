@@ -5,7 +5,7 @@ ghost use Rattle.auction.specs.rules.Firm.{participant_of};
 use crate::Auction;
 
 // The participant of a live response, or that no live response has the sequence.
-#[derive(Drop)]
+#[derive(Clone, Copy)]
 pub enum Firm {
     Participant(u32),
     Nobody,

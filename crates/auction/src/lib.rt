@@ -12,7 +12,7 @@ pub use offer::{moved_offer, on_offer};
 pub use orders::accept;
 
 // What is fixed at acceptance. `floor` is the NBB at initiation, `stop` the stop or auto-match limit as it was given.
-#[derive(Drop)]
+#[derive(Clone, Copy)]
 pub struct Terms {
     pub sell: bool,
     pub mode: u8,
@@ -24,7 +24,7 @@ pub struct Terms {
 }
 
 // The quotes that events move; `bidmark` and `offermark` say that a Customer is at BB, at BO.
-#[derive(Drop)]
+#[derive(Clone, Copy)]
 pub struct Quotes {
     pub nbb: u32,
     pub nbo: u32,
@@ -35,14 +35,14 @@ pub struct Quotes {
 }
 
 // The market order that ended an auction; of size 0 where none did.
-#[derive(Drop)]
+#[derive(Clone, Copy)]
 pub struct Market {
     pub sequence: u32,
     pub size: u32,
 }
 
 // Why an auction ended, or that it is open.
-#[derive(Drop)]
+#[derive(Clone, Copy)]
 pub enum Ending {
     Open,
     Time,
@@ -52,7 +52,7 @@ pub enum Ending {
 }
 
 // An auction but for its board; `sequence` is the highest taken, `clock` the time of the last event taken, `offered` the contracts on offer: the sum of the live responses' sizes.
-#[derive(Drop)]
+#[derive(Clone, Copy)]
 pub struct Head {
     pub terms: Terms,
     pub quotes: Quotes,
@@ -64,27 +64,27 @@ pub struct Head {
 }
 
 // The board comes first: after the head it would stand behind a gap of four bytes, and each tape would copy it three times more.
-#[derive(Drop)]
+#[derive(Clone, Copy)]
 pub struct Auction {
     pub board: Board,
     pub head: Head,
 }
 
 // Prices from low to high.
-#[derive(Drop)]
+#[derive(Clone, Copy)]
 pub struct Range {
     pub low: u32,
     pub high: u32,
 }
 
 // What an order is answered.
-#[derive(Drop)]
+#[derive(Clone, Copy)]
 pub enum Entry {
     Accepted,
     Refused(u32),
 }
 
-#[derive(Drop)]
+#[derive(Clone, Copy)]
 pub struct Opening {
     pub answer: Entry,
     pub auction: Auction,

@@ -5,7 +5,7 @@ ghost use Rattle.board.specs.rules.Board.{no_response, response_at, empty_board,
 use words::bits;
 
 // A response that stands on the board: a GTX response, or a limit order. The participant is the firm behind it.
-#[derive(Drop)]
+#[derive(Clone, Copy)]
 pub struct Response {
     pub sequence: u32,
     pub size: u32,
@@ -16,14 +16,14 @@ pub struct Response {
 }
 
 // Bit i of live says that place i is live.
-#[derive(Drop)]
+#[derive(Clone, Copy)]
 pub struct Board {
     pub places: [Response; 64],
     pub live: u64,
 }
 
 // A response that was looked for: its place, and 64 where there is none; what stands there.
-#[derive(Drop)]
+#[derive(Clone, Copy)]
 pub struct Found {
     pub place: usize,
     pub response: Response,

@@ -10,7 +10,7 @@ use tape::Event;
 use words::bits::mark;
 
 // What the board tells of an event: the place that a response would take (64: none), the place of the GTX that is named (64: none), and what stands there.
-#[derive(Drop)]
+#[derive(Clone, Copy)]
 pub struct Sight {
     pub at: usize,
     pub found: usize,
@@ -18,7 +18,7 @@ pub struct Sight {
 }
 
 // What an event changes besides the sequence, the clock and the ending: a response takes a place, a place is freed, the quotes or the market order are new. The last number of `Seat` and of `Free` is the size of the live response that is gone from the place; 0 where none is.
-#[derive(Drop)]
+#[derive(Clone, Copy)]
 pub enum Change {
     Nothing,
     Seat(usize, Response, u32),
@@ -28,7 +28,7 @@ pub enum Change {
 }
 
 // What is decided of an event: its refusal, or its change and the ending after it.
-#[derive(Drop)]
+#[derive(Clone, Copy)]
 pub enum Outcome {
     Refuses(u32),
     Does(Change, Ending),

@@ -177,7 +177,7 @@ fn show_opened(a: Auction, out: &mut [u8]) -> bool {
 }
 
 // The auction after an event, and whether all went well: its lines were written, and live another record may follow.
-#[derive(Drop)]
+#[derive(Clone, Copy)]
 struct Shown {
     auction: Auction,
     well: bool,
@@ -315,7 +315,7 @@ fn firms_auction(tape: &[u8], t: Trailer, opened: Auction) -> bool {
 
 // ---- what is looked at
 
-#[derive(Drop)]
+#[derive(Clone, Copy)]
 enum Look {
     Trace,
     Watch,

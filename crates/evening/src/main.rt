@@ -39,7 +39,7 @@ fn separator() -> u8 {
 }
 
 // The bytes of standard input that were read and not yet taken: from `at` up to `got`; whether a read failed; what ends a name.
-#[derive(Drop)]
+#[derive(Clone, Copy)]
 struct Source {
     at: usize,
     got: usize,
@@ -48,7 +48,7 @@ struct Source {
 }
 
 // The next byte of standard input; none at its end.
-#[derive(Drop)]
+#[derive(Clone, Copy)]
 struct Next {
     found: bool,
     byte: u8,
@@ -120,7 +120,7 @@ fn keep(name: &mut [u8], k: usize, byte: u8) -> usize
 }
 
 // A name: `length` bytes of it were kept; none at the end of the input.
-#[derive(Drop)]
+#[derive(Clone, Copy)]
 struct Line {
     found: bool,
     length: usize,
@@ -164,7 +164,7 @@ fn read_line(input: &mut [u8], source: Source, name: &mut [u8]) -> Line
 // ---- the tapes
 
 // How many tapes there were, and what came of them; whether something could not be written, or the names not read.
-#[derive(Drop)]
+#[derive(Clone, Copy)]
 struct Tally {
     tapes: u64,
     refused: u64,

@@ -5,7 +5,7 @@ use decision::Change;
 pub mod turns;
 
 // What an event is answered.
-#[derive(Drop)]
+#[derive(Clone, Copy)]
 pub enum Answer {
     Taken,
     Ended,
@@ -13,14 +13,14 @@ pub enum Answer {
     Refused(u32),
 }
 
-#[derive(Drop)]
+#[derive(Clone, Copy)]
 pub struct Stepped {
     pub answer: Answer,
     pub auction: Auction,
 }
 
 // The answer to an event, the head after it, and what becomes of the board.
-#[derive(Drop)]
+#[derive(Clone, Copy)]
 pub struct Turn {
     pub answer: Answer,
     pub head: Head,

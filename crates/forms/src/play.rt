@@ -41,7 +41,7 @@ fn played(a: Auction, e: Event, place: usize) -> Stepped
 }
 
 // The auction after its events, and whether nothing was wrong.
-#[derive(Drop)]
+#[derive(Clone, Copy)]
 struct Heard {
     right: bool,
     auction: Auction,

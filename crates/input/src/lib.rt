@@ -6,7 +6,7 @@ ghost use Rattle.io.specs.Counts.{IsPrefixLen};
 pub const MOST: usize = 65537;
 
 // What was read: `length` bytes, all that there were if `whole`; else a read failed, and `error` is the system's number for why.
-#[derive(Drop)]
+#[derive(Clone, Copy)]
 pub struct Contents {
     pub whole: bool,
     pub length: usize,

@@ -22,7 +22,7 @@ mod text;
 pub mod watch;
 
 // What came of a tape, and the length of its listing.
-#[derive(Drop)]
+#[derive(Clone, Copy)]
 pub enum Listed {
     // A refused tape or order; 24 where the room is too small, and nothing was written then.
     Refused { number: u32, length: usize },
@@ -46,7 +46,7 @@ pub fn length_of(l: Listed) -> usize
 // ---- the events
 
 // The auction after its events, closed, and the place after their lines.
-#[derive(Drop)]
+#[derive(Clone, Copy)]
 struct Heard {
     next: usize,
     auction: Auction,

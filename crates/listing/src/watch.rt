@@ -15,7 +15,7 @@ use tape::Event;
 pub const LINES: usize = 9216;
 
 // The auction after an event, and the length of the event's line.
-#[derive(Drop)]
+#[derive(Clone, Copy)]
 pub struct Watched {
     pub auction: Auction,
     pub length: usize,

@@ -11,7 +11,7 @@ use tape::{ORDER_BYTES, ReadTrailer, Trailer, event_bytes};
 use words::bytes::read_word;
 
 // The length of the moved tape, or the number of the refusal.
-#[derive(Drop)]
+#[derive(Clone, Copy)]
 pub enum Moved {
     Length(u64),
     Refused(u32),

@@ -6,7 +6,7 @@ ghost use Rattle.reader.specs.rules.Reader.{current_of, next_place, held, next_o
 use tape::{Event, ReadOrder, Trailer};
 
 // The bytes of a tape, its trailer, and the place of an event, counted from 0.
-#[derive(Drop)]
+#[derive(Clone, Copy)]
 pub struct Tape<'a> {
     pub bytes: &'a [u8],
     pub trailer: Trailer,
@@ -14,7 +14,7 @@ pub struct Tape<'a> {
 }
 
 // What stands at a place: an event, in form or not, or the end of the events.
-#[derive(Drop)]
+#[derive(Clone, Copy)]
 pub enum Current {
     Event(Event),
     End,

@@ -7,7 +7,7 @@ use crate::form::event_form;
 use words::bytes::{join, read_word, write_words};
 
 // An event as it was recorded: what its fields 12, 16, 20 and 24 hold depends on its kind. The participant is the firm behind it; 0 where the record is an old one.
-#[derive(Drop)]
+#[derive(Clone, Copy)]
 pub struct Event {
     pub sequence: u32,
     pub time: u32,
@@ -22,7 +22,7 @@ pub struct Event {
 }
 
 // The event, or the number of the refusal.
-#[derive(Drop)]
+#[derive(Clone, Copy)]
 pub enum ReadEvent {
     Event(Event),
     Refused(u32),

@@ -39,14 +39,14 @@ pub fn order_form(o: Order) -> bool
 }
 
 // From low to high, both included.
-#[derive(Drop)]
+#[derive(Clone, Copy)]
 struct Range {
     low: u32,
     high: u32,
 }
 
 // What an event of a kind may hold; `low`: mark bits 0 and 1 may be set.
-#[derive(Drop)]
+#[derive(Clone, Copy)]
 struct Shape {
     marks: Range,
     low: bool,

@@ -17,7 +17,7 @@ pub use trailer::{
 pub const ORDER_BYTES: usize = 64;
 
 // A writer's answer: done, or the number of the refusal.
-#[derive(Drop)]
+#[derive(Clone, Copy)]
 pub enum Written {
     Done,
     Refused(u32),

@@ -7,7 +7,7 @@ use crate::{ORDER_BYTES, Written};
 use words::bytes::{join, read_word, write_words};
 
 // An order as it was recorded. `stop` is the stop or the auto-match limit, `interval` is L; `displayed` and `collar` are the displayed price of a collared order on the other side and one Trading Collar, both zero where there is none.
-#[derive(Drop)]
+#[derive(Clone, Copy)]
 pub struct Order {
     pub side: u8,
     pub mode: u8,
@@ -28,7 +28,7 @@ pub struct Order {
 }
 
 // The order, or the number of the refusal.
-#[derive(Drop)]
+#[derive(Clone, Copy)]
 pub enum ReadOrder {
     Order(Order),
     Refused(u32),

@@ -8,7 +8,7 @@ use crate::event::event_bytes;
 use words::bytes::{read_word, write_words};
 
 // Where the order is, how many events there are, and whether their records are the new, wide ones.
-#[derive(Drop)]
+#[derive(Clone, Copy)]
 pub struct Trailer {
     pub order: u32,
     pub events: u32,
@@ -16,14 +16,14 @@ pub struct Trailer {
 }
 
 // The trailer, or the number of the refusal.
-#[derive(Drop)]
+#[derive(Clone, Copy)]
 pub enum ReadTrailer {
     Trailer(Trailer),
     Refused(u32),
 }
 
 // The trailer of a tape, or the number of the refusal.
-#[derive(Drop)]
+#[derive(Clone, Copy)]
 pub enum Opened {
     Tape(Trailer),
     Refused(u32),

@@ -14,7 +14,7 @@ mod scan;
 mod write;
 
 // The terms at the ending, for the buy that the engine works with: a sell is its mirror.
-#[derive(Drop)]
+#[derive(Clone, Copy)]
 pub struct Deal {
     // only says that result prices are mirrored back
     pub sell: bool,
@@ -30,14 +30,14 @@ pub struct Deal {
 }
 
 // How many fills were written, or the number of a refusal.
-#[derive(Drop)]
+#[derive(Clone, Copy)]
 pub enum Filled {
     Count(u32),
     Refused(u32),
 }
 
 // What stands at a price: the words of its Customers and of the others, their sizes, and the sequence of the last of each: 4,294,967,295 where their places do not stand in rising order of sequence.
-#[derive(Drop)]
+#[derive(Clone, Copy)]
 struct Found {
     price: u64,
     customers: u64,
@@ -49,7 +49,7 @@ struct Found {
 }
 
 // A price of the walk: who stands there, as it was found; the price as it is reported; whether the others are served in turn; the size left on arriving and after it, what the Contra Order gets, and what is left to the others.
-#[derive(Drop)]
+#[derive(Clone, Copy)]
 struct Price {
     price: u64,
     customers: u64,
@@ -66,14 +66,14 @@ struct Price {
 }
 
 // What one is given, and what is left to give.
-#[derive(Drop)]
+#[derive(Clone, Copy)]
 struct Given {
     quantity: u64,
     left: u64,
 }
 
 // Places among which the cut of the leftovers is looked for: the sum of their fractions, how many of them get a leftover, and the mean of the fractions, rounded up.
-#[derive(Drop)]
+#[derive(Clone, Copy)]
 struct Among {
     word: u64,
     sum: u64,
@@ -82,7 +82,7 @@ struct Among {
 }
 
 // Of these places, those whose fraction is at least the mean, and the sum of these.
-#[derive(Drop)]
+#[derive(Clone, Copy)]
 struct Upper {
     word: u64,
     sum: u64,
@@ -91,7 +91,7 @@ struct Upper {
 // Responses to be served, Customers or the others (last) of a price, in turn or pro rata: k is what is left of the amount, or of the leftovers at the cut.
 // The places of `run` stand in rising order of sequence, and come before those of `late` as far as their sequence is below the edge. Those of `unseen` are still to be looked at;
 // while there are any, `first` is the lowest sequence that was seen, and `latest` the last of the run.
-#[derive(Drop)]
+#[derive(Clone, Copy)]
 struct Hand {
     done: bool,
     last: bool,
@@ -107,7 +107,7 @@ struct Hand {
 }
 
 // Where the walk stands: the lowest price to come, the places not yet walked, the size left, what the Contra Order holds, the next word, and whether the next price is known.
-#[derive(Drop)]
+#[derive(Clone, Copy)]
 struct Walked {
     from: u64,
     rest: u64,
