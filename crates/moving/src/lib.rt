@@ -80,7 +80,9 @@ fn put_bytes(out: &mut [u8], at: usize, s: &[u8]) -> usize
     requires { at + length s.now ≤ length out.old }
     ensures { WroteBytes out.old at s.now result out.new }
 {
-    at + bytes::copy(s, &mut out[at..])
+    let end = at + s.len();
+    out[at..end].copy_from_slice(s);
+    end
 }
 
 // The record at the start of lent bytes in the other form: its first 32 bytes, and zeros after them where it is a new one.

@@ -1,0 +1,5 @@
+use borrow.Author.Rules.{rules}
+use Rattle.auction.proofs.orders.first_bound.Goals as goal
+
+pub returns : goal.returns
+returns c = (cc, c.bound.ensures.1)

@@ -1,0 +1,5 @@
+use borrow.Author.Rules.{rules}
+use Rattle.auction.proofs.orders.is_next.Goals as goal
+
+pub returns : goal.returns
+returns c = cc

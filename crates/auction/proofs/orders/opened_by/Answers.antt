@@ -1,0 +1,7 @@
+use Rattle.auction.specs.rules.Accept.{opened_by}
+use borrow.Author.Rules.{rules}
+use Rattle.auction.proofs.orders.opened_by.Goals as goal
+
+pub returns : goal.returns
+unfolding opened_by
+returns c = cc

@@ -1,0 +1,7 @@
+use Rattle.decision.specs.rules.Decide.{new_quotes}
+use borrow.Author.Rules.{rules}
+use Rattle.decision.proofs.new_quotes.Goals as goal
+
+pub returns : goal.returns
+unfolding new_quotes
+returns c = cc

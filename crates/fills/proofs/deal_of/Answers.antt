@@ -1,0 +1,7 @@
+use Rattle.fills.specs.rules.Fills.{deal_of}
+use borrow.Author.Rules.{rules}
+use Rattle.fills.proofs.deal_of.Goals as goal
+
+pub returns : goal.returns
+unfolding deal_of
+returns c = cc

@@ -1,0 +1,42 @@
+use mathlib.Core.Path.{◌≡◌, refl, sym, ap, ap₂, ◌∙◌}
+use mathlib.Core.Logic.{⊎_elim}
+use Prim.Native.Nat.{◌+◌, ◌-◌, ◌*◌, ◌^◌, ◌≤◌, ◌<◌}
+use native.Mathlib.Omega.{arith}
+use lib.ListN.{length}
+use borrow.Author.Rules.{rules}
+use Rattle.run.specs.rules.Run.{run, heard, closed}
+use Rattle.events.specs.rules.Step.{found_for, sight_of, board_after, turn_of}
+use Rattle.events.proofs.SightLaws.{found_at, sight-found}
+use Rattle.words.specs.rules.Bits.{without_bit}
+use Rattle.words.proofs.BitLaws.{without-le, without-lt, without-lowest, LowestBit, lowest_set}
+use Rattle.board.specs.declared.Response.{Response}
+use Rattle.board.specs.promises.Board.{Good}
+use Rattle.board.proofs.BoardLaws.{empty-good}
+use Rattle.auction.specs.declared.Auction.{Auction}
+use Rattle.decision.specs.declared.Sight.{Sight}
+use Rattle.tape.specs.declared.event.Event.{Event}
+use mathlib.Core.List.{List, []}
+use Rattle.listing.specs.rules.Listing.{event_lines}
+use Rattle.words.specs.inside.Writing.{LeftBytes}
+use Rattle.words.proofs.WroteLaws.{wrote-same, left-start, left-wrote, left-same, left-done}
+use Rattle.listing.proofs.LookLaws.{looked, sought-le, look-start, look-end, look-found, look-next}
+use Rattle.listing.proofs.RunLaws.{whole, closed-whole, seat-set, seat-past, seat-free, seat-none, good-after, rest, rest-none, rest_all, events-turn, run-turn}
+use Rattle.listing.proofs.put_events.Given as goal
+
+-- the response that the event names is what was found so far, or among the places still to come
+abbrev pub invariant-loop-rest : goal.invariant-loop-rest
+invariant-loop-rest l =
+    (l.rest < 2 ^ 64) × (looked l.b l.e.f12 l.named l.rest ≡ found_at l.b (found_for l.b l.e))
+
+abbrev pub decreases-loop-rest : goal.decreases-loop-rest
+decreases-loop-rest l = l.rest
+
+abbrev pub invariant-loop-k : goal.invariant-loop-k
+invariant-loop-k l =
+    (l.k ≤ l.n) × (length l.out ≡ length l.initial.out) × (l.w ≤ l.start + 56 * l.k) × (l.n ≡ l.t.events)
+    × LeftBytes l.initial.out l.start (event_lines (heard (whole l.initial.h l.initial.b) (rest l.tape l.t 0))) l.out l.w (event_lines (heard (whole l.h l.b) (rest l.tape l.t l.k)))
+    × (run (whole l.h l.b) (rest l.tape l.t l.k) ≡ run (whole l.initial.h l.initial.b) (rest l.tape l.t 0))
+    × Good l.b
+
+abbrev pub decreases-loop-k : goal.decreases-loop-k
+decreases-loop-k l = l.n - l.k

@@ -1,0 +1,5 @@
+use borrow.Author.Rules.{rules}
+use Rattle.moving.proofs.is_bare.Goals as goal
+
+pub returns : goal.returns
+returns c = cc

@@ -1,0 +1,5 @@
+use borrow.Author.Rules.{rules}
+use Rattle.steps.proofs.by_value.close.Goals as goal
+
+pub returns : goal.returns
+returns c = simp (c.seat.ensures, c.close_turn.ensures)

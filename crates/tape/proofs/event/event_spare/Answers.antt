@@ -1,0 +1,7 @@
+use Rattle.tape.specs.rules.Records.{event_spare}
+use borrow.Author.Rules.{rules}
+use Rattle.tape.proofs.event.event_spare.Goals as goal
+
+pub returns : goal.returns
+unfolding event_spare
+returns c = cc

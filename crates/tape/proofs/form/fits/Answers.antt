@@ -1,0 +1,7 @@
+use Rattle.tape.specs.rules.Form.{shape_tests}
+use borrow.Author.Rules.{rules}
+use Rattle.tape.proofs.form.fits.Goals as goal
+
+pub returns : goal.returns
+unfolding shape_tests
+returns c = cc

@@ -1,0 +1,7 @@
+use Rattle.tape.specs.rules.Records.{order_of}
+use borrow.Author.Rules.{rules}
+use Rattle.tape.proofs.order.order_of.Goals as goal
+
+pub returns : goal.returns
+unfolding order_of
+returns c = cc

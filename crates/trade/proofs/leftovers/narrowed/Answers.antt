@@ -1,0 +1,32 @@
+use mathlib.Core.Path.{◌≡◌, ap, ◌∙◌}
+use Prim.Native.Nat.{ℕ, ◌-◌}
+use native.Mathlib.Omega.{arith}
+use Rattle.words.specs.rules.Bits.{ones_in}
+use Rattle.trade.specs.inside.Code.{among_of}
+use Rattle.trade.proofs.NarrowLaws.{narrowed-upper, narrowed-lower}
+use borrow.Author.Rules.{rules}
+use Rattle.trade.proofs.leftovers.narrowed.Goals as goal
+
+-- how many are upper
+many : (c : goal.After-wide-n) → c.wide-n.result ≡ ones_in 64 c.args.u.word
+many c = c.wide-n.ensures.0 ∙ c.ones.ensures
+
+pub returns-then-a-n : goal.returns-then-a-n
+returns-then-a-n c =
+    let w = c.before.before.before in
+    let a = w.args in
+    c.among.ensures ∙ narrowed-upper a.a a.u (omega (arith, many w, c.if-a-n.true))
+
+pub among-requires-2 : goal.among-requires-2
+among-requires-2 c =
+    let w = c.before.before.before.before.before.before.before in
+    let s = w.before.before in
+    (s.requires.1.1 (omega (arith, many w, c.if-a-n.false)), omega (arith, s.requires.0))
+
+pub returns : goal.returns
+returns c =
+    let w = c.before.before.before.before.before.before.before.before in
+    let a = w.args in
+    c.among-2.ensures
+    ∙ ap (λ (n : ℕ). among_of (a.a.word - a.u.word) (a.a.sum - a.u.sum) (a.a.leftovers - n)) (many w)
+    ∙ narrowed-lower a.a a.u (omega (arith, many w, c.if-a-n.false))

@@ -1,0 +1,8 @@
+use mathlib.Core.Path.{refl}
+use Rattle.trade.specs.inside.Code.{in_turn_of}
+use borrow.Author.Rules.{rules}
+use Rattle.trade.proofs.numbers.in_turn.Goals as goal
+
+pub returns : goal.returns
+unfolding in_turn_of
+returns c = rw c.without_lowest.ensures refl

@@ -1,0 +1,559 @@
+use mathlib.Core.Path.{◌≡◌, refl, sym, ap, ap₂, ◌∙◌}
+use mathlib.Core.Bool.{Bool, true, false, cond, not, false≢true, true≢false}
+use mathlib.Core.List.{◌++◌}
+use mathlib.Core.Logic.{inl, inr, ⊎_elim}
+use Prim.Native.Nat.{ℕ, ◌+◌, ◌-◌, ◌*◌, ◌^◌, ◌≤◌, ◌<◌, min, max}
+use native.Mathlib.Nat.{le_trans}
+use native.Mathlib.Omega.{arith}
+use lib.Dec.{eqb}
+use lib.ListN.{length, get_or, length-append}
+use borrow.Author.Rules.{rules}
+use borrow.Author.Tests.{not-true, not-false}
+use Rattle.base.specs.Lists.{filter, sum}
+use Rattle.base.proofs.Bools.{bool-or}
+use Rattle.base.proofs.ListLaws.{length-mapped}
+use Rattle.words.specs.rules.Bits.{without_bit}
+use Rattle.words.proofs.BitLaws.{without-le, without-lowest}
+use Rattle.board.specs.rules.Board.{no_response, live_in, live_of, in_sequence}
+use Rattle.share.specs.rules.Share.{leftover_count}
+use Rattle.share.specs.rules.Fills.{fill_of, sizes}
+use Rattle.share.specs.inside.Fills.{LeftFills}
+use Rattle.share.specs.inside.Cut.{Cuts}
+use Rattle.share.proofs.FillsLaws.{wrote-append, left-start, left-turn, left-done}
+use Rattle.trade.specs.rules.Trade.{offers, level_fills, flat, market_price}
+use Rattle.trade.specs.rules.Trade as trade
+use Rattle.trade.specs.rules.Write.{reported_price, reported, fills_of}
+use Rattle.trade.specs.inside.Code.{least_of, Stands, Short, no_cut, counted_of, fractions_in, place_fills, level_of, passed_of, walk_from, hand_of, next_of, next_fills, served_of, served_fills, market_by}
+use Rattle.trade.proofs.CodeLaws.{Turn, turn-of, least-le, least-none, least-turn, count_turn, fractions-turn, fractions-none, unseen-le, unseen-all}
+use Rattle.trade.proofs.FoundLaws.{Sees, sees-start, sees-small, sees-skip, sees-same, sees-other, sees-first, sees-second}
+use Rattle.trade.proofs.StepLaws.{ahead, rest-is, goes, stays}
+use Rattle.trade.proofs.LevelLaws.{Priced, priced, priced-price, ahead-all, walk-fills, walk-done, level-above}
+use Rattle.trade.proofs.NarrowLaws.{Search, seek_work, search-some, sum_low, counts, search-start, upper-within, search-look, search-end, search-halves, search-low, search-next, search-less}
+use Rattle.trade.proofs.ServeLaws.{short-of, Hands, to_serve, to-serve-done, hands_start, hands-met, hands-served, hands_next}
+use Rattle.trade.proofs.RunLaws.{serve_work, work-met, work-served, work-next}
+use Rattle.trade.proofs.WholeLaws.{guarantee-found, market-fill, all-fills, fills-few}
+use Rattle.trade.proofs.write_all.Goals as goal
+
+len : (c : goal.Start) → length c.args.b.places ≡ 64
+len c = search (rules, length-mapped)
+
+live-fits : (c : goal.Start) → c.args.b.live < 2 ^ 64
+live-fits c = search rules
+
+pub guarantee_of-g-requires : goal.guarantee_of-g-requires
+guarantee_of-g-requires c = omega (arith, c.wide-size.ensures.1)
+
+
+-- ---- the lowest working price, for the market order
+pub loop-word-init : goal.loop-word-init
+loop-word-init c =
+    let a = c.args in
+    let f : a.b.live < 2 ^ 64 = search rules in (
+      omega (arith, c.unseen-word.ensures, unseen-le (eqb c.lesser-takes.result 0) a.b.live, f),
+      c.top_of-top.ensures.1,
+      λ p. omega (arith, least-le a.d.bound c.top_of-top.result (live_of a.b), ap (λ (n : ℕ). least_of a.d.bound c.top_of-top.result (live_in n a.b.places)) (c.unseen-word.ensures ∙ unseen-all c.lesser-takes.result a.b.live p)),
+      omega arith,
+    )
+
+turn : (c : goal.After-first_set-i) → Turn c.args.b.places c.loop-word.word c.first_set-i.result
+turn c = turn-of c.args.b.places c.loop-word.word _ (len c.before.before.before.before.before.before.before.before.before.before.before) (omega arith) c.loop-word.invariant.0 c.first_set-i.ensures
+
+pub overflow_cast-i : goal.overflow_cast-i
+overflow_cast-i c = omega (arith, (turn c).low)
+
+pub offset_bounds-b-i : goal.offset_bounds-b-i
+offset_bounds-b-i c = omega (arith, (turn c).low)
+
+pub bounds-b-i : goal.bounds-b-i
+bounds-b-i c = (turn c).low
+
+-- the places still to come after the turn
+
+left : (c : goal.After-without_lowest-word) → c.without_lowest-word.result ≡ without_bit c.loop-word.word c.first_set-i.result
+left c = c.without_lowest-word.ensures ∙ without-lowest _ _ c.first_set-i.ensures
+
+pub loop-word-smaller : goal.loop-word-smaller
+loop-word-smaller c = rw (left c) (turn c.before.before.before).less
+
+pub loop-word-preserved : goal.loop-word-preserved
+loop-word-preserved c =
+    let a = c.args in
+    let t = turn c.before.before.before in
+    let now : c.lesser-lowest.result ≡ min (max (get_or a.b.places c.first_set-i.result no_response).price a.d.bound) c.loop-word.lowest =
+    c.lesser-lowest.ensures ∙ ap (λ (n : ℕ). min n c.loop-word.lowest) c.working.ensures.0 in (
+      rw (left c) (omega (arith, without-le c.loop-word.word c.first_set-i.result, c.loop-word.invariant.0)),
+      omega (arith, now, c.loop-word.invariant.1),
+      λ p. c.loop-word.invariant.2 p ∙ rw (left c, now) (least-turn a.d.bound c.top_of-top.result c.loop-word.lowest a.b.places c.loop-word.word c.first_set-i.result t),
+      omega (arith, now, c.loop-word.invariant.3),
+    )
+
+pub write_market-at-requires : goal.write_market-at-requires
+write_market-at-requires c = (c.loop-word.invariant.1, omega (arith, c.lesser-takes.ensures, c.wide-size.ensures.1), omega (arith, c.requires))
+
+pub overflow_sub-left : goal.overflow_sub-left
+overflow_sub-left c = omega (arith, c.lesser-takes.ensures)
+
+-- ---- the walk
+
+guaranteed : (c : goal.After-guarantee_of-g) → c.guarantee_of-g.result ≡ trade.guarantee c.args.d (offers c.args.b)
+guaranteed c = guarantee-found c.args.d c.args.b.places c.args.b.live _ _ _ (len c.before.before.before.before.before.before.before) c.wide-size.ensures.0 c.live_count.ensures c.guarantee_of-g.ensures.0
+
+-- all the fills: the market order's, and those of the walk
+
+fills-are : (c : goal.After-lesser-takes) → fills_of c.args.d c.args.b ≡ fill_of c.args.d.market (reported_price c.args.d.sell (market_price c.args.d (offers c.args.b))) c.lesser-takes.result ++ reported c.args.d.sell (flat (walk_from c.args.d (offers c.args.b) 0 (c.wide-size.result - c.lesser-takes.result) 0))
+fills-are c = all-fills c.args.d c.args.b _ _ (c.lesser-takes.ensures ∙ ap₂ (λ (x y : ℕ). min x y) c.wide-size.ensures.0 c.wide.ensures.0) (ap (λ (n : ℕ). n - c.lesser-takes.result) c.wide-size.ensures.0)
+
+market : (c : goal.After-loop-word) → fill_of c.args.d.market (reported_price c.args.d.sell (market_by c.args.d c.args.b.live c.loop-word.lowest)) c.lesser-takes.result ≡ fill_of c.args.d.market (reported_price c.args.d.sell (market_price c.args.d (offers c.args.b))) c.lesser-takes.result
+market c =
+    let a = c.args in
+    let z : c.loop-word.word ≡ 0 = omega arith in
+    let l : c.loop-word.lowest ≤ c.top_of-top.result = c.loop-word.invariant.3 in
+    market-fill a.d a.b c.loop-word.lowest c.lesser-takes.result (len c.before.before.before.before.before.before.before.before.before.before) (search rules)
+    (λ p. rw (← c.top_of-top.ensures.0) (omega (arith, c.loop-word.invariant.2 p, l, ap (λ (n : ℕ). least_of a.d.bound c.top_of-top.result (live_in n a.b.places)) z, least-none a.d.bound c.top_of-top.result a.b.places)))
+
+-- what is still to be written fits
+
+walk-room : (c : goal.At-loop-d) → c.loop-d.s.at + 3 * length (reported c.args.d.sell (flat (walk_from c.args.d (offers c.args.b) c.loop-d.s.from c.loop-d.s.left c.loop-d.s.held))) ≤ 390
+walk-room c = omega (arith, c.loop-d.invariant.5.place, c.write_market-at.ensures.place, ap length (market c.before.before.before.before.before.before), simp length-append at (ap length (fills-are c.before.before.before.before.before.before.before.before.before.before.before)), fills-few c.args.d c.args.b (len c.before.before.before.before.before.before.before.before.before.before.before.before.before.before.before.before))
+
+pub loop-d-init : goal.loop-d-init
+loop-d-init c =
+    let a = c.args in (
+      omega arith,
+      omega (arith, c.wide-size.ensures.1),
+      refl,
+      live-fits c.before.before.before.before.before.before.before.before.before.before.before.before.before.before.before,
+      sym (ahead-all a.d (live_of a.b)),
+      left-start _ _ _,
+      λ k. absurd (false≢true k),
+    )
+
+-- in a turn something is left, and the last price is not passed
+
+on : (c : goal.In-loop-d) → (0 < c.loop-d.s.left) × (c.loop-d.s.from ≤ trade.top c.args.d) × (c.loop-d.s.from ≤ c.top_of-top.result)
+on c =
+    let g = goes c.loop-d.s.left c.loop-d.s.from c.top_of-top.result (sym c.going.ensures ∙ c.loop-d-test.true) in
+    (g.0, omega (arith, g.1, c.top_of-top.ensures.0), g.1)
+
+above : (c : goal.In-loop-d) → (c.loop-d.s.from ≤ (level_of c.args.d c.args.b.places c.guarantee_of-g.result c.loop-d.s).price) × ((level_of c.args.d c.args.b.places c.guarantee_of-g.result c.loop-d.s).price ≤ trade.top c.args.d)
+above c = level-above c.args.d c.args.b.places c.args.b.live c.guarantee_of-g.result c.loop-d.s c.loop-d.invariant.4 (on c).1
+
+
+-- ---- a look: what stands at the two lowest prices
+pub loop-unseen-init : goal.loop-unseen-init
+loop-unseen-init c =
+    let a = c.args in
+    let s = c.loop-d.s in (
+      omega (arith, c.unseen-unseen.ensures, unseen-le s.known s.rest, c.loop-d.invariant.3),
+      λ k. (c.unseen-unseen.ensures ∙ ap (λ (b : Bool). cond b 0 s.rest) k, λ h. rw (c.kept-f.ensures, k) (c.loop-d.invariant.6 k h)),
+      λ k. rw (c.kept-f.ensures, c.nothing-n-in-loop-d.ensures, c.unseen-unseen.ensures, k) (sees-start a.d.bound c.top_of-top.result a.b.places s.rest (len c.before.before.before.before.before.before.before.before.before.before.before.before.before.before.before.before.before.before.before.before.before)),
+    )
+
+-- where there is a place to look at, the price was not known
+
+fresh : (c : goal.In-loop-unseen) → c.loop-d.s.known ≡ false
+fresh c = ⊎_elim (λ k. absurd (omega (arith, (c.loop-unseen.invariant.1 k).0))) (λ k. k) (bool-or c.loop-d.s.known)
+
+sees : (c : goal.In-loop-unseen) → Sees c.args.d.bound c.top_of-top.result c.args.b.places c.loop-d.s.rest c.loop-unseen.f c.loop-unseen.n c.loop-unseen.unseen
+sees c = c.loop-unseen.invariant.2 (fresh c)
+
+look : (c : goal.After-first_set-i-in-loop-unseen) → Turn c.args.b.places c.loop-unseen.unseen c.first_set-i-in-loop-unseen.result
+look c = turn-of c.args.b.places c.loop-unseen.unseen _ (len c.before.before.before.before.before.before.before.before.before.before.before.before.before.before.before.before.before.before.before.before.before.before.before.before) (omega arith) c.loop-unseen.invariant.0 c.first_set-i-in-loop-unseen.ensures
+
+pub overflow_cast-i-in-loop-unseen : goal.overflow_cast-i-in-loop-unseen
+overflow_cast-i-in-loop-unseen c = omega (arith, (look c).low)
+
+pub offset_bounds-b-i-in-loop-unseen : goal.offset_bounds-b-i-in-loop-unseen
+offset_bounds-b-i-in-loop-unseen c = omega (arith, (look c).low)
+
+pub bounds-b-i-in-loop-unseen : goal.bounds-b-i-in-loop-unseen
+bounds-b-i-in-loop-unseen c = (look c).low
+
+left3 : (c : goal.After-without_lowest-unseen) → c.without_lowest-unseen.result ≡ without_bit c.loop-unseen.unseen c.first_set-i-in-loop-unseen.result
+left3 c = c.without_lowest-unseen.ensures ∙ without-lowest _ _ c.first_set-i-in-loop-unseen.ensures
+
+less3 : (c : goal.After-without_lowest-unseen) → c.without_lowest-unseen.result < c.loop-unseen.unseen
+less3 c = rw (left3 c) (look c.before.before).less
+
+pub loop-unseen-smaller-then-n-wide : goal.loop-unseen-smaller-then-n-wide
+loop-unseen-smaller-then-n-wide c = less3 c.before.before.before
+
+pub loop-unseen-preserved-then-n-wide : goal.loop-unseen-preserved-then-n-wide
+loop-unseen-preserved-then-n-wide c =
+    let a = c.args in (
+      omega (arith, less3 c.before.before.before, c.loop-unseen.invariant.0),
+      λ k. absurd (true≢false (sym k ∙ fresh c.before.before.before.before.before.before)),
+      λ _. rw (left3 c.before.before.before) (sees-skip a.d.bound c.top_of-top.result a.b.places c.loop-d.s.rest (len c.before.before.before.before.before.before.before.before.before.before.before.before.before.before.before.before.before.before.before.before.before.before.before.before.before.before.before.before.before) c.loop-unseen.unseen c.first_set-i-in-loop-unseen.result (look c.before.before.before.before.before) c.loop-unseen.f c.loop-unseen.n (omega (arith, c.if-n-wide.true, c.wide-in-loop-unseen.ensures.0)) (sees c.before.before.before.before.before.before)),
+    )
+
+small3 : (c : goal.In-loop-unseen) → (c.loop-unseen.f.served + c.loop-unseen.f.total ≤ 274877906880) × (c.loop-unseen.n.served + c.loop-unseen.n.total ≤ 274877906880)
+small3 c = sees-small c.args.d.bound c.top_of-top.result c.args.b.places c.loop-d.s.rest c.loop-unseen.f c.loop-unseen.n c.loop-unseen.unseen (sees c)
+
+pub added-f-requires : goal.added-f-requires
+added-f-requires c = (small3 c.before.before.before.before.before.before.before.before.before).0
+
+pub loop-unseen-smaller-then-p-f : goal.loop-unseen-smaller-then-p-f
+loop-unseen-smaller-then-p-f c = less3 c.before.before.before.before.before.before.before
+
+pub loop-unseen-preserved-then-p-f : goal.loop-unseen-preserved-then-p-f
+loop-unseen-preserved-then-p-f c =
+    let a = c.args in (
+      omega (arith, less3 c.before.before.before.before.before.before.before, c.loop-unseen.invariant.0),
+      λ k. absurd (true≢false (sym k ∙ fresh c.before.before.before.before.before.before.before.before.before.before)),
+      λ _. rw (left3 c.before.before.before.before.before.before.before) (sees-same a.d.bound c.top_of-top.result a.b.places c.loop-d.s.rest (len c.before.before.before.before.before.before.before.before.before.before.before.before.before.before.before.before.before.before.before.before.before.before.before.before.before.before.before.before.before.before.before.before.before) c.loop-unseen.unseen c.first_set-i-in-loop-unseen.result (look c.before.before.before.before.before.before.before.before.before) c.loop-unseen.f c.loop-unseen.n _ c.working-p.result c.added-f.ensures.0 c.added-f.ensures.1 c.working-p.ensures.0 c.if-p-f.true (sees c.before.before.before.before.before.before.before.before.before.before)),
+    )
+
+pub later-n-requires : goal.later-n-requires
+later-n-requires c = (small3 c.before.before.before.before.before.before.before.before.before).1
+
+pub found-f-requires : goal.found-f-requires
+found-f-requires c = (small3 c.before.before.before.before.before.before.before.before.before.before).0
+
+pub loop-unseen-smaller : goal.loop-unseen-smaller
+loop-unseen-smaller c = less3 c.before.before.before.before.before.before.before.before
+
+pub loop-unseen-preserved : goal.loop-unseen-preserved
+loop-unseen-preserved c =
+    let a = c.args in (
+      omega (arith, less3 c.before.before.before.before.before.before.before.before, c.loop-unseen.invariant.0),
+      λ k. absurd (true≢false (sym k ∙ fresh c.before.before.before.before.before.before.before.before.before.before.before)),
+      λ _. rw (left3 c.before.before.before.before.before.before.before.before) (sees-other a.d.bound c.top_of-top.result a.b.places c.loop-d.s.rest (len c.before.before.before.before.before.before.before.before.before.before.before.before.before.before.before.before.before.before.before.before.before.before.before.before.before.before.before.before.before.before.before.before.before.before) c.loop-unseen.unseen c.first_set-i-in-loop-unseen.result (look c.before.before.before.before.before.before.before.before.before.before) c.loop-unseen.f c.loop-unseen.n _ _ c.working-p.result c.found-f.ensures.0 c.found-f.ensures.1 c.later-n.ensures.0 c.later-n.ensures.1 c.working-p.ensures.0 c.if-p-f.false (sees c.before.before.before.before.before.before.before.before.before.before.before)),
+    )
+
+-- ---- the price
+
+looked-all : (c : goal.After-loop-unseen) → c.loop-unseen.unseen ≡ 0
+looked-all c = omega arith
+
+stands : (c : goal.After-loop-unseen) → Stands c.args.d.bound c.top_of-top.result c.args.b.places c.loop-d.s.rest c.loop-unseen.f
+stands c =
+    let z = looked-all c in
+    ⊎_elim (λ k. (c.loop-unseen.invariant.1 k).1 (on c.before.before.before.before.before).2) (λ k. sees-first c.args.d.bound c.top_of-top.result c.args.b.places c.loop-d.s.rest c.loop-unseen.f c.loop-unseen.n (rw z at (c.loop-unseen.invariant.2 k))) (bool-or c.loop-d.s.known)
+
+pub price_of-l-requires : goal.price_of-l-requires
+price_of-l-requires c =
+    let k = stands c in
+    (c.guarantee_of-g.ensures.1, omega (arith, k.low, c.top_of-top.ensures.1), k.found.small)
+
+price : (c : goal.After-price_of-l) → Priced c.args.d c.args.b.places c.guarantee_of-g.result c.loop-d.s c.price_of-l.result
+price c = priced c.args.d c.args.b.places c.guarantee_of-g.result c.loop-d.s (len c.before.before.before.before.before.before.before.before.before.before.before.before.before.before.before.before.before.before.before.before.before.before.before.before) c.loop-d.invariant.3 c.loop-unseen.f (rw c.top_of-top.ensures.0 at (stands c.before)) _ c.price_of-l.ensures
+
+others-fit : (c : goal.After-price_of-l) → c.price_of-l.result.others < 2 ^ 64
+others-fit c = omega (arith, (price c).ranges, c.loop-d.invariant.3)
+
+shared-low : (c : goal.After-price_of-l) → c.price_of-l.result.shared ≤ 4294967295
+shared-low c = omega (arith, (price c).shared-low, c.loop-d.invariant.1)
+
+short : (c : goal.After-price_of-l) → c.price_of-l.result.turns ≡ false → Short c.args.b.places c.price_of-l.result.others c.price_of-l.result.shared c.price_of-l.result.total
+short c = λ k. let p = price c in short-of c.args.b.places _ _ _ (sym p.in-turn ∙ k) (shared-low c) p.total-low p.total-is
+
+-- what is to be written: this price's fills, and those of the rest of the walk
+
+level-fills : (c : goal.After-price_of-l) → reported c.args.d.sell (flat (walk_from c.args.d (offers c.args.b) c.loop-d.s.from c.loop-d.s.left c.loop-d.s.held)) ≡ reported c.args.d.sell (level_fills (level_of c.args.d c.args.b.places c.guarantee_of-g.result c.loop-d.s)) ++ reported c.args.d.sell (flat (walk_from c.args.d (offers c.args.b) (c.price_of-l.result.price + 1) c.price_of-l.result.after (c.loop-d.s.held + c.price_of-l.result.contra)))
+level-fills c =
+    let p = price c in
+    let t = on c.before.before.before.before.before.before in
+    walk-fills c.args.d c.args.b.places c.args.b.live c.guarantee_of-g.result c.loop-d.s (guaranteed c.before.before.before.before.before.before.before.before.before.before.before.before.before.before.before.before.before) c.loop-d.invariant.4 t.1 t.0 _ _ _ (ap (λ (n : ℕ). n + 1) p.price-is) p.after_is (ap (λ (n : ℕ). c.loop-d.s.held + n) p.contra-is)
+
+
+-- ---- the cut: the fractions are added up
+pub loop-rest-init : goal.loop-rest-init
+unfolding sum
+loop-rest-init c =
+    let l = c.price_of-l.result in (
+      omega (arith, c.unseen-rest.ensures, unseen-le l.turns l.others, others-fit c.before),
+      λ k. c.unseen-rest.ensures ∙ ap (λ (b : Bool). cond b 0 l.others) k,
+      λ k. let z : c.unseen-rest.result ≡ l.others = c.unseen-rest.ensures ∙ ap (λ (b : Bool). cond b 0 l.others) k in omega (arith, ap (λ (n : ℕ). sum (fractions_in l.shared l.total c.args.b.places n)) z),
+    )
+
+-- where there is a place to look at, they are not served in turn
+
+shares : (c : goal.In-loop-rest) → c.price_of-l.result.turns ≡ false
+shares c = ⊎_elim (λ k. absurd (omega (arith, c.loop-rest.invariant.1 k))) (λ k. k) (bool-or c.price_of-l.result.turns)
+
+adds : (c : goal.After-first_set-i-in-loop-rest) → Turn c.args.b.places c.loop-rest.rest c.first_set-i-in-loop-rest.result
+adds c = turn-of c.args.b.places c.loop-rest.rest _ (len c.before.before.before.before.before.before.before.before.before.before.before.before.before.before.before.before.before.before.before.before.before.before.before.before.before.before.before.before) (omega arith) c.loop-rest.invariant.0 c.first_set-i-in-loop-rest.ensures
+
+pub overflow_cast-i-in-loop-rest : goal.overflow_cast-i-in-loop-rest
+overflow_cast-i-in-loop-rest c = omega (arith, (adds c).low)
+
+pub offset_bounds-b-i-in-loop-rest : goal.offset_bounds-b-i-in-loop-rest
+offset_bounds-b-i-in-loop-rest c = omega (arith, (adds c).low)
+
+pub bounds-b-i-in-loop-rest : goal.bounds-b-i-in-loop-rest
+bounds-b-i-in-loop-rest c = (adds c).low
+
+pub fraction_of-sum-requires : goal.fraction_of-sum-requires
+fraction_of-sum-requires c = let v = short c.before.before.before.before (shares c.before) in (v.low, v.short)
+
+added-low : (c : goal.In-loop-rest) → c.loop-rest.sum ≤ 70368744161280
+added-low c =
+    let l = c.price_of-l.result in
+    let k = shares c in
+    omega (arith, c.loop-rest.invariant.2 k, sum_low l.shared l.total c.args.b.places (len c.before.before.before.before.before.before.before.before.before.before.before.before.before.before.before.before.before.before.before.before.before.before.before.before.before.before.before) l.others (short c.before.before.before k) (others-fit c.before.before.before) l.others)
+
+pub overflow_add-sum : goal.overflow_add-sum
+overflow_add-sum c = omega (arith, added-low c.before.before, c.fraction_of-sum.ensures.1, (short c.before.before.before.before.before (shares c.before.before)).small)
+
+left4 : (c : goal.After-without_lowest-rest) → c.without_lowest-rest.result ≡ without_bit c.loop-rest.rest c.first_set-i-in-loop-rest.result
+left4 c = c.without_lowest-rest.ensures ∙ without-lowest _ _ c.first_set-i-in-loop-rest.ensures
+
+pub loop-rest-smaller : goal.loop-rest-smaller
+loop-rest-smaller c = rw (left4 c) (adds c.before.before).less
+
+pub loop-rest-preserved : goal.loop-rest-preserved
+unfolding sum
+loop-rest-preserved c =
+    let l = c.price_of-l.result in
+    let t = adds c.before.before in (
+      rw (left4 c) (omega (arith, t.less, c.loop-rest.invariant.0)),
+      λ k. absurd (true≢false (sym k ∙ shares c.before.before.before)),
+      λ k. rw (left4 c) (omega (arith, c.loop-rest.invariant.2 k, c.fraction_of-sum.ensures.0, ap sum (fractions-turn l.shared l.total c.args.b.places c.loop-rest.rest c.first_set-i-in-loop-rest.result t))),
+    )
+
+added-all : (c : goal.After-loop-rest) → c.price_of-l.result.turns ≡ false → c.loop-rest.sum ≡ sum (fractions_in c.price_of-l.result.shared c.price_of-l.result.total c.args.b.places c.price_of-l.result.others)
+unfolding sum
+added-all c =
+    λ k. let l = c.price_of-l.result in
+    let z : c.loop-rest.rest ≡ 0 = omega arith in
+    omega (arith, c.loop-rest.invariant.2 k, ap (λ (n : ℕ). sum (fractions_in l.shared l.total c.args.b.places n)) z, ap sum (fractions-none l.shared l.total c.args.b.places))
+
+pub counted-a-requires : goal.counted-a-requires
+counted-a-requires c =
+    λ k. let l = c.price_of-l.result in
+    counts l.shared l.total c.args.b.places (len c.before.before.before.before.before.before.before.before.before.before.before.before.before.before.before.before.before.before.before.before.before.before.before.before.before.before.before) l.others (short c.before.before.before k) (others-fit c.before.before.before) c.loop-rest.sum (added-all c k)
+
+
+-- ---- and narrowed down
+pub loop-u-init : goal.loop-u-init
+unfolding counted_of no_cut
+loop-u-init c =
+    let l = c.price_of-l.result in (
+      λ k. rw (c.counted-a.ensures, k) (refl, refl),
+      λ k. rw (c.counted-a.ensures, k) (search-start l.shared l.total c.args.b.places (len c.before.before.before.before.before.before.before.before.before.before.before.before.before.before.before.before.before.before.before.before.before.before.before.before.before.before.before.before) l.others (short c.before.before.before.before k) (others-fit c.before.before.before.before) c.loop-rest.sum (added-all c.before k)),
+    )
+
+seeks : (c : goal.In-loop-u) → c.price_of-l.result.turns ≡ false
+seeks c = ⊎_elim (λ k. let z = c.loop-u.invariant.0 k in absurd (c.loop-u-test.true (z.1 ∙ sym z.0))) (λ k. k) (bool-or c.price_of-l.result.turns)
+
+sought : (c : goal.In-loop-u) → Search c.price_of-l.result.shared c.price_of-l.result.total c.args.b.places c.price_of-l.result.others c.loop-u.a c.loop-u.u c.loop-u.rest
+sought c = c.loop-u.invariant.1 (seeks c)
+
+look4 : (c : goal.After-first_set-i-then-rest-ne0) → Turn c.args.b.places c.loop-u.rest c.first_set-i-then-rest-ne0.result
+look4 c = turn-of c.args.b.places c.loop-u.rest _ (len c.before.before.before.before.before.before.before.before.before.before.before.before.before.before.before.before.before.before.before.before.before.before.before.before.before.before.before.before.before.before.before.before.before.before) (omega (arith, c.if-rest-ne0.true)) (sought c.before.before).looked.fit c.first_set-i-then-rest-ne0.ensures
+
+pub overflow_cast-i-then-rest-ne0 : goal.overflow_cast-i-then-rest-ne0
+overflow_cast-i-then-rest-ne0 c = omega (arith, (look4 c).low)
+
+pub offset_bounds-b-i-then-rest-ne0 : goal.offset_bounds-b-i-then-rest-ne0
+offset_bounds-b-i-then-rest-ne0 c = omega (arith, (look4 c).low)
+
+pub bounds-b-i-then-rest-ne0 : goal.bounds-b-i-then-rest-ne0
+bounds-b-i-then-rest-ne0 c = (look4 c).low
+
+pub fraction_of-fraction-requires : goal.fraction_of-fraction-requires
+fraction_of-fraction-requires c = let v = short c.before.before.before.before.before.before.before.before.before.before (seeks c.before.before) in (v.low, v.short)
+
+pub upper-u-requires : goal.upper-u-requires
+upper-u-requires c =
+    let l = c.price_of-l.result in
+    let v = short c.before.before.before.before.before.before.before.before.before.before.before (seeks c.before.before.before) in
+    omega (arith, upper-within l.shared l.total c.args.b.places (len c.before.before.before.before.before.before.before.before.before.before.before.before.before.before.before.before.before.before.before.before.before.before.before.before.before.before.before.before.before.before.before.before.before.before.before) l.others v (others-fit c.before.before.before.before.before.before.before.before.before.before.before) c.loop-u.a c.loop-u.u c.loop-u.rest (sought c.before.before.before), c.fraction_of-fraction.ensures.1, v.small)
+
+left5 : (c : goal.After-without_lowest-rest-then-rest-ne0) → c.without_lowest-rest-then-rest-ne0.result ≡ without_bit c.loop-u.rest c.first_set-i-then-rest-ne0.result
+left5 c = c.without_lowest-rest-then-rest-ne0.ensures ∙ without-lowest _ _ c.first_set-i-then-rest-ne0.ensures
+
+pub loop-u-smaller-then-rest-ne0 : goal.loop-u-smaller-then-rest-ne0
+loop-u-smaller-then-rest-ne0 c = rw (left5 c) (omega (arith, count_turn c.args.b.places c.loop-u.rest c.first_set-i-then-rest-ne0.result (look4 c.before.before.before)))
+
+pub loop-u-preserved-then-rest-ne0 : goal.loop-u-preserved-then-rest-ne0
+loop-u-preserved-then-rest-ne0 c =
+    let l = c.price_of-l.result in
+    let o = search-some l.shared l.total c.args.b.places l.others c.loop-u.a c.loop-u.u c.loop-u.rest (sought c.before.before.before.before.before) c.loop-u-test.true in (
+      λ k. absurd (true≢false (sym k ∙ seeks c.before.before.before.before.before)),
+      λ k. rw (left5 c) (search-look l.shared l.total c.args.b.places (len c.before.before.before.before.before.before.before.before.before.before.before.before.before.before.before.before.before.before.before.before.before.before.before.before.before.before.before.before.before.before.before.before.before.before.before.before.before) l.others (short c.before.before.before.before.before.before.before.before.before.before.before.before.before k) (others-fit c.before.before.before.before.before.before.before.before.before.before.before.before.before) c.loop-u.a c.loop-u.u c.upper-u.result c.loop-u.rest c.first_set-i-then-rest-ne0.result c.fraction_of-fraction.result o (look4 c.before.before.before) c.fraction_of-fraction.ensures.0 c.upper-u.ensures.0 c.upper-u.ensures.1 (sought c.before.before.before.before.before)),
+    )
+
+-- all were looked at
+
+halving : (c : goal.Else-rest-ne0) → Search c.price_of-l.result.shared c.price_of-l.result.total c.args.b.places c.price_of-l.result.others c.loop-u.a c.loop-u.u 0
+halving c = let z : c.loop-u.rest ≡ 0 = omega (arith, c.if-rest-ne0.false) in rw z at (sought c.before)
+
+pub narrowed-a-requires : goal.narrowed-a-requires
+narrowed-a-requires c =
+    let l = c.price_of-l.result in
+    let v = short c.before.before.before.before.before.before.before.before.before (seeks c.before) in
+    let h = search-halves l.shared l.total c.args.b.places (len c.before.before.before.before.before.before.before.before.before.before.before.before.before.before.before.before.before.before.before.before.before.before.before.before.before.before.before.before.before.before.before.before.before) l.others v (others-fit c.before.before.before.before.before.before.before.before.before) c.loop-u.a c.loop-u.u (halving c) c.loop-u-test.true in
+    record { sum_bound = (search-low l.shared l.total c.args.b.places (len c.before.before.before.before.before.before.before.before.before.before.before.before.before.before.before.before.before.before.before.before.before.before.before.before.before.before.before.before.before.before.before.before.before) l.others v (others-fit c.before.before.before.before.before.before.before.before.before) c.loop-u.a c.loop-u.u (halving c) c.loop-u-test.true, h.upper-low, h.upper_in); word_nonzero = (h.upper-some, h.others-some) }
+
+pub loop-u-smaller : goal.loop-u-smaller
+loop-u-smaller c =
+    let l = c.price_of-l.result in
+    let z : c.loop-u.rest ≡ 0 = omega (arith, c.if-rest-ne0.false) in
+    rw (c.narrowed-a.ensures, z) (search-less l.shared l.total c.args.b.places (len c.before.before.before.before.before.before.before.before.before.before.before.before.before.before.before.before.before.before.before.before.before.before.before.before.before.before.before.before.before.before.before.before.before.before) l.others (short c.before.before.before.before.before.before.before.before.before.before (seeks c.before.before)) (others-fit c.before.before.before.before.before.before.before.before.before.before) c.loop-u.a c.loop-u.u (halving c.before) c.loop-u-test.true)
+
+pub loop-u-preserved : goal.loop-u-preserved
+loop-u-preserved c =
+    let l = c.price_of-l.result in
+    (λ k. absurd (true≢false (sym k ∙ seeks c.before.before)), λ k. rw c.narrowed-a.ensures (search-next l.shared l.total c.args.b.places (len c.before.before.before.before.before.before.before.before.before.before.before.before.before.before.before.before.before.before.before.before.before.before.before.before.before.before.before.before.before.before.before.before.before.before) l.others (short c.before.before.before.before.before.before.before.before.before.before k) (others-fit c.before.before.before.before.before.before.before.before.before.before) c.loop-u.a c.loop-u.u (halving c.before) c.loop-u-test.true))
+
+cuts : (c : goal.After-loop-u) → c.price_of-l.result.turns ≡ false → Cuts (leftover_count c.price_of-l.result.shared (sizes (live_in c.price_of-l.result.others c.args.b.places))) (fractions_in c.price_of-l.result.shared c.price_of-l.result.total c.args.b.places c.price_of-l.result.others) c.loop-u.a.mean c.loop-u.a.leftovers
+cuts c =
+    λ k. let l = c.price_of-l.result in
+    search-end l.shared l.total c.args.b.places (len c.before.before.before.before.before.before.before.before.before.before.before.before.before.before.before.before.before.before.before.before.before.before.before.before.before.before.before.before.before.before.before.before) l.others (short c.before.before.before.before.before.before.before.before k) (others-fit c.before.before.before.before.before.before.before.before) c.loop-u.a c.loop-u.u c.loop-u.rest (c.loop-u.invariant.1 k) (omega (arith, c.loop-u-test.false))
+
+-- ---- the fills of the price
+
+start : (c : goal.After-hand_of-h) → Hands c.price_of-l.result c.loop-u.a.mean c.args.b.places (hand_of false true c.price_of-l.result.customers c.price_of-l.result.customer c.price_of-l.result.left c.loop-d.s.at)
+    × (place_fills c.price_of-l.result.reported c.price_of-l.result.left (in_sequence (live_in c.price_of-l.result.customers c.args.b.places)) c.price_of-l.result.contra c.price_of-l.result.shared (in_sequence (live_in c.price_of-l.result.others c.args.b.places)) ≡ to_serve c.price_of-l.result c.loop-u.a.mean c.args.b.places (hand_of false true c.price_of-l.result.customers c.price_of-l.result.customer c.price_of-l.result.left c.loop-d.s.at))
+    × ((hand_of false true c.price_of-l.result.customers c.price_of-l.result.customer c.price_of-l.result.left c.loop-d.s.at).at ≡ c.loop-d.s.at)
+start c =
+    let p = price c.before.before.before.before.before.before.before.before.before in
+    hands_start c.price_of-l.result c.loop-u.a.mean c.args.b.places (len c.before.before.before.before.before.before.before.before.before.before.before.before.before.before.before.before.before.before.before.before.before.before.before.before.before.before.before.before.before.before.before.before.before) (omega (arith, p.fits, c.loop-d.invariant.3)) p.customers-rank (omega (arith, p.left_is, c.loop-d.invariant.1)) c.loop-d.s.at
+
+pub loop-h-init : goal.loop-h-init
+loop-h-init c =
+    let k = start c in
+    rw c.hand_of-h.ensures (k.0, refl, rw (k.2, ← k.1) (left-start _ _ _))
+
+-- not done yet
+
+going_on : (c : goal.In-loop-h) → c.loop-h.h.done ≡ false
+going_on c = not-true c.loop-h.h.done c.loop-h-test.true
+
+met-place : (c : goal.After-first_set-i-then-h-ne0) → Turn c.args.b.places c.loop-h.h.unseen c.first_set-i-then-h-ne0.result
+met-place c = turn-of c.args.b.places c.loop-h.h.unseen _ (len c.before.before.before.before.before.before.before.before.before.before.before.before.before.before.before.before.before.before.before.before.before.before.before.before.before.before.before.before.before.before.before.before.before.before.before.before.before.before.before) (omega (arith, c.if-h-ne0.true)) (omega (arith, c.loop-h.invariant.0.serves.fits)) c.first_set-i-then-h-ne0.ensures
+
+pub overflow_cast-i-then-h-ne0 : goal.overflow_cast-i-then-h-ne0
+overflow_cast-i-then-h-ne0 c = omega (arith, (met-place c).low)
+
+pub offset_bounds-b-i-then-h-ne0 : goal.offset_bounds-b-i-then-h-ne0
+offset_bounds-b-i-then-h-ne0 c = omega (arith, (met-place c).low)
+
+pub bounds-b-i-then-h-ne0 : goal.bounds-b-i-then-h-ne0
+bounds-b-i-then-h-ne0 c = (met-place c).low
+
+pub met-h-requires : goal.met-h-requires
+met-h-requires c = (omega (arith, c.wide-then-h-ne0.ensures.1), omega (arith, c.loop-h.invariant.0.serves.fits))
+
+pub loop-h-smaller-then-h-ne0 : goal.loop-h-smaller-then-h-ne0
+loop-h-smaller-then-h-ne0 c =
+    rw c.met-h.ensures (work-met c.args.b.places c.loop-h.h c.first_set-i-then-h-ne0.result c.wide-then-h-ne0.result c.loop-h.invariant.0.serves (omega (arith, c.if-h-ne0.true)) c.first_set-i-then-h-ne0.ensures c.wide-then-h-ne0.ensures.0 (omega (arith, c.wide-then-h-ne0.ensures.1)) (going_on c.before.before.before.before.before))
+
+pub loop-h-preserved-then-h-ne0 : goal.loop-h-preserved-then-h-ne0
+loop-h-preserved-then-h-ne0 c =
+    let m = hands-met c.price_of-l.result c.loop-u.a.mean c.args.b.places c.loop-h.h (len c.before.before.before.before.before.before.before.before.before.before.before.before.before.before.before.before.before.before.before.before.before.before.before.before.before.before.before.before.before.before.before.before.before.before.before.before.before.before.before.before.before) c.loop-h.invariant.0 c.first_set-i-then-h-ne0.result c.wide-then-h-ne0.result (omega (arith, c.if-h-ne0.true)) c.first_set-i-then-h-ne0.ensures c.wide-then-h-ne0.ensures.0 (omega (arith, c.wide-then-h-ne0.ensures.1)) in
+    rw c.met-h.ensures (m.0, c.loop-h.invariant.1, rw (m.1, m.2) c.loop-h.invariant.2)
+
+nexts : (c : goal.Then-h-eq0) → (at : ℕ) → Hands c.price_of-l.result c.loop-u.a.mean c.args.b.places (next_of c.loop-h.h c.price_of-l.result c.loop-u.a.leftovers at) × (to_serve c.price_of-l.result c.loop-u.a.mean c.args.b.places c.loop-h.h ≡ next_fills c.loop-h.h c.price_of-l.result ++ to_serve c.price_of-l.result c.loop-u.a.mean c.args.b.places (next_of c.loop-h.h c.price_of-l.result c.loop-u.a.leftovers at))
+nexts c =
+    λ at. let p = price c.before.before.before.before.before.before.before.before.before.before.before.before.before.before.before.before in
+    hands_next c.price_of-l.result c.loop-u.a.mean c.args.b.places c.loop-h.h (len c.before.before.before.before.before.before.before.before.before.before.before.before.before.before.before.before.before.before.before.before.before.before.before.before.before.before.before.before.before.before.before.before.before.before.before.before.before.before.before.before) c.loop-h.invariant.0 (omega (arith, c.if-h-ne0.false)) c.if-h-eq0.true (others-fit c.before.before.before.before.before.before.before.before.before.before.before.before.before.before.before.before) p.others-rank p.total-is p.in-turn (shared-low c.before.before.before.before.before.before.before.before.before.before.before.before.before.before.before.before) c.loop-u.a.leftovers (cuts c.before.before.before.before.before.before.before.before) at
+
+-- what is still to be written of the price fits
+
+room : (c : goal.At-loop-h) → c.loop-h.h.at + 3 * length (to_serve c.price_of-l.result c.loop-u.a.mean c.args.b.places c.loop-h.h) ≤ 390
+room c =
+    let p = price c.before.before.before.before.before.before.before.before.before.before in
+    omega (arith, c.loop-h.invariant.2.place, ap length p.fills, simp length-append at (ap length (level-fills c.before.before.before.before.before.before.before.before.before.before)), walk-room c.before.before.before.before.before.before.before.before.before.before.before.before.before.before.before.before.before.before)
+
+next-room : (c : goal.Then-h-eq0) → c.loop-h.h.at + 3 * length (next_fills c.loop-h.h c.price_of-l.result) ≤ 390
+next-room c = omega (arith, room c.before.before.before.before.before.before, ap length (nexts c 0).1 ∙ length-append (next_fills c.loop-h.h c.price_of-l.result) _)
+
+pub next-h-requires : goal.next-h-requires
+next-h-requires c =
+    (omega (arith, (price c.before.before.before.before.before.before.before.before.before.before.before.before.before.before.before.before.before).contra-low, c.loop-d.invariant.1), le_trans (next-room c.before) (omega (arith, c.loop-h.invariant.1, c.loop-d.invariant.2, c.write_market-at.auto.1.1.1.1.0, c.requires)))
+
+pub loop-h-smaller-then-h-eq0 : goal.loop-h-smaller-then-h-eq0
+loop-h-smaller-then-h-eq0 c =
+    rw c.next-h.ensures.value (work-next c.args.b.places c.loop-h.h (len c.before.before.before.before.before.before.before.before.before.before.before.before.before.before.before.before.before.before.before.before.before.before.before.before.before.before.before.before.before.before.before.before.before.before.before.before.before.before.before.before.before.before.before.before) c.loop-h.invariant.0.serves (omega (arith, c.if-h-ne0.false)) (going_on c.before.before.before.before.before.before.before.before) c.price_of-l.result c.loop-u.a.leftovers _ c.if-h-eq0.true (others-fit c.before.before.before.before.before.before.before.before.before.before.before.before.before.before.before.before.before.before.before.before))
+
+pub loop-h-preserved-then-h-eq0 : goal.loop-h-preserved-then-h-eq0
+loop-h-preserved-then-h-eq0 c =
+    let n = nexts c.before.before.before.before c.next-h.result.at in
+    let h : Hands c.price_of-l.result c.loop-u.a.mean c.args.b.places c.next-h.result = rw c.next-h.ensures.value n.0 in
+    let t : to_serve c.price_of-l.result c.loop-u.a.mean c.args.b.places c.loop-h.h ≡ next_fills c.loop-h.h c.price_of-l.result ++ to_serve c.price_of-l.result c.loop-u.a.mean c.args.b.places c.next-h.result = rw c.next-h.ensures.value n.1 in
+    (h, omega (arith, c.next-h.auto.1.1.1.0, c.loop-h.invariant.1), left-turn (rw t at c.loop-h.invariant.2) c.next-h.ensures.wrote_fills)
+
+-- the next in sequence
+
+first-place : (c : goal.After-first_set-i-in-loop-h) → Turn c.args.b.places c.loop-h.h.run c.first_set-i-in-loop-h.result
+first-place c = turn-of c.args.b.places c.loop-h.h.run _ (len c.before.before.before.before.before.before.before.before.before.before.before.before.before.before.before.before.before.before.before.before.before.before.before.before.before.before.before.before.before.before.before.before.before.before.before.before.before.before.before.before.before) (omega (arith, c.if-h-eq0.false)) (omega (arith, c.loop-h.invariant.0.serves.fits)) c.first_set-i-in-loop-h.ensures
+
+pub overflow_cast-i-in-loop-h : goal.overflow_cast-i-in-loop-h
+overflow_cast-i-in-loop-h c = omega (arith, (first-place c).low)
+
+pub offset_bounds-b-i-in-loop-h : goal.offset_bounds-b-i-in-loop-h
+offset_bounds-b-i-in-loop-h c = omega (arith, (first-place c).low)
+
+pub bounds-b-i-in-loop-h : goal.bounds-b-i-in-loop-h
+bounds-b-i-in-loop-h c = (first-place c).low
+
+serves : (c : goal.After-first_set-i-in-loop-h) → (at : ℕ) → Hands c.price_of-l.result c.loop-u.a.mean c.args.b.places (served_of c.loop-h.h c.price_of-l.result c.loop-u.a.mean (get_or c.args.b.places c.first_set-i-in-loop-h.result no_response) at) × (to_serve c.price_of-l.result c.loop-u.a.mean c.args.b.places c.loop-h.h ≡ served_fills c.loop-h.h c.price_of-l.result c.loop-u.a.mean (get_or c.args.b.places c.first_set-i-in-loop-h.result no_response) ++ to_serve c.price_of-l.result c.loop-u.a.mean c.args.b.places (served_of c.loop-h.h c.price_of-l.result c.loop-u.a.mean (get_or c.args.b.places c.first_set-i-in-loop-h.result no_response) at))
+serves c = λ at. hands-served c.price_of-l.result c.loop-u.a.mean c.args.b.places c.loop-h.h (len c.before.before.before.before.before.before.before.before.before.before.before.before.before.before.before.before.before.before.before.before.before.before.before.before.before.before.before.before.before.before.before.before.before.before.before.before.before.before.before.before.before) c.loop-h.invariant.0 c.first_set-i-in-loop-h.result (omega (arith, c.if-h-ne0.false)) (omega (arith, c.if-h-eq0.false)) c.first_set-i-in-loop-h.ensures at
+
+serve-room : (c : goal.After-first_set-i-in-loop-h) → c.loop-h.h.at + 3 * length (served_fills c.loop-h.h c.price_of-l.result c.loop-u.a.mean (get_or c.args.b.places c.first_set-i-in-loop-h.result no_response)) ≤ 390
+serve-room c = omega (arith, room c.before.before.before.before.before.before.before, ap length (serves c 0).1 ∙ length-append (served_fills c.loop-h.h c.price_of-l.result c.loop-u.a.mean (get_or c.args.b.places c.first_set-i-in-loop-h.result no_response)) _)
+
+pub filled-h-requires : goal.filled-h-requires
+filled-h-requires c =
+    let g = c.loop-h.invariant.0 in record { shared_bound = (shared-low c.before.before.before.before.before.before.before.before.before.before.before.before.before.before.before.before.before.before.before, g.low, g.short, omega (arith, g.serves.fits)); r_in_bounds = le_trans (serve-room c.before.before) (omega (arith, c.loop-h.invariant.1, c.loop-d.invariant.2, c.write_market-at.auto.1.1.1.1.0, c.requires)) }
+
+pub loop-h-smaller : goal.loop-h-smaller
+loop-h-smaller c =
+    rw c.filled-h.ensures.value (work-served c.args.b.places c.loop-h.h (len c.before.before.before.before.before.before.before.before.before.before.before.before.before.before.before.before.before.before.before.before.before.before.before.before.before.before.before.before.before.before.before.before.before.before.before.before.before.before.before.before.before.before.before.before.before.before) c.loop-h.invariant.0.serves (omega (arith, c.if-h-ne0.false)) (going_on c.before.before.before.before.before.before.before.before.before.before) c.first_set-i-in-loop-h.result c.price_of-l.result c.loop-u.a.mean _ _ (omega (arith, c.if-h-eq0.false)) c.first_set-i-in-loop-h.ensures refl)
+
+pub loop-h-preserved : goal.loop-h-preserved
+loop-h-preserved c =
+    let n = serves c.before.before.before.before.before c.filled-h.result.at in
+    let h : Hands c.price_of-l.result c.loop-u.a.mean c.args.b.places c.filled-h.result = rw c.filled-h.ensures.value n.0 in
+    let t : to_serve c.price_of-l.result c.loop-u.a.mean c.args.b.places c.loop-h.h ≡ served_fills c.loop-h.h c.price_of-l.result c.loop-u.a.mean (get_or c.args.b.places c.first_set-i-in-loop-h.result no_response) ++ to_serve c.price_of-l.result c.loop-u.a.mean c.args.b.places c.filled-h.result = rw c.filled-h.ensures.value n.1 in
+    (h, omega (arith, c.filled-h.auto.1.1.1.1.0, c.loop-h.invariant.1), left-turn (rw t at c.loop-h.invariant.2) c.filled-h.ensures.wrote_fills)
+
+
+-- ---- the walk stands after the price
+pub passed-s-requires : goal.passed-s-requires
+passed-s-requires c =
+    let p = price c.before.before.before.before.before.before.before.before.before.before.before.before in
+    let u = above c.before.before.before.before.before.before.before.before.before.before.before.before.before.before.before.before.before.before in
+    (p.fits, omega (arith, p.contra-low, c.loop-d.invariant.1), omega (arith, p.price-is, u.1, c.top_of-top.ensures.0, c.top_of-top.ensures.1))
+
+pub loop-d-smaller : goal.loop-d-smaller
+unfolding passed_of
+loop-d-smaller c =
+    let p = price c.before.before.before.before.before.before.before.before.before.before.before.before.before in
+    let u = above c.before.before.before.before.before.before.before.before.before.before.before.before.before.before.before.before.before.before.before in
+    rw c.passed-s.ensures (omega (arith, p.price-is, u.0, u.1, c.top_of-top.ensures.0))
+
+pub loop-d-preserved : goal.loop-d-preserved
+unfolding passed_of
+loop-d-preserved c =
+    let a = c.args in
+    let s = c.loop-d.s in
+    let p = price c.before.before.before.before.before.before.before.before.before.before.before.before.before in
+    let u = above c.before.before.before.before.before.before.before.before.before.before.before.before.before.before.before.before.before.before.before in
+    let e = to-serve-done c.price_of-l.result c.loop-u.a.mean a.b.places c.loop-h.h c.loop-h.invariant.0 (not-false c.loop-h.h.done c.loop-h-test.false) in
+    let w = rw p.fills at (left-done (rw e at c.loop-h.invariant.2)) in
+    let f = level-fills c.before.before.before.before.before.before.before.before.before.before.before.before.before in
+    rw c.passed-s.ensures (
+      omega (arith, p.price-is, u.1, c.top_of-top.ensures.0),
+      omega (arith, p.contra-low, c.loop-d.invariant.1),
+      omega (arith, c.loop-h.invariant.1, c.loop-d.invariant.2),
+      omega (arith, c.loop-d.invariant.3),
+      rw p.price-is (rest-is a.d a.b.places a.b.live c.guarantee_of-g.result s (guaranteed c.before.before.before.before.before.before.before.before.before.before.before.before.before.before.before.before.before.before.before.before.before.before.before.before.before.before.before.before.before.before) c.loop-d.invariant.4 (on c.before.before.before.before.before.before.before.before.before.before.before.before.before.before.before.before.before.before.before).1 (s.rest - c.price_of-l.result.customers - c.price_of-l.result.others) (len c.before.before.before.before.before.before.before.before.before.before.before.before.before.before.before.before.before.before.before.before.before.before.before.before.before.before.before.before.before.before.before.before.before.before.before.before.before) c.loop-d.invariant.3 (omega (arith, p.gone, p.fits))),
+      left-turn (rw f at c.loop-d.invariant.5) w,
+      λ k h.
+          let z = looked-all c.before.before.before.before.before.before.before.before.before.before.before.before.before.before in
+          let n : s.known ≡ false = not-true s.known k in
+          let q : c.loop-unseen.f.price ≡ (level_of a.d a.b.places c.guarantee_of-g.result s).price = sym (priced-price a.d c.guarantee_of-g.result s c.loop-unseen.f c.price_of-l.result c.price_of-l.ensures) ∙ p.price-is in
+          sees-second a.d.bound c.top_of-top.result a.b.places s.rest c.loop-unseen.f c.loop-unseen.n (rw z at (c.loop-unseen.invariant.2 n)) (len c.before.before.before.before.before.before.before.before.before.before.before.before.before.before.before.before.before.before.before.before.before.before.before.before.before.before.before.before.before.before.before.before.before.before.before.before.before) c.loop-d.invariant.3 _ (rw q (omega (arith, p.gone, p.fits))) (omega (arith, q, p.price-is, h)),
+    )
+
+
+-- ---- the end
+pub returns : goal.returns
+returns c =
+    let a = c.args in
+    let e = stays c.loop-d.s.left c.loop-d.s.from c.top_of-top.result (sym c.going.ensures ∙ c.loop-d-test.false) in
+    let w = left-done (rw (walk-done a.d (offers a.b) c.loop-d.s.from c.loop-d.s.left c.loop-d.s.held (⊎_elim (λ z. inl z) (λ z. inr (omega (arith, c.top_of-top.ensures.0))) e)) at c.loop-d.invariant.5) in
+    rw (fills-are c.before.before.before.before.before.before.before.before.before.before.before.before.before) (wrote-append (rw (market c.before.before.before.before.before.before.before.before) at c.write_market-at.ensures) w)

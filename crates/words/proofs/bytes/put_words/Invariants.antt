@@ -1,0 +1,16 @@
+use mathlib.Core.Path.{◌≡◌, ap, ◌∙◌}
+use mathlib.Core.List.{List}
+use Prim.Native.Nat.{ℕ, ◌≤◌, ◌+◌, ◌*◌, ◌-◌}
+use native.Mathlib.Omega.{arith}
+use borrow.Author.Rules.{rules}
+use lib.ListN.{length, take, get_or}
+use lib.Seq.{sets, take_all}
+use Rattle.words.specs.rules.Bytes.{word_bytes, u32_bytes}
+use Rattle.words.proofs.ByteLaws.{word_more}
+use Rattle.words.proofs.bytes.put_words.Given as goal
+
+abbrev pub invariant-loop-i : goal.invariant-loop-i
+invariant-loop-i l = (l.i ≤ length l.ws) × (length l.out ≡ length l.initial.out) × (l.out ≡ sets l.initial.out l.at (word_bytes (take l.i l.ws)))
+
+abbrev pub decreases-loop-i : goal.decreases-loop-i
+decreases-loop-i l = length l.ws - l.i
