@@ -1,4 +1,7 @@
 // A CUBE auction: what it holds, which orders are accepted, the range that holds, the contracts on offer, and the firm behind a response. The engine knows only buys: a sell is its mirror.
+
+#![tactic(auto)]
+
 use board::Board;
 
 mod bounds;

@@ -1,4 +1,7 @@
 // What every crate stands on: small functions on numbers. It knows nothing of auctions but a price's mirror.
+
+#![tactic(auto)]
+
 ghost use Rattle.std.specs.Prelude.{◌≡◌, ◌-◌, ◌≤◌, min, max};
 ghost use Rattle.base.specs.Price.{mirrored};
 

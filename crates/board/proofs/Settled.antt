@@ -1,31 +1,32 @@
 -- Each public function's contract settles it. What is cited is made from the code's own clauses, so a clause that says less is refused here.
 use mathlib.Core.Path.{refl, sym, ◌∙◌}
 use Rattle.base.specs.Settled.{Settled}
+use Rattle.board.specs.contracts as stated
 use Rattle.board.proofs as contracts
 
-pub empty : Settled contracts.empty.ended contracts.empty.Reads.Asked contracts.empty.Reads.Learnt
+pub empty : Settled stated.empty.ended contracts.empty.Reads.Asked contracts.empty.Reads.Learnt
 empty κs a = (tt, λ y z v w p q. (p ∙ sym q, refl))
 
-pub is_live : Settled contracts.is_live.ended contracts.is_live.Reads.Asked contracts.is_live.Reads.Learnt
+pub is_live : Settled stated.is_live.ended contracts.is_live.Reads.Asked contracts.is_live.Reads.Learnt
 is_live κs a = (tt, λ y z v w p q. (p ∙ sym q, refl))
 
-pub live-count : Settled contracts.live_count.ended contracts.live_count.Reads.Asked contracts.live_count.Reads.Learnt
+pub live-count : Settled stated.live_count.ended contracts.live_count.Reads.Asked contracts.live_count.Reads.Learnt
 live-count κs a = (tt, λ y z v w p q. (p ∙ sym q, refl))
 
-pub first-free : Settled contracts.first_free.ended contracts.first_free.Reads.Asked contracts.first_free.Reads.Learnt
+pub first-free : Settled stated.first_free.ended contracts.first_free.Reads.Asked contracts.first_free.Reads.Learnt
 first-free κs a = (tt, λ y z v w p q. (p ∙ sym q, refl))
 
-pub seated : Settled contracts.seated.ended contracts.seated.Reads.Asked contracts.seated.Reads.Learnt
+pub seated : Settled stated.seated.ended contracts.seated.Reads.Asked contracts.seated.Reads.Learnt
 seated κs a = (tt, λ y z v w p q. (p ∙ sym q, refl))
 
-pub clear : Settled contracts.clear.ended contracts.clear.Reads.Asked contracts.clear.Reads.Learnt
+pub clear : Settled stated.clear.ended contracts.clear.Reads.Asked contracts.clear.Reads.Learnt
 clear κs a = (tt, λ y z v w p q. (p ∙ sym q, refl))
 
-pub is-named : Settled contracts.is_named.ended contracts.is_named.Reads.Asked contracts.is_named.Reads.Learnt
+pub is-named : Settled stated.is_named.ended contracts.is_named.Reads.Asked contracts.is_named.Reads.Learnt
 is-named κs a = (tt, λ y z v w p q. (p ∙ sym q, refl))
 
-pub find : Settled contracts.find.ended contracts.find.Reads.Asked contracts.find.Reads.Learnt
+pub find : Settled stated.find.ended contracts.find.Reads.Asked contracts.find.Reads.Learnt
 find κs a = (tt, λ y z v w p q. (p ∙ sym q, refl))
 
-pub response-at : Settled contracts.response_at.ended contracts.response_at.Reads.Asked contracts.response_at.Reads.Learnt
+pub response-at : Settled stated.response_at.ended contracts.response_at.Reads.Asked contracts.response_at.Reads.Learnt
 response-at κs a = (tt, λ y z v w p q. (p ∙ sym q, refl))

@@ -1,4 +1,7 @@
 // The board: 64 places for responses, and the word that tells which of them are live.
+
+#![tactic(auto)]
+
 ghost use Rattle.std.specs.Prelude.{◌≡◌};
 ghost use Rattle.board.specs.rules.Board.{no_response, response_at, empty_board, is_live, live_count, first_free, seated_at, cleared, is_named, found};
 

@@ -1,4 +1,7 @@
 // What is decided of an event of a buy's auction, on small values.
+
+#![tactic(auto)]
+
 ghost use Rattle.std.specs.Prelude.{◌≡◌, cond, ltb};
 ghost use Rattle.decision.specs.rules.Decide.{seats, places, gtx_outcome, cancel_outcome, amended_by, amend_outcome, sell_limit_outcome, bid_quotes, moves, buy_limit_outcome, limit_outcome, market_outcome, new_quotes, quotes_outcome, outcome_of, response_of, is_non_routable};
 ghost use Rattle.auction.specs.rules.Range.{bound_by};

@@ -10,6 +10,9 @@
 //   desk live new        the same of event records of the new form, 40 bytes each
 //   desk move new < TAPE the tape in the new form; a refusal is its number on standard error, with nothing on standard output
 //   desk move old < TAPE the tape in the old form
+
+#![tactic(auto)]
+
 ghost use Rattle.std.specs.Prelude.{◌≡◌, ◌≤◌, length};
 ghost use Rattle.io.specs.Counts.{IsPrefixLen};
 

@@ -1,4 +1,7 @@
 // The engine for a program in C: one function over a tape's bytes and the bytes lent for its listing.
+
+#![tactic(auto)]
+
 ghost use Rattle.std.specs.Prelude.{◌≡◌};
 ghost use Rattle.listing.specs.rules.Listing.{length_in, listed_of, bytes_of};
 

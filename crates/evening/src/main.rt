@@ -1,5 +1,8 @@
 // Names of tape files on standard input, one to a line (with the argument -0: each ended by a zero byte): each name and its tape's listing on
 // standard output. At the end a summary on standard error, or, where the names could not be read or a listing not written, why.
+
+#![tactic(auto)]
+
 ghost use Rattle.std.specs.Prelude.{◌≡◌, length};
 ghost use Rattle.io.specs.Counts.{IsPrefixLen};
 ghost use Rattle.evening.specs.Counting.{one_more, no_tapes, counted_tape, counted_unreadable, counted_ending, counted_listed};

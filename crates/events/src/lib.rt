@@ -1,4 +1,7 @@
 // What an event does to an auction: what it sees of the board, and one turn that carries out what is decided of it.
+
+#![tactic(auto)]
+
 use auction::{Auction, Head};
 use decision::Change;
 

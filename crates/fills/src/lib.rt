@@ -1,4 +1,7 @@
 // The fills of an auction that has ended, into lent words.
+
+#![tactic(auto)]
+
 ghost use Rattle.std.specs.Prelude.{◌≡◌};
 ghost use Rattle.fills.specs.rules.Fills.{has_ended, deal_of, fills_answer, fills_after};
 

@@ -1,5 +1,8 @@
 // Names of tape files on standard input, one to a line: each name and its tape's listing on standard output, as `evening` prints it, but
 // played by the forms that document 01 names. A line `WRONG ..` stops the program.
+
+#![tactic(auto)]
+
 ghost use Rattle.std.specs.Prelude.{◌≡◌, ◌≤◌, length};
 
 use input::MOST;

@@ -1,4 +1,7 @@
 // A tape's bytes from an open file, and whether every read went well. What a file holds no contract can say.
+
+#![tactic(auto)]
+
 ghost use Rattle.std.specs.Prelude.{◌≡◌, ◌≤◌};
 ghost use Rattle.io.specs.Counts.{IsPrefixLen};
 

@@ -1,4 +1,7 @@
 // The runner's listing of a tape, into lent bytes.
+
+#![tactic(auto)]
+
 ghost use Rattle.std.specs.Prelude.{◌≡◌, cond, ◌+◌, ◌*◌, ◌≤◌, length};
 ghost use Rattle.board.specs.rules.Board.{empty_board};
 ghost use Rattle.tape.specs.rules.Tape.{order_in, records_of};

@@ -1,4 +1,7 @@
 // The mirror that turns a sell into a buy: orders and events as the buy's auction sees them.
+
+#![tactic(auto)]
+
 ghost use Rattle.std.specs.Prelude.{◌≡◌};
 ghost use Rattle.mirror.specs.rules.Mirror.{with_mark, mirrored_marks, mirrored_side, mirrored_unless, mirrored_order, mirrored_priced, mirrored_market, mirrored_quotes, mirrored_amend, mirrored_event, buy_order, buy_event};
 

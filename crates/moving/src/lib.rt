@@ -1,4 +1,7 @@
 // A tape moved from one form to the other, old to new or new to old, into lent bytes. Its records are not looked into, but for what a new one has and an old one has not.
+
+#![tactic(auto)]
+
 ghost use Rattle.std.specs.Prelude.{◌≡◌, true, false, ◌||◌, map, ◌+◌, ◌*◌, ◌≤◌, length};
 ghost use Rattle.tape.specs.rules.Records.{width_of};
 ghost use Rattle.tape.specs.rules.Tape.{length_of};

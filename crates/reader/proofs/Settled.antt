@@ -1,13 +1,14 @@
 -- Each public function's contract settles it. What is cited is made from the code's own clauses, so a clause that says less is refused here.
 use mathlib.Core.Path.{refl, sym, ◌∙◌}
 use Rattle.base.specs.Settled.{Settled}
+use Rattle.reader.specs.contracts as stated
 use Rattle.reader.proofs as contracts
 
-pub tape-order : Settled contracts.tape_order.ended contracts.tape_order.Reads.Asked contracts.tape_order.Reads.Learnt
+pub tape-order : Settled stated.tape_order.ended contracts.tape_order.Reads.Asked contracts.tape_order.Reads.Learnt
 tape-order κs a = (tt, λ y z v w p q. (p ∙ sym q, refl))
 
-pub tape-event : Settled contracts.tape_event.ended contracts.tape_event.Reads.Asked contracts.tape_event.Reads.Learnt
+pub tape-event : Settled stated.tape_event.ended contracts.tape_event.Reads.Asked contracts.tape_event.Reads.Learnt
 tape-event κs a = (tt, λ y z v w p q. (p ∙ sym q, refl))
 
-pub tape-next : Settled contracts.tape_next.ended contracts.tape_next.Reads.Asked contracts.tape_next.Reads.Learnt
+pub tape-next : Settled stated.tape_next.ended contracts.tape_next.Reads.Asked contracts.tape_next.Reads.Learnt
 tape-next κs a = (tt, λ y z v w p q. (p ∙ sym q, refl))

@@ -1,4 +1,7 @@
 // A tape that is held: the lent bytes with the trailer, which has the order's offset, and the place of an event. Each function over it is thin, over code on plain slices.
+
+#![tactic(auto)]
+
 ghost use Rattle.std.specs.Prelude.{◌≡◌};
 ghost use Rattle.tape.specs.rules.Tape.{order_in};
 ghost use Rattle.reader.specs.rules.Reader.{current_of, next_place, held, next_of};

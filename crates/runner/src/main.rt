@@ -1,4 +1,7 @@
 // Reads one tape on standard input and writes its listing on standard output. A read or a write that fails is said on standard error.
+
+#![tactic(auto)]
+
 ghost use Rattle.std.specs.Prelude.{◌≡◌, length};
 ghost use Rattle.io.specs.Counts.{IsPrefixLen};
 ghost use Rattle.listing.specs.rules.Listing.{length_in, listed_of, bytes_of};

@@ -1,10 +1,11 @@
 -- Each public function's contract settles it. What is cited is made from the code's own clauses, so a clause that says less is refused here.
 use mathlib.Core.Path.{refl, sym, ◌∙◌}
 use Rattle.base.specs.Settled.{Settled}
+use Rattle.steps.specs.contracts as stated
 use Rattle.steps.proofs as contracts
 
-pub step : Settled contracts.by_value.step.ended contracts.by_value.step.Reads.Asked contracts.by_value.step.Reads.Learnt
+pub step : Settled stated.by_value.step.ended contracts.by_value.step.Reads.Asked contracts.by_value.step.Reads.Learnt
 step κs a = (tt, λ y z v w p q. (p ∙ sym q, refl))
 
-pub close : Settled contracts.by_value.close.ended contracts.by_value.close.Reads.Asked contracts.by_value.close.Reads.Learnt
+pub close : Settled stated.by_value.close.ended contracts.by_value.close.Reads.Asked contracts.by_value.close.Reads.Learnt
 close κs a = (tt, λ y z v w p q. (p ∙ sym q, refl))

@@ -1,4 +1,7 @@
 // Records of a tape: the order, the events, the trailer; their form, reading and writing, a tape's opening, and its records one by one.
+
+#![tactic(auto)]
+
 mod event;
 mod form;
 mod order;

@@ -2,6 +2,9 @@
 //
 // A case is five words (what to run, v, n, h, t), v bytes of values, then h bytes for the start and t bytes for the end of the
 // n lent bytes; the bytes between are zero.
+
+#![tactic(auto)]
+
 use words::bytes::read_word;
 
 // ---- printing

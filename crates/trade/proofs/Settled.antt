@@ -1,7 +1,8 @@
 -- Each public function's contract settles it. What is cited is made from the code's own clauses, so a clause that says less is refused here.
 use mathlib.Core.Path.{sym, ◌∙◌, ap}
 use Rattle.base.specs.Settled.{Settled}
+use Rattle.trade.specs.contracts as stated
 use Rattle.trade.proofs as contracts
 
-pub write-fills : Settled contracts.write_fills.ended contracts.write_fills.Reads.Asked contracts.write_fills.Reads.Learnt
+pub write-fills : Settled stated.write_fills.ended contracts.write_fills.Reads.Asked contracts.write_fills.Reads.Learnt
 write-fills κs a = (tt, λ y z v w p q. (p.0 ∙ sym q.0, ap (λ x. (tt, (tt, (tt, (x, (tt, tt)))))) (p.1 ∙ sym q.1)))

@@ -1,4 +1,7 @@
 // Who trades when an auction has ended, and the fills written of it.
+
+#![tactic(auto)]
+
 ghost use Rattle.std.specs.Prelude.{◌≡◌, true, ◌+◌, ◌*◌, ◌≤◌, ◌<◌, length};
 ghost use Rattle.share.specs.rules.Fills.{fill_of};
 ghost use Rattle.share.specs.inside.Fills.{WroteFills};

@@ -26,7 +26,6 @@ use Rattle.listing.proofs.put_events.Goals as goal
 pub loop-k-init : goal.loop-k-init
 loop-k-init c = (omega arith, refl, omega arith, refl, left-start _ _ _, refl, rw c.empty-b.ensures empty-good)
 
-
 -- ---- the search for the response that the event names
 pub loop-rest-init : goal.loop-rest-init
 loop-rest-init c =
@@ -127,11 +126,14 @@ returns c =
     let l = c.loop-k in
     let s = a.tape.now in
     let none : rest s a.t l.k ≡ [] = rest-none s a.t l.k (omega arith) in
-    let first : whole a.a.head c.empty-b.result ≡ a.a = ap (whole a.a.head) (c.empty-b.ensures ∙ sym c.requires.1) in record { wrote_bytes = wrote-same (left-done (left-same l.invariant.4 (ap (λ (es : List Event). event_lines (heard (whole l.h l.b) es)) none)))
-          (ap₂ (λ (x : Auction) (es : List Event). event_lines (heard x es)) first (sym (rest_all s a.t))); auction_value = (
+    let first : whole a.a.head c.empty-b.result ≡ a.a = ap (whole a.a.head) (c.empty-b.ensures ∙ sym c.requires.1) in record {
+      wrote_bytes = wrote-same (left-done (left-same l.invariant.4 (ap (λ (es : List Event). event_lines (heard (whole l.h l.b) es)) none)))
+          (ap₂ (λ (x : Auction) (es : List Event). event_lines (heard x es)) first (sym (rest_all s a.t)));
+      auction_value = (
         closed-whole l.h l.b c.close_turn-last.result c.close_turn-last.ensures
             ∙ ap (λ (es : List Event). closed (run (whole l.h l.b) es)) (sym none)
             ∙ ap closed l.invariant.5
             ∙ ap₂ (λ (x : Auction) (es : List Event). closed (run x es)) first (sym (rest_all s a.t)),
         omega arith,
-      ) }
+      );
+    }

@@ -11,8 +11,11 @@ unfolding move_answer move_wrote
 returns-in-Trailer c =
     let a = c.args in
     let m = c.move_opened.ensures in
-    let e : last_trailer a.s.now ≡ GotTrailer c.in-Trailer.t = sym c.last_trailer.ensures ∙ c.in-Trailer.is in record { value = m.answer ∙ ap (move_with a.wide a.s.now a.out.now) (sym e); out_after = m.bytes ∙ ap (bytes_with a.wide a.s.now a.out.now (GotTrailer c.in-Trailer.t)) (m.answer ∙ ap (move_with a.wide a.s.now a.out.now) (sym e))
-          ∙ ap (λ (r : ReadTrailer). bytes_with a.wide a.s.now a.out.now r (move_with a.wide a.s.now a.out.now (last_trailer a.s.now))) (sym e) }
+    let e : last_trailer a.s.now ≡ GotTrailer c.in-Trailer.t = sym c.last_trailer.ensures ∙ c.in-Trailer.is in record {
+      value = m.answer ∙ ap (move_with a.wide a.s.now a.out.now) (sym e);
+      out_after = m.bytes ∙ ap (bytes_with a.wide a.s.now a.out.now (GotTrailer c.in-Trailer.t)) (m.answer ∙ ap (move_with a.wide a.s.now a.out.now) (sym e))
+          ∙ ap (λ (r : ReadTrailer). bytes_with a.wide a.s.now a.out.now r (move_with a.wide a.s.now a.out.now (last_trailer a.s.now))) (sym e);
+    }
 
 pub returns-in-Refused : goal.returns-in-Refused
 unfolding move_answer move_wrote

@@ -43,7 +43,6 @@ live-fits c = search rules
 pub guarantee_of-g-requires : goal.guarantee_of-g-requires
 guarantee_of-g-requires c = omega (arith, c.wide-size.ensures.1)
 
-
 -- ---- the lowest working price, for the market order
 pub loop-word-init : goal.loop-word-init
 loop-word-init c =
@@ -137,7 +136,6 @@ on c =
 
 above : (c : goal.In-loop-d) → (c.loop-d.s.from ≤ (level_of c.args.d c.args.b.places c.guarantee_of-g.result c.loop-d.s).price) × ((level_of c.args.d c.args.b.places c.guarantee_of-g.result c.loop-d.s).price ≤ trade.top c.args.d)
 above c = level-above c.args.d c.args.b.places c.args.b.live c.guarantee_of-g.result c.loop-d.s c.loop-d.invariant.4 (on c).1
-
 
 -- ---- a look: what stands at the two lowest prices
 pub loop-unseen-init : goal.loop-unseen-init
@@ -255,7 +253,6 @@ level-fills c =
     let t = on c.before.before.before.before.before.before in
     walk-fills c.args.d c.args.b.places c.args.b.live c.guarantee_of-g.result c.loop-d.s (guaranteed c.before.before.before.before.before.before.before.before.before.before.before.before.before.before.before.before.before) c.loop-d.invariant.4 t.1 t.0 _ _ _ (ap (λ (n : ℕ). n + 1) p.price-is) p.after_is (ap (λ (n : ℕ). c.loop-d.s.held + n) p.contra-is)
 
-
 -- ---- the cut: the fractions are added up
 pub loop-rest-init : goal.loop-rest-init
 unfolding sum
@@ -322,7 +319,6 @@ pub counted-a-requires : goal.counted-a-requires
 counted-a-requires c =
     λ k. let l = c.price_of-l.result in
     counts l.shared l.total c.args.b.places (len c.before.before.before.before.before.before.before.before.before.before.before.before.before.before.before.before.before.before.before.before.before.before.before.before.before.before.before) l.others (short c.before.before.before k) (others-fit c.before.before.before) c.loop-rest.sum (added-all c k)
-
 
 -- ---- and narrowed down
 pub loop-u-init : goal.loop-u-init
@@ -510,7 +506,6 @@ loop-h-preserved c =
     let t : to_serve c.price_of-l.result c.loop-u.a.mean c.args.b.places c.loop-h.h ≡ served_fills c.loop-h.h c.price_of-l.result c.loop-u.a.mean (get_or c.args.b.places c.first_set-i-in-loop-h.result no_response) ++ to_serve c.price_of-l.result c.loop-u.a.mean c.args.b.places c.filled-h.result = rw c.filled-h.ensures.value n.1 in
     (h, omega (arith, c.filled-h.auto.1.1.1.1.0, c.loop-h.invariant.1), left-turn (rw t at c.loop-h.invariant.2) c.filled-h.ensures.wrote_fills)
 
-
 -- ---- the walk stands after the price
 pub passed-s-requires : goal.passed-s-requires
 passed-s-requires c =
@@ -548,7 +543,6 @@ loop-d-preserved c =
           let q : c.loop-unseen.f.price ≡ (level_of a.d a.b.places c.guarantee_of-g.result s).price = sym (priced-price a.d c.guarantee_of-g.result s c.loop-unseen.f c.price_of-l.result c.price_of-l.ensures) ∙ p.price-is in
           sees-second a.d.bound c.top_of-top.result a.b.places s.rest c.loop-unseen.f c.loop-unseen.n (rw z at (c.loop-unseen.invariant.2 n)) (len c.before.before.before.before.before.before.before.before.before.before.before.before.before.before.before.before.before.before.before.before.before.before.before.before.before.before.before.before.before.before.before.before.before.before.before.before.before) c.loop-d.invariant.3 _ (rw q (omega (arith, p.gone, p.fits))) (omega (arith, q, p.price-is, h)),
     )
-
 
 -- ---- the end
 pub returns : goal.returns

@@ -40,5 +40,8 @@ returns c =
     let w = c.write_all-words in
     let e = not-false _ c.if-not-ended.false in
     let h : a.start ≤ length a.out.now = c.if-n-start.false in
-    let k : 390 ≤ length a.out.now - a.start = c.if-n-start-lt390.false in record { value = counted a.ended a.d a.b a.out.now a.start e h k _ (omega (arith, w.ensures.place)); out_after = words_back a.start a.out.now w.new.1.1.0 (fills_of a.d a.b) (omega (arith, fills-few a.d a.b (len s))) w.ensures.words
-          ∙ words-after a.ended a.d a.b a.out.now a.start e h k }
+    let k : 390 ≤ length a.out.now - a.start = c.if-n-start-lt390.false in record {
+      value = counted a.ended a.d a.b a.out.now a.start e h k _ (omega (arith, w.ensures.place));
+      out_after = words_back a.start a.out.now w.new.1.1.0 (fills_of a.d a.b) (omega (arith, fills-few a.d a.b (len s))) w.ensures.words
+          ∙ words-after a.ended a.d a.b a.out.now a.start e h k;
+    }
