@@ -12,7 +12,7 @@ use Rattle.base.proofs.ListLaws.{length-mapped}
 use Rattle.board.proofs.FindLaws.{find-low, find-rest, find_none}
 use Rattle.board.proofs.find.Goals as goal
 
-len : (c : goal.Start) → length c.args.b.places ≡ 64
+len : (c : goal.After-first_set-i) → length c.args.b.places ≡ 64
 len c = search (rules, length-mapped)
 
 -- the place that a turn looks at
@@ -30,7 +30,7 @@ returns-then-is_named c =
     let f = c.before.before.before in
     let s = f.before.before.before in
     let i = f.first_set-i.result in
-    let h : i < length s.args.b.places = omega (arith, len s, (low f).place) in
+    let h : i < length s.args.b.places = omega (arith, len f, (low f).place) in
     ap (λ (j : ℕ). record { place = j; response = response_at s.args.b.places j })
     (sym (find-low (is_named s.args.any s.args.sequence) f.loop-rest.rest s.args.b.places no_response i h (low f) (sym c.is_named.ensures ∙ c.if-is_named.true))
     ∙ f.loop-rest.invariant.1)
@@ -63,6 +63,7 @@ returns c =
     let s = e.before.before in
     let t = is_named s.args.any s.args.sequence in
     let ps = s.args.b.places in
-    let none : 64 ≡ find_named s.args.any s.args.b s.args.sequence = sym (ap (λ (v : ℕ). find_in t v ps) e.loop-rest-test.false ∙ find_none t ps ∙ len s) ∙ e.loop-rest.invariant.1 in
-    let nobody : c.no_response.result ≡ response_at ps 64 = c.no_response.ensures ∙ sym (get_or-eq_default ps no_response (omega (arith, len s))) in
+    let long : length ps ≡ 64 = search (rules, length-mapped) in
+    let none : 64 ≡ find_named s.args.any s.args.b s.args.sequence = sym (ap (λ (v : ℕ). find_in t v ps) e.loop-rest-test.false ∙ find_none t ps ∙ long) ∙ e.loop-rest.invariant.1 in
+    let nobody : c.no_response.result ≡ response_at ps 64 = c.no_response.ensures ∙ sym (get_or-eq_default ps no_response (omega (arith, long))) in
     ap (λ (r : Response). record { place = 64; response = r }) nobody ∙ ap (λ (j : ℕ). record { place = j; response = response_at ps j }) none

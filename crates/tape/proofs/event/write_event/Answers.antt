@@ -12,14 +12,14 @@ pub returns-then-not-event_held : goal.returns-then-not-event_held
 unfolding event_answer event_wrote
 returns-then-not-event_held c =
     let both = let a = c.args in
-    wrote-formless 32 (event_words a.wide a.e) a.out.now (sym c.event_held.ensures ∙ not-true _ c.if-not-event_held.true) in
+    wrote-formless 32 (event_words a.wide a.e) a.out.now (sym c.event_held.ensures ∙ c.if-not-event_held.true) in
     record { value = both.0; out_after = both.1 }
 
 pub returns-then-out-n : goal.returns-then-out-n
 unfolding event_answer event_wrote
 returns-then-out-n c =
     let both = let a = c.args in
-    wrote-short 32 (event_words a.wide a.e) a.out.now (sym c.event_held.ensures ∙ not-false _ c.if-not-event_held.false) (omega (arith, words_long a.wide a.e, c.event_bytes-n.ensures.0)) in
+    wrote-short 32 (event_words a.wide a.e) a.out.now (sym c.event_held.ensures ∙ c.if-not-event_held.false) (omega (arith, words_long a.wide a.e, c.event_bytes-n.ensures.0)) in
     record { value = both.0; out_after = both.1 }
 
 pub slice_bounds-write_words-end : goal.slice_bounds-write_words-end
@@ -30,6 +30,6 @@ unfolding event_answer event_wrote
 returns c =
     let both = let a = c.args in
     let n = c.event_bytes-n.ensures.0 in
-    wrote-done 32 (event_words a.wide a.e) a.out.now (sym c.event_held.ensures ∙ not-false _ c.if-not-event_held.false) (omega (arith, words_long a.wide a.e, n))
+    wrote-done 32 (event_words a.wide a.e) a.out.now (sym c.event_held.ensures ∙ c.if-not-event_held.false) (omega (arith, words_long a.wide a.e, n))
     (c.write_words.ensures ∙ ap (with_words a.out.now 0) (words-held a.wide a.e n c.join.ensures)) in
     record { value = both.0; out_after = both.1 }

@@ -10,19 +10,19 @@ pub returns-then-not-order_form : goal.returns-then-not-order_form
 unfolding order_answer order_wrote
 returns-then-not-order_form c =
     let both = let a = c.args in
-    wrote-formless 1 (order_words a.o) a.out.now (sym c.order_form.ensures ∙ not-true _ c.if-not-order_form.true) in
+    wrote-formless 1 (order_words a.o) a.out.now (sym c.order_form.ensures ∙ c.if-not-order_form.true) in
     record { value = both.0; out_after = both.1 }
 
 pub returns-then-out-lt-ORDER_BYTES : goal.returns-then-out-lt-ORDER_BYTES
 unfolding order_answer order_wrote order_words
 returns-then-out-lt-ORDER_BYTES c =
     let both = let a = c.args in
-    wrote-short 1 (order_words a.o) a.out.now (sym c.order_form.ensures ∙ not-false _ c.if-not-order_form.false) (omega arith) in
+    wrote-short 1 (order_words a.o) a.out.now (sym c.order_form.ensures ∙ c.if-not-order_form.false) (omega arith) in
     record { value = both.0; out_after = both.1 }
 
 pub returns : goal.returns
 unfolding order_answer order_wrote order_words
 returns c =
     let both = let a = c.args in
-    wrote-done 1 (order_words a.o) a.out.now (sym c.order_form.ensures ∙ not-false _ c.if-not-order_form.false) (omega arith) (cc) in
+    wrote-done 1 (order_words a.o) a.out.now (sym c.order_form.ensures ∙ c.if-not-order_form.false) (omega arith) (cc) in
     record { value = both.0; out_after = both.1 }
