@@ -56,7 +56,7 @@ loop-rest-preserved-then-is_named c =
     let l = f.before.before in
     let o = l.before.before.before.before.before.before in (
       omega arith,
-      look-found o.loop-k.b o.loop-k.invariant.6 l.record_in-e.result.f12 l.loop-rest.named l.loop-rest.rest f.first_set-i.result (low f) (sym c.is_named.ensures ∙ c.if-is_named.true) ∙ l.loop-rest.invariant.1,
+      look-found o.loop-k.b o.loop-k.invariant.6 l.record_in-e.result.f12 l.loop-rest.named l.loop-rest.rest f.first_set-i.result (low (goal.at.loop-rest-preserved-then-is_named c).After-first_set-i) (sym c.is_named.ensures ∙ c.if-is_named.true) ∙ l.loop-rest.invariant.1,
     )
 
 -- the places still to come after that turn
@@ -66,7 +66,7 @@ left c = c.without_lowest-rest.ensures ∙ without-lowest _ _ c.first_set-i.ensu
 pub loop-rest-smaller : goal.loop-rest-smaller
 loop-rest-smaller c =
     let f = c.before.before.before.before in
-    omega (arith, left c, without-lt f.loop-rest.rest f.first_set-i.result (low f).set)
+    omega (arith, left c, without-lt f.loop-rest.rest f.first_set-i.result (low (goal.at.loop-rest-smaller c).After-first_set-i).set)
 
 pub loop-rest-preserved : goal.loop-rest-preserved
 loop-rest-preserved c =
@@ -102,7 +102,7 @@ loop-k-preserved c =
     let l = c.loop-k in
     let k = c.loop-k-test.true in
     let e = c.record_in-e in
-    let v = seen c.before.before.before.before.before.before.before in
+    let v = seen (goal.at.loop-k-preserved c).After-sight_of-v in
     let u = c.turn-u in
     let eu = u.ensures ∙ ap (λ (x : Sight). turn_of l.h x e.result) v in
     let seated : c.match-c.b ≡ board_after l.b u.result.change =
