@@ -3,18 +3,17 @@ use mathlib.Core.Path.{◌≡◌, refl, sym, ap, ◌∙◌, subst}
 use mathlib.Core.Bool.{Bool, true, false, cond, ◌&&◌, not}
 use mathlib.Core.List.{List, [], ◌∷◌, ◌++◌}
 use mathlib.Core.Logic.{◌⊎◌, inl, inr, ◌≢◌}
-use Prim.Native.Nat.{ℕ, zero, suc, ◌+◌, ◌-◌, ◌*◌, ◌/◌, ◌≤◌, ◌<◌, max}
+use Prim.Native.Nat.{ℕ, zero, suc, ◌+◌, ◌-◌, ◌≤◌, ◌<◌, max}
 use native.Mathlib.Nat.{mul-div_cancel_left, zero-mul, zero-div}
 use native.Mathlib.Omega.{arith}
 use borrow.Author.Tests.{leb-true, leb-false, eqb-true, eqb-false, lt-ltb}
 use lib.Dec.{leb, ltb, eqb}
 use Rattle.board.specs.declared.Response.{Response}
 use Rattle.base.specs.Lists.{filter, sum, In}
-use Rattle.share.specs.rules.Share.{shares}
 use Rattle.share.specs.promises.Share.{Near}
 use Rattle.share.specs.rules.Fills.{Fill, sizes}
 use Rattle.trade.specs.declared.Deal.{Deal}
-use Rattle.trade.specs.rules.Trade.{from_other, Level, others, first, shared, given, rest, contra, level_fills, traded, flat, working, entry, guarantee, offers_at, walk, fills, size_here}
+use Rattle.trade.specs.rules.Trade.{from_other, Level, others, first, shared, given, rest, contra, level_fills, traded, flat, working, entry, guarantee, offers_at, size_here}
 use Rattle.demand.specs.promises.Demands.{Distinct, got, got_below, gots, sold_above, others_at}
 use Rattle.base.proofs.ListLaws.{every_map, in-filter, filter-in, filter-test}
 use Rattle.demand.proofs.Lists.{tally-append, tally-all, gots-same}

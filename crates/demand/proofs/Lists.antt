@@ -1,6 +1,6 @@
 -- Laws of the lists behind `Trade`: what holds of all, what is kept, what a party gets.
 use mathlib.Core.Path.{◌≡◌, refl, sym, ap, ap₂, ◌∙◌, subst}
-use mathlib.Core.Bool.{Bool, true, false, cond, not, ◌&&◌}
+use mathlib.Core.Bool.{Bool, true, false, cond, ◌&&◌}
 use mathlib.Core.List.{List, [], ◌∷◌, ◌++◌}
 use mathlib.Core.Logic.{inl, inr, ◌≢◌}
 use Prim.Native.Nat.{ℕ, ◌+◌, ◌≤◌, ◌<◌}
@@ -13,7 +13,7 @@ use Rattle.base.proofs.ListLaws.{every_append, every_map, every_in, every-filter
 use Rattle.base.specs.Lists.{Every, keep, filter, In}
 use Rattle.share.specs.promises.Share.{Each}
 use Rattle.share.specs.rules.Fills.{Fill, fill_of, fills_by, sizes}
-use Rattle.trade.specs.rules.Trade.{traded, fills}
+use Rattle.trade.specs.rules.Trade.{traded}
 use Rattle.demand.specs.promises.Demands.{Absent, Distinct, tally, got, gots, sold_at}
 
 -- responses and quantities side by side

@@ -12,7 +12,7 @@ use Rattle.base.proofs.Bools.{and-no-right}
 use Rattle.base.specs.Lists.{Every, In}
 use Rattle.share.specs.rules.Fills.{Fill}
 use Rattle.trade.specs.declared.Deal.{Deal}
-use Rattle.trade.specs.rules.Trade.{Level, first, level_fills, traded, flat, working, guarantee, offers_at, walk, levels, fills, size_here, contra}
+use Rattle.trade.specs.rules.Trade.{Level, first, level_fills, traded, flat, working, guarantee, offers_at, size_here, contra}
 use Rattle.demand.specs.promises.Demands.{Absent, Distinct, got, got_below, sold_at, sold_below, InRange}
 use Rattle.base.proofs.ListLaws.{every_append, every_map, every_in, every-filter, in-filter}
 use Rattle.demand.proofs.Lists.{distinct-keep, absent-keep, tally-append, tally-none, tally-all, got-none, sold_at-none}

@@ -12,7 +12,7 @@ use Rattle.board.specs.declared.Response.{Response}
 use Rattle.base.specs.Lists.{Every, In}
 use Rattle.trade.specs.declared.Deal.{Deal}
 use Rattle.trade.specs.rules.Plan.{Plan, plan_of}
-use Rattle.trade.specs.rules.Trade.{Level, contra, level_fills, traded, working, working_stop, top, entry, next, guarantee, offers_at, level_at, walk, levels, size_here}
+use Rattle.trade.specs.rules.Trade.{Level, contra, level_fills, traded, working, working_stop, top, entry, next, guarantee, offers_at, level_at, walk, size_here}
 use Rattle.trade.specs.inside.Code.{match_of, last_of, want_of}
 use Rattle.demand.specs.promises.Demands.{Absent, Distinct, plan_on}
 use Rattle.trade.proofs.PlanLaws.{plan-is}

@@ -38,7 +38,7 @@ use Rattle.events.specs.rules.Step.{sight_of, board_after, turn_of, close_turn, 
 use Rattle.auction.specs.rules.Range.{range_of}
 use Rattle.fills.specs.rules.Fills.{deal_of, auction_fills}
 use Rattle.listing.specs.rules.Text.{text, decimal, newline}
-use Rattle.run.specs.rules.Run.{Said, run, heard, refused, closed, run_entry, run_order, run_tape, run_of}
+use Rattle.run.specs.rules.Run.{Said, run, heard, closed, run_entry, run_order, run_tape, run_of}
 use Rattle.listing.specs.rules.Listing.{field, refused_line, range_text, side_text, auction_line, answer_text, event_text, event_line, event_line_with, end_text, end_line, party_text, fill_line, total_line, event_lines, fill_lines, end_lines, lines_of, listing_of, room_of}
 use Rattle.listing.proofs.DecimalLaws.{decimal-short}
 use Rattle.listing.proofs.RunLaws.{tape-fits}

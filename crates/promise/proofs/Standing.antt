@@ -45,7 +45,7 @@ use Rattle.auction.proofs.Accepted.{opened}
 use Rattle.run.proofs.SoundLaws.{sound-opened, sound-step}
 use Rattle.run.proofs.MarketFrom.{side-in, sided, buy-form, other-side, terms-stay, run-terms, untaken}
 use Rattle.run.proofs.Amends.{found-is, others_apart}
-use Rattle.run.proofs.Resend.{rising, one}
+use Rattle.run.proofs.Resend.{rising}
 use Rattle.promise.specs.rules.Sides.{is_sell, other_side, better, initiating_price, sent, responses, sent_by, sent_instead, takes_place, stands_after, standing_from, standing_of, has_named, given_size, given_price, taken_records, at_end, written_fills, live_at_end}
 use Rattle.promise.specs.promises.Parts.{Sends, auction_after}
 use Rattle.promise.specs.promises.Parts.Sends.{places, amends}

@@ -10,7 +10,7 @@ use lib.ListN.{length}
 use Rattle.board.specs.declared.Response.{Response}
 use Rattle.base.specs.Lists.{keep, filter, sum}
 use Rattle.share.specs.rules.Fills.{Fill, fill_of, fills_by, sizes}
-use Rattle.trade.specs.rules.Trade.{from_customer, from_other, others, traded, fills}
+use Rattle.trade.specs.rules.Trade.{from_customer, from_other, traded}
 
 -- Customers and others together are all
 pub sizes-split : (os : List Response) → sum (sizes (filter from_customer os)) + sum (sizes (filter from_other os)) ≡ sum (sizes os)

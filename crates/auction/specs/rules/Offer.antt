@@ -2,7 +2,6 @@
 use Rattle.std.specs.Prelude.{ℕ, ◌+◌, ◌-◌}
 use Rattle.auction.specs.rules.Range.{word}
 use Rattle.auction.specs.declared.Auction.{Auction}
-use Rattle.auction.specs.declared.Head.{Head}
 
 -- as it is kept, with no look at the board
 abbrev pub on_offer : Auction → ℕ

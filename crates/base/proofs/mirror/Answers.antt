@@ -1,6 +1,5 @@
 -- `base::mirror` meets its contract. Assumes nothing.
 use native.Mathlib.Omega.{arith}
-use borrow.Author.Rules.{rules}
 use Rattle.base.specs.Price.{mirrored}
 use Rattle.base.proofs.mirror.Goals as goal
 

@@ -1,5 +1,4 @@
 -- `board::clear` meets its contract. Assumes nothing.
-use borrow.Author.Rules.{rules}
 use Rattle.board.proofs.clear.Goals as goal
 
 pub returns : goal.returns

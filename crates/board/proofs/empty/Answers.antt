@@ -1,7 +1,6 @@
 -- `board::empty` meets its contract. Assumes nothing.
 use mathlib.Core.Path.{ap}
 use lib.ListN.{replicate}
-use borrow.Author.Rules.{rules}
 use Rattle.board.specs.rules.Board.{empty_board}
 use Rattle.board.specs.declared.Response.{Response}
 use Rattle.board.proofs.empty.Goals as goal

@@ -1,6 +1,5 @@
 -- `board::seated` meets its contract. Assumes nothing.
 use mathlib.Core.Path.{sym}
-use borrow.Author.Rules.{rules}
 use Rattle.board.proofs.BoardLaws.{seated-is, seated-past}
 use Rattle.board.proofs.seated.Goals as goal
 

@@ -1,6 +1,5 @@
 use borrow.Author.Tests.{lt-ltb, le-ltb}
 use Rattle.decision.specs.rules.Decide.{amend_outcome}
-use borrow.Author.Rules.{rules}
 use Rattle.decision.proofs.amend.Goals as goal
 
 pub returns-then-t-e : goal.returns-then-t-e

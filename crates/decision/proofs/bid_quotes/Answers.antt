@@ -1,5 +1,4 @@
 use Rattle.decision.specs.rules.Decide.{bid_quotes}
-use borrow.Author.Rules.{rules}
 use Rattle.decision.proofs.bid_quotes.Goals as goal
 
 pub returns : goal.returns

@@ -1,6 +1,5 @@
 use borrow.Author.Tests.{le-leb, lt-leb}
 use Rattle.decision.specs.rules.Decide.{buy_limit_outcome}
-use borrow.Author.Rules.{rules}
 use Rattle.decision.proofs.buy_limit.Goals as goal
 
 pub returns-then-market_price-e : goal.returns-then-market_price-e

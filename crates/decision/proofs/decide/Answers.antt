@@ -1,6 +1,5 @@
 use borrow.Author.Tests.{eq-eqb, ne_eqb}
 use Rattle.decision.specs.rules.Decide.{outcome_of}
-use borrow.Author.Rules.{rules}
 use Rattle.decision.proofs.decide.Goals as goal
 
 pub returns-then-e-eq1 : goal.returns-then-e-eq1

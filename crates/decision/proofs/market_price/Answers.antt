@@ -1,4 +1,3 @@
-use borrow.Author.Rules.{rules}
 use Rattle.decision.proofs.market_price.Goals as goal
 
 pub returns-then-mark : goal.returns-then-mark

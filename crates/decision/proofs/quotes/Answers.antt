@@ -1,5 +1,4 @@
 use Rattle.decision.specs.rules.Decide.{quotes_outcome}
-use borrow.Author.Rules.{rules}
 use Rattle.decision.proofs.quotes.Goals as goal
 
 pub returns-then-exceeds : goal.returns-then-exceeds

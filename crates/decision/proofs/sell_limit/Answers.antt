@@ -1,6 +1,5 @@
 use borrow.Author.Tests.{le-leb, lt-leb}
 use Rattle.decision.specs.rules.Decide.{sell_limit_outcome}
-use borrow.Author.Rules.{rules}
 use Rattle.decision.proofs.sell_limit.Goals as goal
 
 pub returns-then-e-t : goal.returns-then-e-t

@@ -1,6 +1,5 @@
 use mathlib.Core.Path.{ap, ◌∙◌}
 use Rattle.listing.specs.rules.Listing.{length_in}
-use borrow.Author.Rules.{rules}
 use Rattle.engine.proofs.cube_listing.Goals as goal
 
 pub returns : goal.returns

@@ -1,5 +1,4 @@
 use Rattle.fills.specs.rules.Fills.{deal_of}
-use borrow.Author.Rules.{rules}
 use Rattle.fills.proofs.deal_of.Goals as goal
 
 pub returns : goal.returns

@@ -3,7 +3,6 @@ use Rattle.trade.specs.declared.Deal.{Deal}
 use Rattle.trade.specs.rules.Write.{fill_answer, fill_words}
 use Rattle.fills.specs.rules.Fills.{has_ended}
 use mathlib.Core.Path.{ap, ◌∙◌}
-use borrow.Author.Rules.{rules}
 use Rattle.fills.proofs.write_fills.Goals as goal
 
 pub returns : goal.returns

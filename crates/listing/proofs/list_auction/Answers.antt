@@ -6,7 +6,6 @@ use Rattle.fills.specs.rules.Fills.{has_ended}
 use Rattle.run.specs.rules.Run.{run, closed}
 use Rattle.listing.proofs.RunLaws.{closed-ended}
 use Rattle.listing.proofs.ListsLaws.{auction-lists}
-use borrow.Author.Rules.{rules}
 use Rattle.listing.proofs.list_auction.Goals as goal
 
 pub put_results-n-requires : goal.put_results-n-requires

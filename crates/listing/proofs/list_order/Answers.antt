@@ -5,7 +5,6 @@ use Rattle.auction.specs.declared.Opening.{Opening}
 use Rattle.run.specs.rules.Run.{refused, run_entry}
 use Rattle.listing.proofs.LengthLaws.{accept-empty}
 use Rattle.listing.proofs.ListsLaws.{lists-same}
-use borrow.Author.Rules.{rules}
 use Rattle.listing.proofs.list_order.Goals as goal
 
 pub list_auction-requires : goal.list_auction-requires

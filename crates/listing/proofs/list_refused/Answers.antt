@@ -1,6 +1,5 @@
 use Rattle.run.specs.rules.Run.{refused}
 use Rattle.listing.proofs.ListsLaws.{wrote-lists}
-use borrow.Author.Rules.{rules}
 use Rattle.listing.proofs.list_refused.Goals as goal
 
 pub returns : goal.returns

@@ -3,7 +3,6 @@ use mathlib.Core.Path.{sym, ap, ◌∙◌}
 use Rattle.tape.specs.rules.Tape.{records_of}
 use Rattle.run.specs.rules.Run.{refused, run_order}
 use Rattle.listing.proofs.ListsLaws.{lists-same}
-use borrow.Author.Rules.{rules}
 use Rattle.listing.proofs.list_tape.Goals as goal
 
 pub returns-in-Order : goal.returns-in-Order

@@ -3,7 +3,6 @@ use mathlib.Core.Path.{sym, ap, ◌∙◌}
 use Rattle.run.specs.rules.Run.{refused, run_tape, run_of}
 use Rattle.listing.proofs.RunLaws.{tape-fits}
 use Rattle.listing.proofs.ListsLaws.{lists-same, too_small, lists-whole}
-use borrow.Author.Rules.{rules}
 use Rattle.listing.proofs.listing.Goals as goal
 
 pub returns-then-out-lt-ROOM : goal.returns-then-out-lt-ROOM

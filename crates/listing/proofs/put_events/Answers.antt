@@ -1,23 +1,18 @@
 use mathlib.Core.Path.{◌≡◌, refl, sym, ap, ap₂, ◌∙◌}
-use mathlib.Core.Logic.{⊎_elim}
-use Prim.Native.Nat.{◌+◌, ◌-◌, ◌*◌, ◌^◌, ◌≤◌, ◌<◌}
 use native.Mathlib.Omega.{arith}
-use lib.ListN.{length}
 use borrow.Author.Rules.{rules}
 use Rattle.run.specs.rules.Run.{run, heard, closed}
-use Rattle.events.specs.rules.Step.{found_for, sight_of, board_after, turn_of}
-use Rattle.events.proofs.SightLaws.{found_at, sight-found}
+use Rattle.events.specs.rules.Step.{sight_of, board_after, turn_of}
+use Rattle.events.proofs.SightLaws.{sight-found}
 use Rattle.words.specs.rules.Bits.{without_bit}
 use Rattle.words.proofs.BitLaws.{without-le, without-lt, without-lowest, LowestBit, lowest_set}
 use Rattle.board.specs.declared.Response.{Response}
-use Rattle.board.specs.promises.Board.{Good}
 use Rattle.board.proofs.BoardLaws.{empty-good}
 use Rattle.auction.specs.declared.Auction.{Auction}
 use Rattle.decision.specs.declared.Sight.{Sight}
 use Rattle.tape.specs.declared.event.Event.{Event}
 use mathlib.Core.List.{List, []}
 use Rattle.listing.specs.rules.Listing.{event_lines}
-use Rattle.words.specs.inside.Writing.{LeftBytes}
 use Rattle.words.proofs.WroteLaws.{wrote-same, left-start, left-wrote, left-same, left-done}
 use Rattle.listing.proofs.LookLaws.{looked, sought-le, look-start, look-end, look-found, look-next}
 use Rattle.listing.proofs.RunLaws.{whole, closed-whole, seat-set, seat-past, seat-free, seat-none, good-after, rest, rest-none, rest_all, events-turn, run-turn}

@@ -1,5 +1,4 @@
 use Rattle.mirror.specs.rules.Mirror.{buy_event}
-use borrow.Author.Rules.{rules}
 use Rattle.mirror.proofs.buy_event.Goals as goal
 
 pub returns-then-sell : goal.returns-then-sell

@@ -1,6 +1,5 @@
 use borrow.Author.Tests.{eq-eqb, ne_eqb}
 use Rattle.mirror.specs.rules.Mirror.{buy_order}
-use borrow.Author.Rules.{rules}
 use Rattle.mirror.proofs.buy_order.Goals as goal
 
 pub returns-then-o-eq2 : goal.returns-then-o-eq2

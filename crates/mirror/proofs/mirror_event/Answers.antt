@@ -1,6 +1,5 @@
 use borrow.Author.Tests.{eq-eqb, ne_eqb}
 use Rattle.mirror.specs.rules.Mirror.{mirrored_event}
-use borrow.Author.Rules.{rules}
 use Rattle.mirror.proofs.mirror_event.Goals as goal
 
 pub returns-then-e-eq1 : goal.returns-then-e-eq1

@@ -1,5 +1,4 @@
 use Rattle.mirror.specs.rules.Mirror.{mirrored_market}
-use borrow.Author.Rules.{rules}
 use Rattle.mirror.proofs.mirror_market.Goals as goal
 
 pub returns : goal.returns

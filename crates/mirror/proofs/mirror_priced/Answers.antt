@@ -1,5 +1,4 @@
 use Rattle.mirror.specs.rules.Mirror.{mirrored_priced}
-use borrow.Author.Rules.{rules}
 use Rattle.mirror.proofs.mirror_priced.Goals as goal
 
 pub returns : goal.returns

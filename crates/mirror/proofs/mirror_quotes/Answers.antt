@@ -1,5 +1,4 @@
 use Rattle.mirror.specs.rules.Mirror.{mirrored_quotes}
-use borrow.Author.Rules.{rules}
 use Rattle.mirror.proofs.mirror_quotes.Goals as goal
 
 pub returns : goal.returns

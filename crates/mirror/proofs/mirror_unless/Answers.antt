@@ -1,4 +1,3 @@
-use borrow.Author.Rules.{rules}
 use Rattle.mirror.proofs.mirror_unless.Goals as goal
 
 pub returns-then-none : goal.returns-then-none

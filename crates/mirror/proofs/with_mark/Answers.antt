@@ -1,4 +1,3 @@
-use borrow.Author.Rules.{rules}
 use Rattle.mirror.proofs.with_mark.Goals as goal
 
 pub returns-then-set : goal.returns-then-set

@@ -4,14 +4,12 @@ use mathlib.Core.List.{List}
 use Prim.Native.Nat.{ℕ, ◌+◌, ◌*◌, ◌-◌, ◌≤◌}
 use native.Mathlib.Omega.{arith}
 use lib.ListN.{length, drop}
-use borrow.Author.Tests.{not-true, not-false}
 use Rattle.tape.specs.declared.trailer.Trailer.{Trailer}
 use Rattle.tape.specs.rules.Records.{width_of}
 use Rattle.tape.specs.rules.Tape.{length_of}
 use Rattle.tape.specs.rules.Whole.{parts, records_bytes}
 use Rattle.moving.specs.rules.Moving.{all_bare}
 use Rattle.moving.proofs.CodeLaws.{bare-turn}
-use borrow.Author.Rules.{rules}
 use Rattle.moving.proofs.all_bare.Goals as goal
 use Rattle.moving.proofs.all_bare.Goals.{After-is_bare}
 

@@ -1,17 +1,8 @@
-use mathlib.Core.Path.{◌≡◌, sym, ap, ◌∙◌}
-use mathlib.Core.Bool.{Bool, true, cond, ◌&&◌}
-use mathlib.Core.List.{List}
-use Prim.Native.Nat.{ℕ, ◌+◌, ◌*◌, ◌-◌, ◌≤◌}
-use native.Mathlib.Omega.{arith}
+use mathlib.Core.Path.{◌≡◌}
+use Prim.Native.Nat.{◌+◌, ◌*◌, ◌-◌, ◌≤◌}
 use lib.ListN.{length, drop}
-use borrow.Author.Tests.{not-true, not-false}
-use Rattle.tape.specs.declared.trailer.Trailer.{Trailer}
-use Rattle.tape.specs.rules.Records.{width_of}
-use Rattle.tape.specs.rules.Tape.{length_of}
-use Rattle.tape.specs.rules.Whole.{parts, records_bytes}
+use Rattle.tape.specs.rules.Whole.{parts}
 use Rattle.moving.specs.rules.Moving.{all_bare}
-use Rattle.moving.proofs.CodeLaws.{bare-turn}
-use borrow.Author.Rules.{rules}
 use Rattle.moving.proofs.all_bare.Given as goal
 
 -- the invariant: the events still to come are all bare exactly where all of the tape's are

@@ -1,4 +1,3 @@
-use borrow.Author.Rules.{rules}
 use Rattle.moving.proofs.is_bare.Goals as goal
 
 pub returns : goal.returns

@@ -2,11 +2,10 @@ use mathlib.Core.Path.{◌≡◌, refl, sym, ap, ◌∙◌}
 use mathlib.Core.Bool.{true, false, ◌||◌}
 use native.Mathlib.Omega.{arith}
 use lib.ListN.{length}
-use borrow.Author.Tests.{lt-ltb, le-ltb, eq-eqb, ne_eqb, not-true, not-false}
+use borrow.Author.Tests.{lt-ltb, le-ltb, eq-eqb, ne_eqb}
 use Rattle.tape.specs.rules.Tape.{length_of}
 use Rattle.tape.specs.rules.Whole.{records_bytes}
 use Rattle.moving.specs.rules.Moving.{has_form, moved_trailer, all_bare, move_opened}
-use borrow.Author.Rules.{rules}
 use Rattle.moving.proofs.move_opened.Goals as goal
 use Rattle.moving.proofs.move_opened.Goals.{After-length_of-n, Else-has_form, Else-length_of-s, Else-not-nothing_lost}
 

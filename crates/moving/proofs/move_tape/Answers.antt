@@ -3,7 +3,6 @@ use Rattle.tape.specs.declared.trailer.ReadTrailer.{ReadTrailer}
 use Rattle.tape.specs.declared.trailer.ReadTrailer.TheVariants.{Trailer as GotTrailer, Refused as NoTrailer}
 use Rattle.tape.specs.rules.Tape.{last_trailer}
 use Rattle.moving.specs.rules.Moving.{move_with, move_answer, bytes_with, move_wrote}
-use borrow.Author.Rules.{rules}
 use Rattle.moving.proofs.move_tape.Goals as goal
 
 pub returns-in-Trailer : goal.returns-in-Trailer

@@ -9,7 +9,6 @@ use Rattle.words.proofs.WroteLaws.{wrote-append, wrote-same}
 use Rattle.tape.specs.rules.Records.{width_of}
 use Rattle.tape.proofs.RecordLaws.{width-ge}
 use Rattle.moving.specs.rules.Moving.{moved_record}
-use borrow.Author.Rules.{rules}
 use Rattle.moving.proofs.put_record.Goals as goal
 
 -- a new record has 8 bytes more

@@ -1,15 +1,14 @@
 use mathlib.Core.Path.{◌≡◌, sym, ap, ◌∙◌}
 use mathlib.Core.Bool.{Bool}
 use mathlib.Core.List.{List, map}
-use Prim.Native.Nat.{ℕ, ◌+◌, ◌*◌, ◌-◌, ◌≤◌}
+use Prim.Native.Nat.{ℕ, ◌+◌, ◌*◌, ◌-◌}
 use native.Mathlib.Omega.{arith}
 use lib.ListN.{length, take, drop, length-drop}
 use Rattle.base.proofs.SetsLaws.{rest-is}
-use Rattle.words.specs.inside.Writing.{LeftBytes}
 use Rattle.words.proofs.WroteLaws.{left-start, left-same, left-done, wrote-same}
 use Rattle.tape.specs.declared.trailer.Trailer.{Trailer}
 use Rattle.tape.specs.rules.Records.{width_of}
-use Rattle.tape.specs.rules.Whole.{together, parts, records_bytes}
+use Rattle.tape.specs.rules.Whole.{together, records_bytes}
 use Rattle.moving.specs.rules.Moving.{moved_record}
 use Rattle.moving.proofs.MoveLaws.{moved-width}
 use Rattle.moving.proofs.CodeLaws.{rest, less-long, record-turn}

@@ -1,19 +1,9 @@
-use mathlib.Core.Path.{◌≡◌, sym, ap, ◌∙◌}
-use mathlib.Core.Bool.{Bool}
-use mathlib.Core.List.{List, map}
-use Prim.Native.Nat.{ℕ, ◌+◌, ◌*◌, ◌-◌, ◌≤◌}
-use native.Mathlib.Omega.{arith}
-use lib.ListN.{length, take, drop, length-drop}
-use Rattle.base.proofs.SetsLaws.{rest-is}
+use mathlib.Core.Path.{◌≡◌}
+use Prim.Native.Nat.{◌+◌, ◌*◌, ◌-◌, ◌≤◌}
+use lib.ListN.{length}
 use Rattle.words.specs.inside.Writing.{LeftBytes}
-use Rattle.words.proofs.WroteLaws.{left-start, left-same, left-done, wrote-same}
-use Rattle.tape.specs.declared.trailer.Trailer.{Trailer}
 use Rattle.tape.specs.rules.Records.{width_of}
-use Rattle.tape.specs.rules.Whole.{together, parts, records_bytes}
-use Rattle.moving.specs.rules.Moving.{moved_record}
-use Rattle.moving.proofs.MoveLaws.{moved-width}
 use Rattle.moving.proofs.CodeLaws.{rest}
-use borrow.Author.Rules.{rules}
 use Rattle.moving.proofs.put_records.Given as goal
 
 -- the invariant: to write the records still to come comes to the same as to write all

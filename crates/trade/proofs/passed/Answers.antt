@@ -1,6 +1,5 @@
 use mathlib.Core.Path.{refl}
 use Rattle.trade.specs.inside.Code.{passed_of}
-use borrow.Author.Rules.{rules}
 use Rattle.trade.proofs.passed.Goals as goal
 
 pub returns : goal.returns

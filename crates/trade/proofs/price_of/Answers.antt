@@ -1,7 +1,6 @@
 use mathlib.Core.Path.{refl}
 use Rattle.trade.specs.inside.Code.{priced_of}
 use native.Mathlib.Omega.{arith}
-use borrow.Author.Rules.{rules}
 use Rattle.trade.proofs.price_of.Goals as goal
 
 pub left_of-requires : goal.left_of-requires

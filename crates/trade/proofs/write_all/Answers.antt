@@ -1,5 +1,5 @@
 use mathlib.Core.Path.{◌≡◌, refl, sym, ap, ap₂, ◌∙◌}
-use mathlib.Core.Bool.{Bool, true, false, cond, not, false≢true, true≢false}
+use mathlib.Core.Bool.{Bool, true, false, cond, false≢true, true≢false}
 use mathlib.Core.List.{◌++◌}
 use mathlib.Core.Logic.{inl, inr, ⊎_elim}
 use Prim.Native.Nat.{ℕ, ◌+◌, ◌-◌, ◌*◌, ◌^◌, ◌≤◌, ◌<◌, min, max}
@@ -9,7 +9,7 @@ use lib.Dec.{eqb}
 use lib.ListN.{length, get_or, length-append}
 use borrow.Author.Rules.{rules}
 use borrow.Author.Tests.{not-true, not-false}
-use Rattle.base.specs.Lists.{filter, sum}
+use Rattle.base.specs.Lists.{sum}
 use Rattle.base.proofs.Bools.{bool-or}
 use Rattle.base.proofs.ListLaws.{length-mapped}
 use Rattle.words.specs.rules.Bits.{without_bit}
@@ -17,7 +17,6 @@ use Rattle.words.proofs.BitLaws.{without-le, without-lowest}
 use Rattle.board.specs.rules.Board.{no_response, live_in, live_of, in_sequence}
 use Rattle.share.specs.rules.Share.{leftover_count}
 use Rattle.share.specs.rules.Fills.{fill_of, sizes}
-use Rattle.share.specs.inside.Fills.{LeftFills}
 use Rattle.share.specs.inside.Cut.{Cuts}
 use Rattle.share.proofs.FillsLaws.{wrote-append, left-start, left-turn, left-done}
 use Rattle.trade.specs.rules.Trade.{offers, level_fills, flat, market_price}
@@ -26,11 +25,11 @@ use Rattle.trade.specs.rules.Write.{reported_price, reported, fills_of}
 use Rattle.trade.specs.inside.Code.{least_of, Stands, Short, no_cut, counted_of, fractions_in, place_fills, level_of, passed_of, walk_from, hand_of, next_of, next_fills, served_of, served_fills, market_by}
 use Rattle.trade.proofs.CodeLaws.{Turn, turn-of, least-le, least-none, least-turn, count_turn, fractions-turn, fractions-none, unseen-le, unseen-all}
 use Rattle.trade.proofs.FoundLaws.{Sees, sees-start, sees-small, sees-skip, sees-same, sees-other, sees-first, sees-second}
-use Rattle.trade.proofs.StepLaws.{ahead, rest-is, goes, stays}
+use Rattle.trade.proofs.StepLaws.{rest-is, goes, stays}
 use Rattle.trade.proofs.LevelLaws.{Priced, priced, priced-price, ahead-all, walk-fills, walk-done, level-above}
-use Rattle.trade.proofs.NarrowLaws.{Search, seek_work, search-some, sum_low, counts, search-start, upper-within, search-look, search-end, search-halves, search-low, search-next, search-less}
+use Rattle.trade.proofs.NarrowLaws.{Search, search-some, sum_low, counts, search-start, upper-within, search-look, search-end, search-halves, search-low, search-next, search-less}
 use Rattle.trade.proofs.ServeLaws.{short-of, Hands, to_serve, to-serve-done, hands_start, hands-met, hands-served, hands_next}
-use Rattle.trade.proofs.RunLaws.{serve_work, work-met, work-served, work-next}
+use Rattle.trade.proofs.RunLaws.{work-met, work-served, work-next}
 use Rattle.trade.proofs.WholeLaws.{guarantee-found, market-fill, all-fills, fills-few}
 use Rattle.trade.proofs.write_all.Goals as goal
 use Rattle.trade.proofs.write_all.Goals.{After-first_set-i, After-first_set-i-in-loop-h, After-first_set-i-in-loop-rest, After-first_set-i-in-loop-unseen, After-first_set-i-then-h-ne0, After-first_set-i-then-rest-ne0, After-hand_of-h, After-loop-rest, After-loop-u, After-loop-unseen, After-price_of-l, After-without_lowest-rest, After-without_lowest-rest-then-rest-ne0, After-without_lowest-unseen, After-without_lowest-word, At-loop-d, At-loop-h, Else-rest-ne0, In-loop-d, In-loop-h, In-loop-rest, In-loop-u, In-loop-unseen, Start, Then-h-eq0}

@@ -5,7 +5,6 @@ use lib.ListN.{length}
 use Rattle.trade.proofs.WholeLaws.{fills-few, words_back, not-ended, start-past, too_short, counted, words-after}
 use Rattle.trade.specs.rules.Write.{fills_of}
 use Rattle.base.proofs.ListLaws.{length-mapped}
-use borrow.Author.Tests.{not-true, not-false}
 use borrow.Author.Rules.{rules}
 use Rattle.trade.proofs.write_fills.Goals as goal
 use Rattle.trade.proofs.write_fills.Goals.{Start}

@@ -1,5 +1,4 @@
 use native.Mathlib.Omega.{arith}
-use borrow.Author.Rules.{rules}
 use Rattle.trade.proofs.Counts.{length-fill}
 use Rattle.trade.proofs.write_market.Goals as goal
 

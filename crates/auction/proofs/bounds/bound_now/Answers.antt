@@ -1,6 +1,5 @@
 use mathlib.Core.Path.{ap, ◌∙◌}
 use Rattle.auction.specs.rules.Range.{word, bound_now}
-use borrow.Author.Rules.{rules}
 use Rattle.auction.proofs.bounds.bound_now.Goals as goal
 
 pub returns : goal.returns

@@ -1,5 +1,4 @@
 use Rattle.auction.specs.rules.Range.{range_of}
-use borrow.Author.Rules.{rules}
 use Rattle.auction.proofs.bounds.price_range.Goals as goal
 
 pub returns-then-t : goal.returns-then-t

@@ -1,6 +1,5 @@
 use borrow.Author.Tests.{lt-ltb, le-ltb}
 use Rattle.auction.specs.rules.Firm.{participant_of}
-use borrow.Author.Rules.{rules}
 use Rattle.auction.proofs.firm.participant_of.Goals as goal
 
 pub returns-then-named-lt64 : goal.returns-then-named-lt64

@@ -1,6 +1,5 @@
 use borrow.Author.Tests.{eq-eqb, ne_eqb}
 use Rattle.auction.specs.rules.Accept.{accept_of}
-use borrow.Author.Rules.{rules}
 use Rattle.auction.proofs.orders.accept.Goals as goal
 
 pub returns-then-number-eq0 : goal.returns-then-number-eq0

@@ -1,6 +1,5 @@
 use native.Mathlib.Omega.{arith}
 use Rattle.auction.specs.rules.Accept.{bound_of}
-use borrow.Author.Rules.{rules}
 use Rattle.auction.proofs.orders.bound.Goals as goal
 
 pub returns-then-f-b : goal.returns-then-f-b

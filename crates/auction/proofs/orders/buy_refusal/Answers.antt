@@ -1,6 +1,5 @@
 use borrow.Author.Tests.{lt-ltb, le-ltb, le-leb, lt-leb, eq-eqb, ne_eqb}
 use Rattle.auction.specs.rules.Accept.{buy_refusal}
-use borrow.Author.Rules.{rules}
 use Rattle.auction.proofs.orders.buy_refusal.Goals as goal
 
 pub returns-then-o : goal.returns-then-o

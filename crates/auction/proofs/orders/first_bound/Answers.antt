@@ -1,4 +1,3 @@
-use borrow.Author.Rules.{rules}
 use Rattle.auction.proofs.orders.first_bound.Goals as goal
 
 pub returns : goal.returns

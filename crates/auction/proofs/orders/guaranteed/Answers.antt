@@ -2,7 +2,6 @@ use mathlib.Core.Path.{◌∙◌}
 use borrow.Author.Tests.{eq-eqb, ne_eqb}
 use native.Mathlib.Omega.{arith}
 use Rattle.auction.specs.rules.Accept.{guaranteed_of}
-use borrow.Author.Rules.{rules}
 use Rattle.auction.proofs.orders.guaranteed.Goals as goal
 
 pub returns-then-o-eq2 : goal.returns-then-o-eq2

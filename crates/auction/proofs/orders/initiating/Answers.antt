@@ -1,6 +1,5 @@
 use borrow.Author.Tests.{lt-ltb, le-ltb}
 use Rattle.auction.specs.rules.Accept.{initiating_of}
-use borrow.Author.Rules.{rules}
 use Rattle.auction.proofs.orders.initiating.Goals as goal
 
 pub returns-then-o-lt50 : goal.returns-then-o-lt50

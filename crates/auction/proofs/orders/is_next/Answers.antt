@@ -1,4 +1,3 @@
-use borrow.Author.Rules.{rules}
 use Rattle.auction.proofs.orders.is_next.Goals as goal
 
 pub returns : goal.returns

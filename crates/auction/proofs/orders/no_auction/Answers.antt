@@ -1,5 +1,4 @@
 use Rattle.auction.specs.rules.Accept.{no_auction}
-use borrow.Author.Rules.{rules}
 use Rattle.auction.proofs.orders.no_auction.Goals as goal
 
 pub returns : goal.returns

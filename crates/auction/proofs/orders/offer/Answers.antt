@@ -1,5 +1,4 @@
 use mathlib.Core.Path.{◌∙◌}
-use borrow.Author.Rules.{rules}
 use Rattle.auction.proofs.RefusalLaws.{offer-collared, offer-quoted}
 use Rattle.auction.proofs.orders.offer.Goals as goal
 

@@ -1,5 +1,4 @@
 use Rattle.auction.specs.rules.Accept.{opened_by}
-use borrow.Author.Rules.{rules}
 use Rattle.auction.proofs.orders.opened_by.Goals as goal
 
 pub returns : goal.returns

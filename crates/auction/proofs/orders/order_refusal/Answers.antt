@@ -1,5 +1,4 @@
 use Rattle.auction.specs.rules.Accept.{order_refusal}
-use borrow.Author.Rules.{rules}
 use Rattle.auction.proofs.orders.order_refusal.Goals as goal
 
 pub returns-then-not-order_form : goal.returns-then-not-order_form

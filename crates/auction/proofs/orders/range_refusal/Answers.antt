@@ -1,6 +1,5 @@
 use mathlib.Core.Path.{◌∙◌}
 use Rattle.auction.proofs.RefusalLaws.{number-10, number-13, number-11, number-12, number-0}
-use borrow.Author.Rules.{rules}
 use Rattle.auction.proofs.orders.range_refusal.Goals as goal
 
 pub returns-then-limit-low : goal.returns-then-limit-low

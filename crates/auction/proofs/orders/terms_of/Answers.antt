@@ -1,5 +1,4 @@
 use Rattle.auction.specs.rules.Accept.{terms_of}
-use borrow.Author.Rules.{rules}
 use Rattle.auction.proofs.orders.terms_of.Goals as goal
 
 pub returns : goal.returns

@@ -1,6 +1,5 @@
 use mathlib.Core.Path.{sym, ap, ◌∙◌}
 use Rattle.events.specs.rules.Step.{carried}
-use borrow.Author.Rules.{rules}
 use Rattle.events.proofs.turns.carry.Goals as goal
 
 pub returns-in-Refuses : goal.returns-in-Refuses

@@ -1,5 +1,4 @@
 use Rattle.events.specs.rules.Step.{close_turn}
-use borrow.Author.Rules.{rules}
 use Rattle.events.proofs.turns.close_turn.Goals as goal
 
 pub returns-then-is_open : goal.returns-then-is_open

@@ -1,5 +1,4 @@
 use Rattle.events.specs.rules.Step.{head_after}
-use borrow.Author.Rules.{rules}
 use Rattle.events.proofs.turns.head_after.Goals as goal
 
 pub returns : goal.returns

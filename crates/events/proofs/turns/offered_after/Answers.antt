@@ -1,6 +1,5 @@
 use mathlib.Core.Path.{sym, ap, ◌∙◌}
 use Rattle.events.specs.rules.Step.{offered_after}
-use borrow.Author.Rules.{rules}
 use Rattle.events.proofs.turns.offered_after.Goals as goal
 
 pub returns-in-Seat : goal.returns-in-Seat

@@ -1,6 +1,5 @@
 use borrow.Author.Tests.{lt-ltb, le-ltb, le-leb, lt-leb}
 use Rattle.events.specs.rules.Step.{event_refusal}
-use borrow.Author.Rules.{rules}
 use Rattle.events.proofs.turns.refusal.Goals as goal
 
 pub returns-then-not-is_open : goal.returns-then-not-is_open

@@ -1,6 +1,5 @@
 use mathlib.Core.Path.{ap}
 use Rattle.board.specs.declared.Response.{Response}
-use borrow.Author.Rules.{rules}
 use Rattle.events.proofs.SightLaws.{sight-named, sight-unnamed}
 use Rattle.events.proofs.turns.sight.Goals as goal
 

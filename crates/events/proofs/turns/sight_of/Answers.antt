@@ -1,6 +1,5 @@
 use mathlib.Core.Path.{ap}
 use Prim.Native.Nat.{ℕ}
-use borrow.Author.Rules.{rules}
 use Rattle.events.proofs.turns.sight_of.Goals as goal
 
 pub returns : goal.returns

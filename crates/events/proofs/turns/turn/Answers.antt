@@ -1,6 +1,5 @@
 use borrow.Author.Tests.{le-leb, lt-leb, eq-eqb, ne_eqb}
 use Rattle.events.specs.rules.Step.{turn_of}
-use borrow.Author.Rules.{rules}
 use Rattle.events.proofs.turns.turn.Goals as goal
 
 pub returns-then-t-e : goal.returns-then-t-e

@@ -2,7 +2,6 @@ use mathlib.Core.Path.{ap}
 use native.Mathlib.Omega.{arith}
 use Rattle.words.proofs.WroteLaws.{wrote-append, wrote-same}
 use Rattle.listing.specs.rules.Listing.{range_text, end_line}
-use borrow.Author.Rules.{rules}
 use Rattle.listing.proofs.lines.put_end.Goals as goal
 
 pub returns : goal.returns

@@ -2,7 +2,6 @@ use mathlib.Core.Path.{sym, ap}
 use native.Mathlib.Omega.{arith}
 use Rattle.words.proofs.WroteLaws.{wrote-same}
 use Rattle.listing.specs.rules.Listing.{end_text}
-use borrow.Author.Rules.{rules}
 use Rattle.listing.proofs.lines.put_ending.Goals as goal
 
 pub returns-in-Time : goal.returns-in-Time

@@ -1,7 +1,6 @@
 use native.Mathlib.Omega.{arith}
 use Rattle.words.proofs.WroteLaws.{wrote-append}
 use Rattle.listing.specs.rules.Listing.{fill_line}
-use borrow.Author.Rules.{rules}
 use Rattle.listing.proofs.lines.put_fill.Goals as goal
 
 pub returns : goal.returns

@@ -1,7 +1,6 @@
 use borrow.Author.Tests.{eq-eqb, ne_eqb}
 use native.Mathlib.Omega.{arith}
 use Rattle.listing.specs.rules.Listing.{party_text}
-use borrow.Author.Rules.{rules}
 use Rattle.listing.proofs.lines.put_party.Goals as goal
 
 pub returns-then-party-eq0 : goal.returns-then-party-eq0

@@ -2,7 +2,6 @@ use mathlib.Core.Path.{sym, ap}
 use native.Mathlib.Omega.{arith}
 use Rattle.words.proofs.WroteLaws.{wrote-same}
 use Rattle.listing.specs.rules.Listing.{side_text}
-use borrow.Author.Rules.{rules}
 use Rattle.listing.proofs.lines.put_side.Goals as goal
 
 pub returns-then-sell : goal.returns-then-sell

@@ -1,6 +1,5 @@
 use Rattle.words.proofs.WroteLaws.{wrote-append}
 use Rattle.listing.specs.rules.Listing.{total_line}
-use borrow.Author.Rules.{rules}
 use Rattle.listing.proofs.lines.put_total.Goals as goal
 
 pub returns : goal.returns

@@ -1,12 +1,9 @@
-use mathlib.Core.Path.{◌≡◌, ap}
-use Prim.Native.Nat.{◌+◌, ◌-◌, ◌*◌, ◌≤◌}
+use mathlib.Core.Path.{ap}
 use native.Mathlib.Omega.{arith}
-use lib.ListN.{length}
 use borrow.Author.Rules.{rules}
 use Rattle.listing.specs.rules.Listing.{fill_lines}
 use Rattle.words.proofs.WroteLaws.{left-start, left-wrote, left-same, left-done}
-use Rattle.words.specs.inside.Writing.{LeftBytes}
-use Rattle.listing.proofs.FillLaws.{fills_from, fills-all, fills-more, fills-none}
+use Rattle.listing.proofs.FillLaws.{fills-all, fills-more, fills-none}
 use Rattle.listing.specs.inside.Code.{fills_in}
 use Rattle.listing.proofs.results.put_fills.Goals as goal
 

@@ -1,12 +1,9 @@
-use mathlib.Core.Path.{◌≡◌, ap}
+use mathlib.Core.Path.{◌≡◌}
 use Prim.Native.Nat.{◌+◌, ◌-◌, ◌*◌, ◌≤◌}
-use native.Mathlib.Omega.{arith}
 use lib.ListN.{length}
-use borrow.Author.Rules.{rules}
 use Rattle.listing.specs.rules.Listing.{fill_lines}
-use Rattle.words.proofs.WroteLaws.{left-start, left-wrote, left-same, left-done}
 use Rattle.words.specs.inside.Writing.{LeftBytes}
-use Rattle.listing.proofs.FillLaws.{fills_from, fills-all, fills-more, fills-none}
+use Rattle.listing.proofs.FillLaws.{fills_from}
 use Rattle.listing.specs.inside.Code.{fills_in}
 use Rattle.listing.proofs.results.put_fills.Given as goal
 

@@ -1,10 +1,7 @@
-use mathlib.Core.Path.{◌≡◌, ap}
-use Prim.Native.Nat.{◌+◌, ◌-◌, ◌*◌, ◌≤◌}
+use mathlib.Core.Path.{ap}
 use native.Mathlib.Omega.{arith}
-use borrow.Author.Rules.{rules}
 use Rattle.trade.specs.rules.Trade.{traded}
-use Rattle.listing.proofs.FillLaws.{fills_from, fills-all, fills-more, fills-none}
-use Rattle.listing.specs.inside.Code.{fills_in}
+use Rattle.listing.proofs.FillLaws.{fills-all, fills-more, fills-none}
 use Rattle.listing.proofs.results.sum_of.Goals as goal
 
 pub loop-i-init : goal.loop-i-init

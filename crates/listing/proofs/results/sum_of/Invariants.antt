@@ -1,9 +1,7 @@
-use mathlib.Core.Path.{◌≡◌, ap}
+use mathlib.Core.Path.{◌≡◌}
 use Prim.Native.Nat.{◌+◌, ◌-◌, ◌*◌, ◌≤◌}
-use native.Mathlib.Omega.{arith}
-use borrow.Author.Rules.{rules}
 use Rattle.trade.specs.rules.Trade.{traded}
-use Rattle.listing.proofs.FillLaws.{fills_from, fills-all, fills-more, fills-none}
+use Rattle.listing.proofs.FillLaws.{fills_from}
 use Rattle.listing.specs.inside.Code.{fills_in}
 use Rattle.listing.proofs.results.sum_of.Given as goal
 

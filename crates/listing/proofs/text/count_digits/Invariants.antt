@@ -1,10 +1,7 @@
 use mathlib.Core.Path.{◌≡◌}
 use Prim.Native.Nat.{◌+◌, ◌^◌, ◌<◌}
-use native.Mathlib.Omega.{arith}
 use lib.ListN.{length}
-use borrow.Author.Rules.{rules}
 use Rattle.listing.specs.rules.Text.{decimal}
-use Rattle.listing.proofs.DecimalLaws.{decimal-short, four-fewer}
 use Rattle.listing.proofs.text.count_digits.Given as goal
 
 abbrev pub invariant-loop-rest : goal.invariant-loop-rest

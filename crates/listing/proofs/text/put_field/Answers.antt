@@ -1,6 +1,5 @@
 use native.Mathlib.Omega.{arith}
 use Rattle.words.proofs.WroteLaws.{wrote-append}
-use borrow.Author.Rules.{rules}
 use Rattle.listing.proofs.text.put_field.Goals as goal
 
 pub returns : goal.returns

@@ -1,7 +1,7 @@
 use mathlib.Core.Path.{refl}
 use native.Mathlib.Omega.{arith}
 use borrow.Author.Rules.{rules}
-use Rattle.listing.proofs.DecimalLaws.{DigitsLeft, left-turn, left-some, left-last}
+use Rattle.listing.proofs.DecimalLaws.{left-turn, left-some, left-last}
 use Rattle.listing.proofs.text.put_number.Goals as goal
 
 pub loop-rest-init : goal.loop-rest-init

@@ -1,7 +1,4 @@
-use mathlib.Core.Path.{refl}
-use native.Mathlib.Omega.{arith}
-use borrow.Author.Rules.{rules}
-use Rattle.listing.proofs.DecimalLaws.{DigitsLeft, left-turn, left-some, left-last}
+use Rattle.listing.proofs.DecimalLaws.{DigitsLeft}
 use Rattle.listing.proofs.text.put_number.Given as goal
 
 abbrev pub invariant-loop-rest : goal.invariant-loop-rest

@@ -9,7 +9,6 @@ use Rattle.listing.specs.rules.Watch.{watch_line}
 use Rattle.listing.proofs.LengthLaws.{watched-short}
 use Rattle.words.proofs.WroteLaws.{wrote-same}
 use Rattle.listing.proofs.WatchLaws.{unshown, shown, unwatched, watched}
-use borrow.Author.Rules.{rules}
 use Rattle.listing.proofs.watch.event.Goals as goal
 
 pub returns-then-out-lt-LINES : goal.returns-then-out-lt-LINES

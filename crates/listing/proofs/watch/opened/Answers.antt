@@ -2,7 +2,6 @@ use native.Mathlib.Omega.{arith}
 use Rattle.listing.specs.rules.Listing.{auction_line}
 use Rattle.listing.proofs.LengthLaws.{auction-short}
 use Rattle.listing.proofs.WatchLaws.{unshown, shown}
-use borrow.Author.Rules.{rules}
 use Rattle.listing.proofs.watch.opened.Goals as goal
 
 pub returns-then-out-lt-LINES : goal.returns-then-out-lt-LINES

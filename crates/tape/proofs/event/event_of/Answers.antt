@@ -1,5 +1,4 @@
 use Rattle.tape.specs.rules.Records.{event_of}
-use borrow.Author.Rules.{rules}
 use Rattle.tape.proofs.event.event_of.Goals as goal
 
 pub returns : goal.returns

@@ -1,4 +1,3 @@
-use borrow.Author.Rules.{rules}
 use Rattle.tape.proofs.event.new_word.Goals as goal
 
 pub returns-then-wide : goal.returns-then-wide

@@ -3,7 +3,6 @@ use mathlib.Core.Bool.{true, false, ◌&&◌}
 use borrow.Author.Tests.{le-ltb, lt-ltb}
 use Rattle.tape.specs.rules.Form.{event_formed}
 use Rattle.tape.specs.rules.Records.{read_event, event_of, event_spare}
-use borrow.Author.Rules.{rules}
 use Rattle.tape.proofs.event.read_event.Goals as goal
 
 pub returns-then-s-event_bytes : goal.returns-then-s-event_bytes

@@ -1,6 +1,5 @@
 use borrow.Author.Tests.{lt-ltb, le-ltb}
 use Rattle.tape.specs.rules.Records.{record_at}
-use borrow.Author.Rules.{rules}
 use Rattle.tape.proofs.event.record_at.Goals as goal
 
 pub returns-then-s-event_bytes : goal.returns-then-s-event_bytes

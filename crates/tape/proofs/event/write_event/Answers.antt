@@ -1,11 +1,9 @@
 use mathlib.Core.Path.{sym, ap, ◌∙◌}
 use native.Mathlib.Omega.{arith}
 use lib.Seq.{length-take-le}
-use borrow.Author.Tests.{not-true, not-false}
 use Rattle.words.specs.rules.Bytes.{with_words}
 use Rattle.tape.specs.rules.Records.{event_words, event_answer, event_wrote}
 use Rattle.tape.proofs.RecordLaws.{wrote-formless, wrote-short, wrote-done, words_long, words-held}
-use borrow.Author.Rules.{rules}
 use Rattle.tape.proofs.event.write_event.Goals as goal
 
 pub returns-then-not-event_held : goal.returns-then-not-event_held

@@ -1,5 +1,4 @@
-use mathlib.Core.Path.{sym, ◌∙◌}
-use borrow.Author.Rules.{rules}
+use mathlib.Core.Path.{sym}
 use Rattle.tape.proofs.FormLaws.{collar-tests}
 use Rattle.tape.proofs.form.collar_form.Goals as goal
 

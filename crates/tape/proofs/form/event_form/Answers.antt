@@ -1,6 +1,5 @@
 use borrow.Author.Tests.{eq-eqb, ne_eqb}
 use Rattle.tape.specs.rules.Form.{event_formed, shape_of}
-use borrow.Author.Rules.{rules}
 use Rattle.tape.proofs.form.event_form.Goals as goal
 
 pub returns-then-e-eq1 : goal.returns-then-e-eq1

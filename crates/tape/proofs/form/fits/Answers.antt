@@ -1,5 +1,4 @@
 use Rattle.tape.specs.rules.Form.{shape_tests}
-use borrow.Author.Rules.{rules}
 use Rattle.tape.proofs.form.fits.Goals as goal
 
 pub returns : goal.returns

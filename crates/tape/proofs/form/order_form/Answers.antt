@@ -1,5 +1,4 @@
 use Rattle.tape.specs.rules.Form.{order_formed, order_tests}
-use borrow.Author.Rules.{rules}
 use Rattle.tape.proofs.form.order_form.Goals as goal
 
 pub returns : goal.returns

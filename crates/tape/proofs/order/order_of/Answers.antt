@@ -1,5 +1,4 @@
 use Rattle.tape.specs.rules.Records.{order_of}
-use borrow.Author.Rules.{rules}
 use Rattle.tape.proofs.order.order_of.Goals as goal
 
 pub returns : goal.returns

@@ -3,7 +3,6 @@ use mathlib.Core.Bool.{true, false, ◌&&◌}
 use borrow.Author.Tests.{le-ltb, lt-ltb}
 use Rattle.tape.specs.rules.Form.{order_formed}
 use Rattle.tape.specs.rules.Records.{read_order, order_of, order_spare}
-use borrow.Author.Rules.{rules}
 use Rattle.tape.proofs.order.read_order.Goals as goal
 
 pub returns-then-s-lt-ORDER_BYTES : goal.returns-then-s-lt-ORDER_BYTES

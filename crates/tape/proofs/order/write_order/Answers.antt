@@ -1,9 +1,7 @@
 use mathlib.Core.Path.{sym, ◌∙◌}
 use native.Mathlib.Omega.{arith}
-use borrow.Author.Tests.{not-true, not-false}
 use Rattle.tape.specs.rules.Records.{order_words, order_answer, order_wrote}
 use Rattle.tape.proofs.RecordLaws.{wrote-formless, wrote-short, wrote-done}
-use borrow.Author.Rules.{rules}
 use Rattle.tape.proofs.order.write_order.Goals as goal
 
 pub returns-then-not-order_form : goal.returns-then-not-order_form

@@ -1,6 +1,5 @@
 use native.Mathlib.Omega.{arith}
 use Rattle.tape.proofs.RecordLaws.{order-past, order-there}
-use borrow.Author.Rules.{rules}
 use Rattle.tape.proofs.records.order_in.Goals as goal
 
 pub returns-then-s-at : goal.returns-then-s-at

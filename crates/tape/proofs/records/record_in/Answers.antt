@@ -3,7 +3,6 @@ use Prim.Native.Nat.{◌*◌, ◌-◌, ◌+◌, ◌≤◌}
 use native.Mathlib.Omega.{arith}
 use lib.ListN.{length}
 use Rattle.tape.proofs.RecordLaws.{records-fit, records-over, record-past, record-there}
-use borrow.Author.Rules.{rules}
 use Rattle.tape.proofs.records.record_in.Goals as goal
 use Rattle.tape.proofs.records.record_in.Goals.{After-event_bytes}
 

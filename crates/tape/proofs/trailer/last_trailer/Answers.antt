@@ -6,7 +6,6 @@ use Rattle.base.proofs.SetsLaws.{rest-is}
 use Rattle.base.proofs.Bools.{or_left}
 use Rattle.tape.specs.rules.Records.{read_trailer}
 use Rattle.tape.specs.rules.Tape.{last_trailer}
-use borrow.Author.Rules.{rules}
 use Rattle.tape.proofs.trailer.last_trailer.Goals as goal
 
 pub returns-then-n : goal.returns-then-n

@@ -1,6 +1,5 @@
 use borrow.Author.Tests.{eq-eqb, ne_eqb}
 use Rattle.tape.specs.rules.Tape.{open_tape}
-use borrow.Author.Rules.{rules}
 use Rattle.tape.proofs.trailer.open_tape.Goals as goal
 
 pub returns-then-length_of-s : goal.returns-then-length_of-s

@@ -4,7 +4,6 @@ use lib.Dec.{eqb}
 use borrow.Author.Tests.{le-ltb, lt-ltb}
 use Rattle.words.specs.rules.Bytes.{word_at}
 use Rattle.tape.specs.rules.Records.{cubt, cub2, trailer_of, read_trailer}
-use borrow.Author.Rules.{rules}
 use Rattle.tape.proofs.trailer.read_trailer.Goals as goal
 
 pub returns-then-s-lt16 : goal.returns-then-s-lt16

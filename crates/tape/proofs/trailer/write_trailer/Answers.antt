@@ -2,7 +2,6 @@ use mathlib.Core.Path.{refl}
 use native.Mathlib.Omega.{arith}
 use Rattle.tape.specs.rules.Records.{trailer_words, trailer_answer, trailer_wrote}
 use Rattle.tape.proofs.RecordLaws.{wrote-short, wrote-done}
-use borrow.Author.Rules.{rules}
 use Rattle.tape.proofs.trailer.write_trailer.Goals as goal
 
 pub returns-then-out-lt16 : goal.returns-then-out-lt16

@@ -1,5 +1,4 @@
 use Rattle.trade.specs.inside.Code.{among_of, mean_of}
-use borrow.Author.Rules.{rules}
 use Rattle.trade.proofs.leftovers.among.Goals as goal
 
 pub returns : goal.returns

@@ -1,7 +1,6 @@
 use native.Mathlib.Omega.{arith}
 use borrow.Author.Tests.{eq-eqb, ne_eqb}
 use Rattle.trade.specs.inside.Code.{counted_of}
-use borrow.Author.Rules.{rules}
 use Rattle.trade.proofs.leftovers.counted.Goals as goal
 
 pub returns-then-turns : goal.returns-then-turns

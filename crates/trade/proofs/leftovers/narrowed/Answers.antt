@@ -4,7 +4,6 @@ use native.Mathlib.Omega.{arith}
 use Rattle.words.specs.rules.Bits.{ones_in}
 use Rattle.trade.specs.inside.Code.{among_of}
 use Rattle.trade.proofs.NarrowLaws.{narrowed-upper, narrowed-lower}
-use borrow.Author.Rules.{rules}
 use Rattle.trade.proofs.leftovers.narrowed.Goals as goal
 use Rattle.trade.proofs.leftovers.narrowed.Goals.{After-wide-n}
 

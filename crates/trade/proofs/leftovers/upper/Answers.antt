@@ -1,7 +1,6 @@
 use mathlib.Core.Path.{refl}
 use native.Mathlib.Omega.{arith}
 use borrow.Author.Tests.{le-leb, lt-leb}
-use borrow.Author.Rules.{rules}
 use Rattle.trade.proofs.leftovers.upper.Goals as goal
 
 pub returns-then-mean-fraction : goal.returns-then-mean-fraction

@@ -2,7 +2,6 @@ use Rattle.trade.specs.inside.Code.{contra_of}
 use Rattle.trade.proofs.CodeLaws.{contra-last, contra-open, contra-fits}
 use mathlib.Core.Path.{sym, ap, ◌∙◌}
 use native.Mathlib.Omega.{arith}
-use borrow.Author.Rules.{rules}
 use Rattle.trade.proofs.numbers.contra_of.Goals as goal
 
 pub overflow_add-result : goal.overflow_add-result

@@ -1,6 +1,5 @@
 use borrow.Author.Tests.{eq-eqb, ne_eqb}
 use Rattle.trade.specs.rules.Trade.{entry}
-use borrow.Author.Rules.{rules}
 use Rattle.trade.proofs.numbers.entry_of.Goals as goal
 
 pub returns-then-d-eq2 : goal.returns-then-d-eq2

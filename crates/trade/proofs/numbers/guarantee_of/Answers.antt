@@ -1,6 +1,5 @@
 use native.Mathlib.Omega.{arith}
 use Rattle.trade.proofs.CodeLaws.{guarantee-is}
-use borrow.Author.Rules.{rules}
 use Rattle.trade.proofs.numbers.guarantee_of.Goals as goal
 
 pub returns-then-g-eq0 : goal.returns-then-g-eq0

@@ -1,6 +1,5 @@
 use mathlib.Core.Path.{refl}
 use Rattle.trade.specs.inside.Code.{in_turn_of}
-use borrow.Author.Rules.{rules}
 use Rattle.trade.proofs.numbers.in_turn.Goals as goal
 
 pub returns : goal.returns

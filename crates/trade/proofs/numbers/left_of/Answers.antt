@@ -1,6 +1,5 @@
 use native.Mathlib.Omega.{arith}
 use Rattle.trade.specs.inside.Code.{left_of}
-use borrow.Author.Rules.{rules}
 use Rattle.trade.proofs.numbers.left_of.Goals as goal
 
 pub returns-then-last : goal.returns-then-last

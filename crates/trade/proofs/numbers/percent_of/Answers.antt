@@ -1,6 +1,5 @@
 use native.Mathlib.Omega.{arith}
 use borrow.Author.Tests.{eq-eqb, ne_eqb}
-use borrow.Author.Rules.{rules}
 use Rattle.trade.proofs.numbers.percent_of.Goals as goal
 
 pub returns-then-n-eq1 : goal.returns-then-n-eq1

@@ -1,4 +1,3 @@
-use borrow.Author.Rules.{rules}
 use Rattle.trade.proofs.numbers.reported_price.Goals as goal
 
 pub returns-then-sell : goal.returns-then-sell

@@ -1,5 +1,4 @@
 use Rattle.trade.proofs.CodeLaws.{shared-is, shared-le}
-use borrow.Author.Rules.{rules}
 use Rattle.trade.proofs.numbers.shared_of.Goals as goal
 
 pub returns : goal.returns

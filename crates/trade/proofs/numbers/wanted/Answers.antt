@@ -1,7 +1,6 @@
 use native.Mathlib.Omega.{arith}
 use borrow.Author.Tests.{le-leb, lt-leb}
 use Rattle.trade.specs.inside.Code.{want_of}
-use borrow.Author.Rules.{rules}
 use Rattle.trade.proofs.numbers.wanted.Goals as goal
 
 pub returns-then-last : goal.returns-then-last

@@ -1,5 +1,4 @@
 use native.Mathlib.Omega.{arith}
-use borrow.Author.Rules.{rules}
 use Rattle.trade.specs.inside.Code.{added_to}
 use Rattle.trade.proofs.scan.added.Goals as goal
 

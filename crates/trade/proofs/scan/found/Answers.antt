@@ -1,6 +1,5 @@
 use mathlib.Core.Path.{sym, ap, ◌∙◌}
 use native.Mathlib.Omega.{arith}
-use borrow.Author.Rules.{rules}
 use Rattle.trade.specs.declared.Found.{Found}
 use Rattle.trade.specs.inside.Code.{added_to}
 use Rattle.trade.proofs.FoundLaws.{with-higher, with-not}

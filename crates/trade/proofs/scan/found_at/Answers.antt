@@ -1,6 +1,5 @@
 use mathlib.Core.Path.{sym, ap, ◌∙◌}
 use native.Mathlib.Omega.{arith}
-use borrow.Author.Rules.{rules}
 use Rattle.trade.specs.declared.Found.{Found}
 use Rattle.trade.proofs.FoundLaws.{found-lower, found-not}
 use Rattle.trade.proofs.scan.found_at.Goals as goal

@@ -1,7 +1,6 @@
 use native.Mathlib.Nat.{mod-lt}
 use native.Mathlib.Omega.{arith}
 use Rattle.base.proofs.Numbers.{mul_small}
-use borrow.Author.Rules.{rules}
 use Rattle.trade.proofs.scan.fraction_of.Goals as goal
 
 pub overflow_mul-result : goal.overflow_mul-result

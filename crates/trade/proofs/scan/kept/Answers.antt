@@ -1,4 +1,3 @@
-use borrow.Author.Rules.{rules}
 use Rattle.trade.proofs.scan.kept.Goals as goal
 
 pub returns : goal.returns

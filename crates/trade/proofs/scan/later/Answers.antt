@@ -1,6 +1,5 @@
 use mathlib.Core.Path.{sym, ◌∙◌}
 use native.Mathlib.Omega.{arith}
-use borrow.Author.Rules.{rules}
 use Rattle.trade.proofs.FoundLaws.{later-lower, later-not}
 use Rattle.trade.proofs.scan.later.Goals as goal
 

@@ -1,7 +1,6 @@
 use native.Mathlib.Omega.{arith}
 use Rattle.base.proofs.Numbers.{mul_small}
 use Rattle.share.proofs.ShareLaws.{floor-le}
-use borrow.Author.Rules.{rules}
 use Rattle.trade.proofs.scan.part_of.Goals as goal
 
 pub overflow_mul-result : goal.overflow_mul-result

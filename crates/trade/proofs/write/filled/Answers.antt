@@ -1,5 +1,4 @@
 use native.Mathlib.Omega.{arith}
-use borrow.Author.Rules.{rules}
 use Rattle.trade.proofs.RunLaws.{served-again, served-writes, served-first}
 use Rattle.trade.proofs.write.filled.Goals as goal
 

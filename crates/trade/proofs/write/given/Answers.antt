@@ -2,7 +2,6 @@ use mathlib.Core.Path.{ap, ◌∙◌}
 use Prim.Native.Nat.{ℕ, min}
 use native.Mathlib.Omega.{arith}
 use Rattle.trade.proofs.WriteLaws.{part-fits, gives-turns, gives-parts}
-use borrow.Author.Rules.{rules}
 use Rattle.trade.proofs.write.given.Goals as goal
 
 pub returns-then-turns : goal.returns-then-turns

@@ -1,5 +1,4 @@
 use borrow.Author.Tests.{lt-ltb, le-ltb}
-use borrow.Author.Rules.{rules}
 use Rattle.trade.specs.inside.Code.{hand_of}
 use Rattle.trade.proofs.write.hand_of.Goals as goal
 

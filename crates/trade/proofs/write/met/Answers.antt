@@ -1,4 +1,3 @@
-use borrow.Author.Rules.{rules}
 use Rattle.trade.proofs.RunLaws.{met-first, met-goes, met-late}
 use Rattle.trade.proofs.write.met.Goals as goal
 

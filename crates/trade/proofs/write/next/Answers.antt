@@ -1,4 +1,3 @@
-use borrow.Author.Rules.{rules}
 use borrow.Author.Tests.{not-true, not-false}
 use Rattle.trade.specs.inside.Code.{done_at}
 use Rattle.trade.proofs.RunLaws.{next-late, next-writes, next-others, next-done}

@@ -1,6 +1,5 @@
 use native.Mathlib.Omega.{arith}
 use Rattle.share.proofs.CutLaws.{one-above, one_below, one-level}
-use borrow.Author.Rules.{rules}
 use Rattle.trade.proofs.write.one_of.Goals as goal
 
 pub returns-then-cut-fraction : goal.returns-then-cut-fraction

@@ -1,4 +1,3 @@
-use borrow.Author.Rules.{rules}
 use Rattle.trade.proofs.RunLaws.{others-are}
 use Rattle.trade.proofs.write.others_of.Goals as goal
 

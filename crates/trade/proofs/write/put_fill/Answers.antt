@@ -5,7 +5,6 @@ use lib.ListN.{length, length-set}
 use borrow.Author.Tests.{le-ltb, lt-ltb}
 use Rattle.trade.proofs.WriteLaws.{fill-some}
 use Rattle.share.specs.inside.Fills.{written}
-use borrow.Author.Rules.{rules}
 use Rattle.trade.proofs.write.put_fill.Goals as goal
 use Rattle.trade.proofs.write.put_fill.Goals.{Then-quantity-gt0}
 

@@ -1,4 +1,3 @@
-use borrow.Author.Rules.{rules}
 use Rattle.trade.proofs.write.with_run.Goals as goal
 
 pub returns : goal.returns

@@ -1,12 +1,8 @@
-use mathlib.Core.Path.{◌≡◌, ap, ◌∙◌}
-use mathlib.Core.List.{List}
-use Prim.Native.Nat.{ℕ, ◌≤◌, ◌+◌, ◌*◌, ◌-◌}
-use native.Mathlib.Omega.{arith}
-use borrow.Author.Rules.{rules}
-use lib.ListN.{length, take, get_or}
-use lib.Seq.{sets, take_all}
-use Rattle.words.specs.rules.Bytes.{word_bytes, u32_bytes}
-use Rattle.words.proofs.ByteLaws.{word_more}
+use mathlib.Core.Path.{◌≡◌}
+use Prim.Native.Nat.{◌≤◌, ◌-◌}
+use lib.ListN.{length, take}
+use lib.Seq.{sets}
+use Rattle.words.specs.rules.Bytes.{word_bytes}
 use Rattle.words.proofs.bytes.put_words.Given as goal
 
 abbrev pub invariant-loop-i : goal.invariant-loop-i

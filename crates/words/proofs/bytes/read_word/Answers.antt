@@ -1,7 +1,6 @@
 use mathlib.Core.Path.{sym, ◌∙◌}
 use native.Mathlib.Omega.{arith}
 use Rattle.words.proofs.ByteLaws.{word_in, word_out}
-use borrow.Author.Rules.{rules}
 use Rattle.words.proofs.bytes.read_word.Goals as goal
 
 pub returns-then-n-lt4 : goal.returns-then-n-lt4

@@ -1,7 +1,6 @@
 use mathlib.Core.Path.{sym, ◌∙◌}
 use native.Mathlib.Omega.{arith}
 use Rattle.words.proofs.ByteLaws.{row_in, row_out}
-use borrow.Author.Rules.{rules}
 use Rattle.words.proofs.bytes.write_words.Goals as goal
 
 pub returns-then-n-at : goal.returns-then-n-at
