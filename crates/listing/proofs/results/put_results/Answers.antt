@@ -14,11 +14,11 @@ use Rattle.listing.proofs.results.put_results.Goals.{After-count_of-n, Start}
 len : (c : goal.Start) → length c.args.a.board.places ≡ 64
 len c = search (rules, length-mapped)
 
-found : (c : goal.After-count_of-n) → Reported c.args.a c.count_of-n.result c.write_fills.new.1.0
+found : (c : goal.After-count_of-n) → Reported c.args.a c.count_of-n.result c.write_fills.new.out
 found c =
     let s = c.before.before.before.before.before in
     let w = c.write_fills in
-    reported s.args.a (replicate 390 0) c.count_of-n.result w.new.1.0 s.requires.0 (len c.before.before.before.before.before) refl (c.count_of-n.ensures ∙ ap count_in w.ensures.0) w.ensures.1
+    reported s.args.a (replicate 390 0) c.count_of-n.result w.new.out s.requires.0 (len c.before.before.before.before.before.before) refl (c.count_of-n.ensures ∙ ap count_in w.ensures.value) w.ensures.out_after
 
 pub put_fills-w-requires : goal.put_fills-w-requires
 put_fills-w-requires c = let f = found (goal.at.put_fills-w-requires c).After-count_of-n in (f.few, omega (arith, f.few, f.long), omega (arith, f.few))
