@@ -11,6 +11,7 @@ use Rattle.board.specs.declared.Response.{Response}
 use Rattle.base.proofs.ListLaws.{length-mapped}
 use Rattle.board.proofs.FindLaws.{find-low, find-rest, find_none}
 use Rattle.board.proofs.find.Goals as goal
+use Rattle.board.proofs.find.Goals.{After-first_set-i, After-without_lowest-rest}
 
 len : (c : goal.After-first_set-i) → length c.args.b.places ≡ 64
 len c = search (rules, length-mapped)

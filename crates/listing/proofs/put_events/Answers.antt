@@ -22,6 +22,7 @@ use Rattle.words.proofs.WroteLaws.{wrote-same, left-start, left-wrote, left-same
 use Rattle.listing.proofs.LookLaws.{looked, sought-le, look-start, look-end, look-found, look-next}
 use Rattle.listing.proofs.RunLaws.{whole, closed-whole, seat-set, seat-past, seat-free, seat-none, good-after, rest, rest-none, rest_all, events-turn, run-turn}
 use Rattle.listing.proofs.put_events.Goals as goal
+use Rattle.listing.proofs.put_events.Goals.{After-first_set-i, After-sight_of-v, After-without_lowest-rest}
 
 pub loop-k-init : goal.loop-k-init
 loop-k-init c = (omega arith, refl, omega arith, refl, left-start _ _ _, refl, rw c.empty-b.ensures empty-good)
@@ -90,10 +91,10 @@ seen c =
     ∙ l.loop-rest.invariant.1)
 
 pub put_event-w-requires : goal.put_event-w-requires
-put_event-w-requires c = omega (arith, c.loop-k-test.true, c.loop-k.invariant.1, c.loop-k.invariant.2, c.loop-k.invariant.3, c.requires.0)
+put_event-w-requires c = omega (arith, c.loop-k-test.true, c.loop-k.invariant.1, c.loop-k.invariant.2, c.loop-k.invariant.3, c.requires.events_bound)
 
 pub overflow_add-k : goal.overflow_add-k
-overflow_add-k c = omega (arith, c.loop-k-test.true, c.requires.0.0)
+overflow_add-k c = omega (arith, c.loop-k-test.true, c.requires.events_bound.0)
 
 pub loop-k-preserved : goal.loop-k-preserved
 loop-k-preserved c =
@@ -126,7 +127,7 @@ returns c =
     let l = c.loop-k in
     let s = a.tape.now in
     let none : rest s a.t l.k ≡ [] = rest-none s a.t l.k (omega arith) in
-    let first : whole a.a.head c.empty-b.result ≡ a.a = ap (whole a.a.head) (c.empty-b.ensures ∙ sym c.requires.1) in record {
+    let first : whole a.a.head c.empty-b.result ≡ a.a = ap (whole a.a.head) (c.empty-b.ensures ∙ sym c.requires.board_value) in record {
       wrote_bytes = wrote-same (left-done (left-same l.invariant.4 (ap (λ (es : List Event). event_lines (heard (whole l.h l.b) es)) none)))
           (ap₂ (λ (x : Auction) (es : List Event). event_lines (heard x es)) first (sym (rest_all s a.t)));
       auction_value = (

@@ -13,6 +13,7 @@ use Rattle.moving.specs.rules.Moving.{all_bare}
 use Rattle.moving.proofs.CodeLaws.{bare-turn}
 use borrow.Author.Rules.{rules}
 use Rattle.moving.proofs.all_bare.Goals as goal
+use Rattle.moving.proofs.all_bare.Goals.{After-is_bare}
 
 -- the records of a new tape, where its lengths add up
 new-long : (s : List ℕ) (t : Trailer) → t.wide ≡ true → length_of t ≡ length s → t.order + 64 + t.events * 40 ≤ length s
@@ -44,7 +45,7 @@ turn c =
     ∙ ap (λ (b : Bool). b && all_bare (parts 40 (drop (l.at + 40) x) (n - (l.k + 1)))) (sym c.is_bare.ensures)
 
 pub returns-then-not-is_bare : goal.returns-then-not-is_bare
-returns-then-not-is_bare c = simp (turn c.before, not-true c.is_bare.result c.if-not-is_bare.true)
+returns-then-not-is_bare c = simp (turn c.before, c.if-not-is_bare.true)
 
 pub loop-k-preserved : goal.loop-k-preserved
 loop-k-preserved c =
@@ -55,7 +56,7 @@ loop-k-preserved c =
     let n = s.args.t.events in (
       omega (arith, b.loop-k-test.true),
       omega (arith, l.invariant.1, b.loop-k-test.true),
-      sym (turn b ∙ ap (λ (y : Bool). y && all_bare (parts 40 (drop (l.at + 40) x) (n - (l.k + 1)))) (not-false b.is_bare.result c.if-not-is_bare.false)) ∙ ap all_bare (records-are x s.args.t s.requires.0),
+      sym (turn b ∙ ap (λ (y : Bool). y && all_bare (parts 40 (drop (l.at + 40) x) (n - (l.k + 1)))) c.if-not-is_bare.false) ∙ ap all_bare (records-are x s.args.t s.requires.0),
     )
 
 pub returns : goal.returns

@@ -8,6 +8,7 @@ use Rattle.tape.specs.rules.Whole.{records_bytes}
 use Rattle.moving.specs.rules.Moving.{has_form, moved_trailer, all_bare, move_opened}
 use borrow.Author.Rules.{rules}
 use Rattle.moving.proofs.move_opened.Goals as goal
+use Rattle.moving.proofs.move_opened.Goals.{After-length_of-n, Else-has_form, Else-length_of-s, Else-not-nothing_lost}
 
 -- what is known after each test that was passed
 other : (c : goal.Else-has_form) → has_form c.args.t c.args.wide ≡ false
@@ -17,7 +18,7 @@ adds : (c : goal.Else-length_of-s) → length_of c.args.t ≡ length c.args.s.no
 adds c = sym c.length_of.ensures ∙ c.if-length_of-s.false
 
 kept : (c : goal.Else-not-nothing_lost) → (c.args.wide || all_bare (records_bytes c.args.s.now c.args.t)) ≡ true
-kept c = sym c.nothing_lost.ensures ∙ not-false _ c.if-not-nothing_lost.false
+kept c = sym c.nothing_lost.ensures ∙ c.if-not-nothing_lost.false
 
 -- the length of the moved tape
 long : (c : goal.After-length_of-n) → c.length_of-n.result ≡ length_of (moved_trailer c.args.wide c.args.t)
@@ -38,7 +39,7 @@ pub returns-then-not-nothing_lost : goal.returns-then-not-nothing_lost
 unfolding move_opened
 returns-then-not-nothing_lost c =
     let e = c.before.before in
-    record { answer = simp (other e.before.before, eq-eqb _ _ (adds e), ← c.nothing_lost.ensures, not-true c.nothing_lost.result c.if-not-nothing_lost.true); bytes = refl }
+    record { answer = simp (other e.before.before, eq-eqb _ _ (adds e), ← c.nothing_lost.ensures, c.if-not-nothing_lost.true); bytes = refl }
 
 pub returns-then-n-gt65536 : goal.returns-then-n-gt65536
 unfolding move_opened

@@ -15,6 +15,7 @@ use Rattle.moving.proofs.MoveLaws.{moved-width}
 use Rattle.moving.proofs.CodeLaws.{less-long, record-turn}
 use borrow.Author.Rules.{rules}
 use Rattle.moving.proofs.put_records.Goals as goal
+use Rattle.moving.proofs.put_records.Goals.{In-loop-k}
 
 -- n records of `long` bytes from a place on, in the other form
 abbrev rest : Bool → List ℕ → ℕ → ℕ → ℕ → List ℕ

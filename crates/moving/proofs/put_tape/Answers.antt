@@ -13,6 +13,7 @@ use Rattle.moving.specs.rules.Moving.{moved_trailer}
 use Rattle.moving.proofs.CodeLaws.{put-at, trailer-put, trailer-16, records-width, wrote-tape}
 use borrow.Author.Rules.{rules}
 use Rattle.moving.proofs.put_tape.Goals as goal
+use Rattle.moving.proofs.put_tape.Goals.{After-put_records-end, Start}
 
 -- the bytes before the records
 first-long : (c : goal.Start) → length (take (c.args.t.order + 64) c.args.s.now) ≡ c.args.t.order + 64

@@ -33,6 +33,7 @@ use Rattle.trade.proofs.ServeLaws.{short-of, Hands, to_serve, to-serve-done, han
 use Rattle.trade.proofs.RunLaws.{serve_work, work-met, work-served, work-next}
 use Rattle.trade.proofs.WholeLaws.{guarantee-found, market-fill, all-fills, fills-few}
 use Rattle.trade.proofs.write_all.Goals as goal
+use Rattle.trade.proofs.write_all.Goals.{After-first_set-i, After-first_set-i-in-loop-h, After-first_set-i-in-loop-rest, After-first_set-i-in-loop-unseen, After-first_set-i-then-h-ne0, After-first_set-i-then-rest-ne0, After-hand_of-h, After-loop-rest, After-loop-u, After-loop-unseen, After-price_of-l, After-without_lowest-rest, After-without_lowest-rest-then-rest-ne0, After-without_lowest-unseen, After-without_lowest-word, At-loop-d, At-loop-h, Else-rest-ne0, In-loop-d, In-loop-h, In-loop-rest, In-loop-u, In-loop-unseen, Start, Then-h-eq0}
 
 len : (c : goal.Start) → length c.args.b.places ≡ 64
 len c = search (rules, length-mapped)
@@ -55,7 +56,7 @@ loop-word-init c =
     )
 
 turn : (c : goal.After-first_set-i) → Turn c.args.b.places c.loop-word.word c.first_set-i.result
-turn c = turn-of c.args.b.places c.loop-word.word _ (len c.before.before.before.before.before.before.before.before.before.before.before) (omega arith) c.loop-word.invariant.0 c.first_set-i.ensures
+turn c = turn-of c.args.b.places c.loop-word.word _ (len c.before.before.before.before.before.before.before.before.before.before.before.before) (omega arith) c.loop-word.invariant.0 c.first_set-i.ensures
 
 pub overflow_cast-i : goal.overflow_cast-i
 overflow_cast-i c = omega (arith, (turn c).low)
@@ -72,12 +73,12 @@ left : (c : goal.After-without_lowest-word) → c.without_lowest-word.result ≡
 left c = c.without_lowest-word.ensures ∙ without-lowest _ _ c.first_set-i.ensures
 
 pub loop-word-smaller : goal.loop-word-smaller
-loop-word-smaller c = rw (left c) (turn c.before.before.before).less
+loop-word-smaller c = rw (left c) (turn (goal.at.loop-word-smaller c).After-first_set-i).less
 
 pub loop-word-preserved : goal.loop-word-preserved
 loop-word-preserved c =
     let a = c.args in
-    let t = turn c.before.before.before in
+    let t = turn (goal.at.loop-word-preserved c).After-first_set-i in
     let now : c.lesser-lowest.result ≡ min (max (get_or a.b.places c.first_set-i.result no_response).price a.d.bound) c.loop-word.lowest =
     c.lesser-lowest.ensures ∙ ap (λ (n : ℕ). min n c.loop-word.lowest) c.working.ensures.0 in (
       rw (left c) (omega (arith, without-le c.loop-word.word c.first_set-i.result, c.loop-word.invariant.0)),
@@ -94,26 +95,26 @@ overflow_sub-left c = omega (arith, c.lesser-takes.ensures)
 
 -- ---- the walk
 
-guaranteed : (c : goal.After-guarantee_of-g) → c.guarantee_of-g.result ≡ trade.guarantee c.args.d (offers c.args.b)
-guaranteed c = guarantee-found c.args.d c.args.b.places c.args.b.live _ _ _ (len c.before.before.before.before.before.before.before) c.wide-size.ensures.0 c.live_count.ensures c.guarantee_of-g.ensures.0
+guaranteed : (c : goal.After-price_of-l) → c.guarantee_of-g.result ≡ trade.guarantee c.args.d (offers c.args.b)
+guaranteed c = guarantee-found c.args.d c.args.b.places c.args.b.live _ _ _ (len c.before.before.before.before.before.before.before.before.before.before.before.before.before.before.before.before.before.before.before.before.before.before.before.before) c.wide-size.ensures.0 c.live_count.ensures c.guarantee_of-g.ensures.0
 
 -- all the fills: the market order's, and those of the walk
 
-fills-are : (c : goal.After-lesser-takes) → fills_of c.args.d c.args.b ≡ fill_of c.args.d.market (reported_price c.args.d.sell (market_price c.args.d (offers c.args.b))) c.lesser-takes.result ++ reported c.args.d.sell (flat (walk_from c.args.d (offers c.args.b) 0 (c.wide-size.result - c.lesser-takes.result) 0))
+fills-are : (c : goal.At-loop-d) → fills_of c.args.d c.args.b ≡ fill_of c.args.d.market (reported_price c.args.d.sell (market_price c.args.d (offers c.args.b))) c.lesser-takes.result ++ reported c.args.d.sell (flat (walk_from c.args.d (offers c.args.b) 0 (c.wide-size.result - c.lesser-takes.result) 0))
 fills-are c = all-fills c.args.d c.args.b _ _ (c.lesser-takes.ensures ∙ ap₂ (λ (x y : ℕ). min x y) c.wide-size.ensures.0 c.wide.ensures.0) (ap (λ (n : ℕ). n - c.lesser-takes.result) c.wide-size.ensures.0)
 
-market : (c : goal.After-loop-word) → fill_of c.args.d.market (reported_price c.args.d.sell (market_by c.args.d c.args.b.live c.loop-word.lowest)) c.lesser-takes.result ≡ fill_of c.args.d.market (reported_price c.args.d.sell (market_price c.args.d (offers c.args.b))) c.lesser-takes.result
+market : (c : goal.At-loop-d) → fill_of c.args.d.market (reported_price c.args.d.sell (market_by c.args.d c.args.b.live c.loop-word.lowest)) c.lesser-takes.result ≡ fill_of c.args.d.market (reported_price c.args.d.sell (market_price c.args.d (offers c.args.b))) c.lesser-takes.result
 market c =
     let a = c.args in
     let z : c.loop-word.word ≡ 0 = omega arith in
     let l : c.loop-word.lowest ≤ c.top_of-top.result = c.loop-word.invariant.3 in
-    market-fill a.d a.b c.loop-word.lowest c.lesser-takes.result (len c.before.before.before.before.before.before.before.before.before.before) (search rules)
+    market-fill a.d a.b c.loop-word.lowest c.lesser-takes.result (len c.before.before.before.before.before.before.before.before.before.before.before.before.before.before.before.before) (search rules)
     (λ p. rw (← c.top_of-top.ensures.0) (omega (arith, c.loop-word.invariant.2 p, l, ap (λ (n : ℕ). least_of a.d.bound c.top_of-top.result (live_in n a.b.places)) z, least-none a.d.bound c.top_of-top.result a.b.places)))
 
 -- what is still to be written fits
 
 walk-room : (c : goal.At-loop-d) → c.loop-d.s.at + 3 * length (reported c.args.d.sell (flat (walk_from c.args.d (offers c.args.b) c.loop-d.s.from c.loop-d.s.left c.loop-d.s.held))) ≤ 390
-walk-room c = omega (arith, c.loop-d.invariant.5.place, c.write_market-at.ensures.place, ap length (market c.before.before.before.before.before.before), simp length-append at (ap length (fills-are c.before.before.before.before.before.before.before.before.before.before.before)), fills-few c.args.d c.args.b (len c.before.before.before.before.before.before.before.before.before.before.before.before.before.before.before.before))
+walk-room c = omega (arith, c.loop-d.invariant.5.place, c.write_market-at.ensures.place, ap length (market c), simp length-append at (ap length (fills-are c)), fills-few c.args.d c.args.b (len c.before.before.before.before.before.before.before.before.before.before.before.before.before.before.before.before))
 
 pub loop-d-init : goal.loop-d-init
 loop-d-init c =
@@ -121,7 +122,7 @@ loop-d-init c =
       omega arith,
       omega (arith, c.wide-size.ensures.1),
       refl,
-      live-fits c.before.before.before.before.before.before.before.before.before.before.before.before.before.before.before,
+      live-fits (goal.at.loop-d-init c).Start,
       sym (ahead-all a.d (live_of a.b)),
       left-start _ _ _,
       λ k. absurd (false≢true k),
@@ -144,7 +145,7 @@ loop-unseen-init c =
     let s = c.loop-d.s in (
       omega (arith, c.unseen-unseen.ensures, unseen-le s.known s.rest, c.loop-d.invariant.3),
       λ k. (c.unseen-unseen.ensures ∙ ap (λ (b : Bool). cond b 0 s.rest) k, λ h. rw (c.kept-f.ensures, k) (c.loop-d.invariant.6 k h)),
-      λ k. rw (c.kept-f.ensures, c.nothing-n-in-loop-d.ensures, c.unseen-unseen.ensures, k) (sees-start a.d.bound c.top_of-top.result a.b.places s.rest (len c.before.before.before.before.before.before.before.before.before.before.before.before.before.before.before.before.before.before.before.before.before)),
+      λ k. rw (c.kept-f.ensures, c.nothing-n-in-loop-d.ensures, c.unseen-unseen.ensures, k) (sees-start a.d.bound c.top_of-top.result a.b.places s.rest (len (goal.at.loop-unseen-init c).Start)),
     )
 
 -- where there is a place to look at, the price was not known
@@ -174,48 +175,48 @@ less3 : (c : goal.After-without_lowest-unseen) → c.without_lowest-unseen.resul
 less3 c = rw (left3 c) (look c.before.before).less
 
 pub loop-unseen-smaller-then-n-wide : goal.loop-unseen-smaller-then-n-wide
-loop-unseen-smaller-then-n-wide c = less3 c.before.before.before
+loop-unseen-smaller-then-n-wide c = less3 (goal.at.loop-unseen-smaller-then-n-wide c).After-without_lowest-unseen
 
 pub loop-unseen-preserved-then-n-wide : goal.loop-unseen-preserved-then-n-wide
 loop-unseen-preserved-then-n-wide c =
     let a = c.args in (
-      omega (arith, less3 c.before.before.before, c.loop-unseen.invariant.0),
-      λ k. absurd (true≢false (sym k ∙ fresh c.before.before.before.before.before.before)),
-      λ _. rw (left3 c.before.before.before) (sees-skip a.d.bound c.top_of-top.result a.b.places c.loop-d.s.rest (len c.before.before.before.before.before.before.before.before.before.before.before.before.before.before.before.before.before.before.before.before.before.before.before.before.before.before.before.before.before) c.loop-unseen.unseen c.first_set-i-in-loop-unseen.result (look c.before.before.before.before.before) c.loop-unseen.f c.loop-unseen.n (omega (arith, c.if-n-wide.true, c.wide-in-loop-unseen.ensures.0)) (sees c.before.before.before.before.before.before)),
+      omega (arith, less3 (goal.at.loop-unseen-preserved-then-n-wide c).After-without_lowest-unseen, c.loop-unseen.invariant.0),
+      λ k. absurd (true≢false (sym k ∙ fresh (goal.at.loop-unseen-preserved-then-n-wide c).In-loop-unseen)),
+      λ _. rw (left3 (goal.at.loop-unseen-preserved-then-n-wide c).After-without_lowest-unseen) (sees-skip a.d.bound c.top_of-top.result a.b.places c.loop-d.s.rest (len (goal.at.loop-unseen-preserved-then-n-wide c).Start) c.loop-unseen.unseen c.first_set-i-in-loop-unseen.result (look (goal.at.loop-unseen-preserved-then-n-wide c).After-first_set-i-in-loop-unseen) c.loop-unseen.f c.loop-unseen.n (omega (arith, c.if-n-wide.true, c.wide-in-loop-unseen.ensures.0)) (sees (goal.at.loop-unseen-preserved-then-n-wide c).In-loop-unseen)),
     )
 
 small3 : (c : goal.In-loop-unseen) → (c.loop-unseen.f.served + c.loop-unseen.f.total ≤ 274877906880) × (c.loop-unseen.n.served + c.loop-unseen.n.total ≤ 274877906880)
 small3 c = sees-small c.args.d.bound c.top_of-top.result c.args.b.places c.loop-d.s.rest c.loop-unseen.f c.loop-unseen.n c.loop-unseen.unseen (sees c)
 
 pub added-f-requires : goal.added-f-requires
-added-f-requires c = (small3 c.before.before.before.before.before.before.before.before.before).0
+added-f-requires c = (small3 (goal.at.added-f-requires c).In-loop-unseen).0
 
 pub loop-unseen-smaller-then-p-f : goal.loop-unseen-smaller-then-p-f
-loop-unseen-smaller-then-p-f c = less3 c.before.before.before.before.before.before.before
+loop-unseen-smaller-then-p-f c = less3 (goal.at.loop-unseen-smaller-then-p-f c).After-without_lowest-unseen
 
 pub loop-unseen-preserved-then-p-f : goal.loop-unseen-preserved-then-p-f
 loop-unseen-preserved-then-p-f c =
     let a = c.args in (
-      omega (arith, less3 c.before.before.before.before.before.before.before, c.loop-unseen.invariant.0),
-      λ k. absurd (true≢false (sym k ∙ fresh c.before.before.before.before.before.before.before.before.before.before)),
-      λ _. rw (left3 c.before.before.before.before.before.before.before) (sees-same a.d.bound c.top_of-top.result a.b.places c.loop-d.s.rest (len c.before.before.before.before.before.before.before.before.before.before.before.before.before.before.before.before.before.before.before.before.before.before.before.before.before.before.before.before.before.before.before.before.before) c.loop-unseen.unseen c.first_set-i-in-loop-unseen.result (look c.before.before.before.before.before.before.before.before.before) c.loop-unseen.f c.loop-unseen.n _ c.working-p.result c.added-f.ensures.0 c.added-f.ensures.1 c.working-p.ensures.0 c.if-p-f.true (sees c.before.before.before.before.before.before.before.before.before.before)),
+      omega (arith, less3 (goal.at.loop-unseen-preserved-then-p-f c).After-without_lowest-unseen, c.loop-unseen.invariant.0),
+      λ k. absurd (true≢false (sym k ∙ fresh (goal.at.loop-unseen-preserved-then-p-f c).In-loop-unseen)),
+      λ _. rw (left3 (goal.at.loop-unseen-preserved-then-p-f c).After-without_lowest-unseen) (sees-same a.d.bound c.top_of-top.result a.b.places c.loop-d.s.rest (len (goal.at.loop-unseen-preserved-then-p-f c).Start) c.loop-unseen.unseen c.first_set-i-in-loop-unseen.result (look (goal.at.loop-unseen-preserved-then-p-f c).After-first_set-i-in-loop-unseen) c.loop-unseen.f c.loop-unseen.n _ c.working-p.result c.added-f.ensures.0 c.added-f.ensures.1 c.working-p.ensures.0 c.if-p-f.true (sees (goal.at.loop-unseen-preserved-then-p-f c).In-loop-unseen)),
     )
 
 pub later-n-requires : goal.later-n-requires
-later-n-requires c = (small3 c.before.before.before.before.before.before.before.before.before).1
+later-n-requires c = (small3 (goal.at.later-n-requires c).In-loop-unseen).1
 
 pub found-f-requires : goal.found-f-requires
-found-f-requires c = (small3 c.before.before.before.before.before.before.before.before.before.before).0
+found-f-requires c = (small3 (goal.at.found-f-requires c).In-loop-unseen).0
 
 pub loop-unseen-smaller : goal.loop-unseen-smaller
-loop-unseen-smaller c = less3 c.before.before.before.before.before.before.before.before
+loop-unseen-smaller c = less3 (goal.at.loop-unseen-smaller c).After-without_lowest-unseen
 
 pub loop-unseen-preserved : goal.loop-unseen-preserved
 loop-unseen-preserved c =
     let a = c.args in (
-      omega (arith, less3 c.before.before.before.before.before.before.before.before, c.loop-unseen.invariant.0),
-      λ k. absurd (true≢false (sym k ∙ fresh c.before.before.before.before.before.before.before.before.before.before.before)),
-      λ _. rw (left3 c.before.before.before.before.before.before.before.before) (sees-other a.d.bound c.top_of-top.result a.b.places c.loop-d.s.rest (len c.before.before.before.before.before.before.before.before.before.before.before.before.before.before.before.before.before.before.before.before.before.before.before.before.before.before.before.before.before.before.before.before.before.before) c.loop-unseen.unseen c.first_set-i-in-loop-unseen.result (look c.before.before.before.before.before.before.before.before.before.before) c.loop-unseen.f c.loop-unseen.n _ _ c.working-p.result c.found-f.ensures.0 c.found-f.ensures.1 c.later-n.ensures.0 c.later-n.ensures.1 c.working-p.ensures.0 c.if-p-f.false (sees c.before.before.before.before.before.before.before.before.before.before.before)),
+      omega (arith, less3 (goal.at.loop-unseen-preserved c).After-without_lowest-unseen, c.loop-unseen.invariant.0),
+      λ k. absurd (true≢false (sym k ∙ fresh (goal.at.loop-unseen-preserved c).In-loop-unseen)),
+      λ _. rw (left3 (goal.at.loop-unseen-preserved c).After-without_lowest-unseen) (sees-other a.d.bound c.top_of-top.result a.b.places c.loop-d.s.rest (len (goal.at.loop-unseen-preserved c).Start) c.loop-unseen.unseen c.first_set-i-in-loop-unseen.result (look (goal.at.loop-unseen-preserved c).After-first_set-i-in-loop-unseen) c.loop-unseen.f c.loop-unseen.n _ _ c.working-p.result c.found-f.ensures.0 c.found-f.ensures.1 c.later-n.ensures.0 c.later-n.ensures.1 c.working-p.ensures.0 c.if-p-f.false (sees (goal.at.loop-unseen-preserved c).In-loop-unseen)),
     )
 
 -- ---- the price
@@ -237,7 +238,7 @@ price : (c : goal.After-price_of-l) → Priced c.args.d c.args.b.places c.guaran
 price c = priced c.args.d c.args.b.places c.guarantee_of-g.result c.loop-d.s (len c.before.before.before.before.before.before.before.before.before.before.before.before.before.before.before.before.before.before.before.before.before.before.before.before) c.loop-d.invariant.3 c.loop-unseen.f (rw c.top_of-top.ensures.0 at (stands c.before)) _ c.price_of-l.ensures
 
 others-fit : (c : goal.After-price_of-l) → c.price_of-l.result.others < 2 ^ 64
-others-fit c = omega (arith, (price c).ranges, c.loop-d.invariant.3)
+others-fit c = omega (arith, (price c).fits, c.loop-d.invariant.3)
 
 shared-low : (c : goal.After-price_of-l) → c.price_of-l.result.shared ≤ 4294967295
 shared-low c = omega (arith, (price c).shared-low, c.loop-d.invariant.1)
@@ -251,14 +252,14 @@ level-fills : (c : goal.After-price_of-l) → reported c.args.d.sell (flat (walk
 level-fills c =
     let p = price c in
     let t = on c.before.before.before.before.before.before in
-    walk-fills c.args.d c.args.b.places c.args.b.live c.guarantee_of-g.result c.loop-d.s (guaranteed c.before.before.before.before.before.before.before.before.before.before.before.before.before.before.before.before.before) c.loop-d.invariant.4 t.1 t.0 _ _ _ (ap (λ (n : ℕ). n + 1) p.price-is) p.after_is (ap (λ (n : ℕ). c.loop-d.s.held + n) p.contra-is)
+    walk-fills c.args.d c.args.b.places c.args.b.live c.guarantee_of-g.result c.loop-d.s (guaranteed c) c.loop-d.invariant.4 t.1 t.0 _ _ _ (ap (λ (n : ℕ). n + 1) p.price-is) p.after_is (ap (λ (n : ℕ). c.loop-d.s.held + n) p.contra-is)
 
 -- ---- the cut: the fractions are added up
 pub loop-rest-init : goal.loop-rest-init
 unfolding sum
 loop-rest-init c =
     let l = c.price_of-l.result in (
-      omega (arith, c.unseen-rest.ensures, unseen-le l.turns l.others, others-fit c.before),
+      omega (arith, c.unseen-rest.ensures, unseen-le l.turns l.others, others-fit (goal.at.loop-rest-init c).After-price_of-l),
       λ k. c.unseen-rest.ensures ∙ ap (λ (b : Bool). cond b 0 l.others) k,
       λ k. let z : c.unseen-rest.result ≡ l.others = c.unseen-rest.ensures ∙ ap (λ (b : Bool). cond b 0 l.others) k in omega (arith, ap (λ (n : ℕ). sum (fractions_in l.shared l.total c.args.b.places n)) z),
     )
@@ -281,7 +282,7 @@ pub bounds-b-i-in-loop-rest : goal.bounds-b-i-in-loop-rest
 bounds-b-i-in-loop-rest c = (adds c).low
 
 pub fraction_of-sum-requires : goal.fraction_of-sum-requires
-fraction_of-sum-requires c = let v = short c.before.before.before.before (shares c.before) in (v.low, v.short)
+fraction_of-sum-requires c = let v = short (goal.at.fraction_of-sum-requires c).After-price_of-l (shares (goal.at.fraction_of-sum-requires c).In-loop-rest) in (v.low, v.short)
 
 added-low : (c : goal.In-loop-rest) → c.loop-rest.sum ≤ 70368744161280
 added-low c =
@@ -290,21 +291,21 @@ added-low c =
     omega (arith, c.loop-rest.invariant.2 k, sum_low l.shared l.total c.args.b.places (len c.before.before.before.before.before.before.before.before.before.before.before.before.before.before.before.before.before.before.before.before.before.before.before.before.before.before.before) l.others (short c.before.before.before k) (others-fit c.before.before.before) l.others)
 
 pub overflow_add-sum : goal.overflow_add-sum
-overflow_add-sum c = omega (arith, added-low c.before.before, c.fraction_of-sum.ensures.1, (short c.before.before.before.before.before (shares c.before.before)).small)
+overflow_add-sum c = omega (arith, added-low (goal.at.overflow_add-sum c).In-loop-rest, c.fraction_of-sum.ensures.1, (short (goal.at.overflow_add-sum c).After-price_of-l (shares (goal.at.overflow_add-sum c).In-loop-rest)).small)
 
 left4 : (c : goal.After-without_lowest-rest) → c.without_lowest-rest.result ≡ without_bit c.loop-rest.rest c.first_set-i-in-loop-rest.result
 left4 c = c.without_lowest-rest.ensures ∙ without-lowest _ _ c.first_set-i-in-loop-rest.ensures
 
 pub loop-rest-smaller : goal.loop-rest-smaller
-loop-rest-smaller c = rw (left4 c) (adds c.before.before).less
+loop-rest-smaller c = rw (left4 c) (adds (goal.at.loop-rest-smaller c).After-first_set-i-in-loop-rest).less
 
 pub loop-rest-preserved : goal.loop-rest-preserved
 unfolding sum
 loop-rest-preserved c =
     let l = c.price_of-l.result in
-    let t = adds c.before.before in (
+    let t = adds (goal.at.loop-rest-preserved c).After-first_set-i-in-loop-rest in (
       rw (left4 c) (omega (arith, t.less, c.loop-rest.invariant.0)),
-      λ k. absurd (true≢false (sym k ∙ shares c.before.before.before)),
+      λ k. absurd (true≢false (sym k ∙ shares (goal.at.loop-rest-preserved c).In-loop-rest)),
       λ k. rw (left4 c) (omega (arith, c.loop-rest.invariant.2 k, c.fraction_of-sum.ensures.0, ap sum (fractions-turn l.shared l.total c.args.b.places c.loop-rest.rest c.first_set-i-in-loop-rest.result t))),
     )
 
@@ -318,7 +319,7 @@ added-all c =
 pub counted-a-requires : goal.counted-a-requires
 counted-a-requires c =
     λ k. let l = c.price_of-l.result in
-    counts l.shared l.total c.args.b.places (len c.before.before.before.before.before.before.before.before.before.before.before.before.before.before.before.before.before.before.before.before.before.before.before.before.before.before.before) l.others (short c.before.before.before k) (others-fit c.before.before.before) c.loop-rest.sum (added-all c k)
+    counts l.shared l.total c.args.b.places (len (goal.at.counted-a-requires c).Start) l.others (short (goal.at.counted-a-requires c).After-price_of-l k) (others-fit (goal.at.counted-a-requires c).After-price_of-l) c.loop-rest.sum (added-all c k)
 
 -- ---- and narrowed down
 pub loop-u-init : goal.loop-u-init
@@ -326,7 +327,7 @@ unfolding counted_of no_cut
 loop-u-init c =
     let l = c.price_of-l.result in (
       λ k. rw (c.counted-a.ensures, k) (refl, refl),
-      λ k. rw (c.counted-a.ensures, k) (search-start l.shared l.total c.args.b.places (len c.before.before.before.before.before.before.before.before.before.before.before.before.before.before.before.before.before.before.before.before.before.before.before.before.before.before.before.before) l.others (short c.before.before.before.before k) (others-fit c.before.before.before.before) c.loop-rest.sum (added-all c.before k)),
+      λ k. rw (c.counted-a.ensures, k) (search-start l.shared l.total c.args.b.places (len (goal.at.loop-u-init c).Start) l.others (short (goal.at.loop-u-init c).After-price_of-l k) (others-fit (goal.at.loop-u-init c).After-price_of-l) c.loop-rest.sum (added-all (goal.at.loop-u-init c).After-loop-rest k)),
     )
 
 seeks : (c : goal.In-loop-u) → c.price_of-l.result.turns ≡ false
@@ -348,26 +349,26 @@ pub bounds-b-i-then-rest-ne0 : goal.bounds-b-i-then-rest-ne0
 bounds-b-i-then-rest-ne0 c = (look4 c).low
 
 pub fraction_of-fraction-requires : goal.fraction_of-fraction-requires
-fraction_of-fraction-requires c = let v = short c.before.before.before.before.before.before.before.before.before.before (seeks c.before.before) in (v.low, v.short)
+fraction_of-fraction-requires c = let v = short (goal.at.fraction_of-fraction-requires c).After-price_of-l (seeks (goal.at.fraction_of-fraction-requires c).In-loop-u) in (v.low, v.short)
 
 pub upper-u-requires : goal.upper-u-requires
 upper-u-requires c =
     let l = c.price_of-l.result in
-    let v = short c.before.before.before.before.before.before.before.before.before.before.before (seeks c.before.before.before) in
-    omega (arith, upper-within l.shared l.total c.args.b.places (len c.before.before.before.before.before.before.before.before.before.before.before.before.before.before.before.before.before.before.before.before.before.before.before.before.before.before.before.before.before.before.before.before.before.before.before) l.others v (others-fit c.before.before.before.before.before.before.before.before.before.before.before) c.loop-u.a c.loop-u.u c.loop-u.rest (sought c.before.before.before), c.fraction_of-fraction.ensures.1, v.small)
+    let v = short (goal.at.upper-u-requires c).After-price_of-l (seeks (goal.at.upper-u-requires c).In-loop-u) in
+    omega (arith, upper-within l.shared l.total c.args.b.places (len (goal.at.upper-u-requires c).Start) l.others v (others-fit (goal.at.upper-u-requires c).After-price_of-l) c.loop-u.a c.loop-u.u c.loop-u.rest (sought (goal.at.upper-u-requires c).In-loop-u), c.fraction_of-fraction.ensures.1, v.small)
 
 left5 : (c : goal.After-without_lowest-rest-then-rest-ne0) → c.without_lowest-rest-then-rest-ne0.result ≡ without_bit c.loop-u.rest c.first_set-i-then-rest-ne0.result
 left5 c = c.without_lowest-rest-then-rest-ne0.ensures ∙ without-lowest _ _ c.first_set-i-then-rest-ne0.ensures
 
 pub loop-u-smaller-then-rest-ne0 : goal.loop-u-smaller-then-rest-ne0
-loop-u-smaller-then-rest-ne0 c = rw (left5 c) (omega (arith, count_turn c.args.b.places c.loop-u.rest c.first_set-i-then-rest-ne0.result (look4 c.before.before.before)))
+loop-u-smaller-then-rest-ne0 c = rw (left5 c) (omega (arith, count_turn c.args.b.places c.loop-u.rest c.first_set-i-then-rest-ne0.result (look4 (goal.at.loop-u-smaller-then-rest-ne0 c).After-first_set-i-then-rest-ne0)))
 
 pub loop-u-preserved-then-rest-ne0 : goal.loop-u-preserved-then-rest-ne0
 loop-u-preserved-then-rest-ne0 c =
     let l = c.price_of-l.result in
-    let o = search-some l.shared l.total c.args.b.places l.others c.loop-u.a c.loop-u.u c.loop-u.rest (sought c.before.before.before.before.before) c.loop-u-test.true in (
-      λ k. absurd (true≢false (sym k ∙ seeks c.before.before.before.before.before)),
-      λ k. rw (left5 c) (search-look l.shared l.total c.args.b.places (len c.before.before.before.before.before.before.before.before.before.before.before.before.before.before.before.before.before.before.before.before.before.before.before.before.before.before.before.before.before.before.before.before.before.before.before.before.before) l.others (short c.before.before.before.before.before.before.before.before.before.before.before.before.before k) (others-fit c.before.before.before.before.before.before.before.before.before.before.before.before.before) c.loop-u.a c.loop-u.u c.upper-u.result c.loop-u.rest c.first_set-i-then-rest-ne0.result c.fraction_of-fraction.result o (look4 c.before.before.before) c.fraction_of-fraction.ensures.0 c.upper-u.ensures.0 c.upper-u.ensures.1 (sought c.before.before.before.before.before)),
+    let o = search-some l.shared l.total c.args.b.places l.others c.loop-u.a c.loop-u.u c.loop-u.rest (sought (goal.at.loop-u-preserved-then-rest-ne0 c).In-loop-u) c.loop-u-test.true in (
+      λ k. absurd (true≢false (sym k ∙ seeks (goal.at.loop-u-preserved-then-rest-ne0 c).In-loop-u)),
+      λ k. rw (left5 c) (search-look l.shared l.total c.args.b.places (len (goal.at.loop-u-preserved-then-rest-ne0 c).Start) l.others (short (goal.at.loop-u-preserved-then-rest-ne0 c).After-price_of-l k) (others-fit (goal.at.loop-u-preserved-then-rest-ne0 c).After-price_of-l) c.loop-u.a c.loop-u.u c.upper-u.result c.loop-u.rest c.first_set-i-then-rest-ne0.result c.fraction_of-fraction.result o (look4 (goal.at.loop-u-preserved-then-rest-ne0 c).After-first_set-i-then-rest-ne0) c.fraction_of-fraction.ensures.0 c.upper-u.ensures.0 c.upper-u.ensures.1 (sought (goal.at.loop-u-preserved-then-rest-ne0 c).In-loop-u)),
     )
 
 -- all were looked at
@@ -378,20 +379,20 @@ halving c = let z : c.loop-u.rest ≡ 0 = omega (arith, c.if-rest-ne0.false) in 
 pub narrowed-a-requires : goal.narrowed-a-requires
 narrowed-a-requires c =
     let l = c.price_of-l.result in
-    let v = short c.before.before.before.before.before.before.before.before.before (seeks c.before) in
-    let h = search-halves l.shared l.total c.args.b.places (len c.before.before.before.before.before.before.before.before.before.before.before.before.before.before.before.before.before.before.before.before.before.before.before.before.before.before.before.before.before.before.before.before.before) l.others v (others-fit c.before.before.before.before.before.before.before.before.before) c.loop-u.a c.loop-u.u (halving c) c.loop-u-test.true in
-    record { sum_bound = (search-low l.shared l.total c.args.b.places (len c.before.before.before.before.before.before.before.before.before.before.before.before.before.before.before.before.before.before.before.before.before.before.before.before.before.before.before.before.before.before.before.before.before) l.others v (others-fit c.before.before.before.before.before.before.before.before.before) c.loop-u.a c.loop-u.u (halving c) c.loop-u-test.true, h.upper-low, h.upper_in); word_nonzero = (h.upper-some, h.others-some) }
+    let v = short (goal.at.narrowed-a-requires c).After-price_of-l (seeks (goal.at.narrowed-a-requires c).In-loop-u) in
+    let h = search-halves l.shared l.total c.args.b.places (len (goal.at.narrowed-a-requires c).Start) l.others v (others-fit (goal.at.narrowed-a-requires c).After-price_of-l) c.loop-u.a c.loop-u.u (halving c) c.loop-u-test.true in
+    record { sum_bound = (search-low l.shared l.total c.args.b.places (len (goal.at.narrowed-a-requires c).Start) l.others v (others-fit (goal.at.narrowed-a-requires c).After-price_of-l) c.loop-u.a c.loop-u.u (halving c) c.loop-u-test.true, h.upper-low, h.upper_in); word_nonzero = (h.upper-some, h.others-some) }
 
 pub loop-u-smaller : goal.loop-u-smaller
 loop-u-smaller c =
     let l = c.price_of-l.result in
     let z : c.loop-u.rest ≡ 0 = omega (arith, c.if-rest-ne0.false) in
-    rw (c.narrowed-a.ensures, z) (search-less l.shared l.total c.args.b.places (len c.before.before.before.before.before.before.before.before.before.before.before.before.before.before.before.before.before.before.before.before.before.before.before.before.before.before.before.before.before.before.before.before.before.before) l.others (short c.before.before.before.before.before.before.before.before.before.before (seeks c.before.before)) (others-fit c.before.before.before.before.before.before.before.before.before.before) c.loop-u.a c.loop-u.u (halving c.before) c.loop-u-test.true)
+    rw (c.narrowed-a.ensures, z) (search-less l.shared l.total c.args.b.places (len (goal.at.loop-u-smaller c).Start) l.others (short (goal.at.loop-u-smaller c).After-price_of-l (seeks (goal.at.loop-u-smaller c).In-loop-u)) (others-fit (goal.at.loop-u-smaller c).After-price_of-l) c.loop-u.a c.loop-u.u (halving (goal.at.loop-u-smaller c).Else-rest-ne0) c.loop-u-test.true)
 
 pub loop-u-preserved : goal.loop-u-preserved
 loop-u-preserved c =
     let l = c.price_of-l.result in
-    (λ k. absurd (true≢false (sym k ∙ seeks c.before.before)), λ k. rw c.narrowed-a.ensures (search-next l.shared l.total c.args.b.places (len c.before.before.before.before.before.before.before.before.before.before.before.before.before.before.before.before.before.before.before.before.before.before.before.before.before.before.before.before.before.before.before.before.before.before) l.others (short c.before.before.before.before.before.before.before.before.before.before k) (others-fit c.before.before.before.before.before.before.before.before.before.before) c.loop-u.a c.loop-u.u (halving c.before) c.loop-u-test.true))
+    (λ k. absurd (true≢false (sym k ∙ seeks (goal.at.loop-u-preserved c).In-loop-u)), λ k. rw c.narrowed-a.ensures (search-next l.shared l.total c.args.b.places (len (goal.at.loop-u-preserved c).Start) l.others (short (goal.at.loop-u-preserved c).After-price_of-l k) (others-fit (goal.at.loop-u-preserved c).After-price_of-l) c.loop-u.a c.loop-u.u (halving (goal.at.loop-u-preserved c).Else-rest-ne0) c.loop-u-test.true))
 
 cuts : (c : goal.After-loop-u) → c.price_of-l.result.turns ≡ false → Cuts (leftover_count c.price_of-l.result.shared (sizes (live_in c.price_of-l.result.others c.args.b.places))) (fractions_in c.price_of-l.result.shared c.price_of-l.result.total c.args.b.places c.price_of-l.result.others) c.loop-u.a.mean c.loop-u.a.leftovers
 cuts c =
@@ -434,11 +435,11 @@ met-h-requires c = (omega (arith, c.wide-then-h-ne0.ensures.1), omega (arith, c.
 
 pub loop-h-smaller-then-h-ne0 : goal.loop-h-smaller-then-h-ne0
 loop-h-smaller-then-h-ne0 c =
-    rw c.met-h.ensures (work-met c.args.b.places c.loop-h.h c.first_set-i-then-h-ne0.result c.wide-then-h-ne0.result c.loop-h.invariant.0.serves (omega (arith, c.if-h-ne0.true)) c.first_set-i-then-h-ne0.ensures c.wide-then-h-ne0.ensures.0 (omega (arith, c.wide-then-h-ne0.ensures.1)) (going_on c.before.before.before.before.before))
+    rw c.met-h.ensures (work-met c.args.b.places c.loop-h.h c.first_set-i-then-h-ne0.result c.wide-then-h-ne0.result c.loop-h.invariant.0.serves (omega (arith, c.if-h-ne0.true)) c.first_set-i-then-h-ne0.ensures c.wide-then-h-ne0.ensures.0 (omega (arith, c.wide-then-h-ne0.ensures.1)) (going_on (goal.at.loop-h-smaller-then-h-ne0 c).In-loop-h))
 
 pub loop-h-preserved-then-h-ne0 : goal.loop-h-preserved-then-h-ne0
 loop-h-preserved-then-h-ne0 c =
-    let m = hands-met c.price_of-l.result c.loop-u.a.mean c.args.b.places c.loop-h.h (len c.before.before.before.before.before.before.before.before.before.before.before.before.before.before.before.before.before.before.before.before.before.before.before.before.before.before.before.before.before.before.before.before.before.before.before.before.before.before.before.before.before) c.loop-h.invariant.0 c.first_set-i-then-h-ne0.result c.wide-then-h-ne0.result (omega (arith, c.if-h-ne0.true)) c.first_set-i-then-h-ne0.ensures c.wide-then-h-ne0.ensures.0 (omega (arith, c.wide-then-h-ne0.ensures.1)) in
+    let m = hands-met c.price_of-l.result c.loop-u.a.mean c.args.b.places c.loop-h.h (len (goal.at.loop-h-preserved-then-h-ne0 c).Start) c.loop-h.invariant.0 c.first_set-i-then-h-ne0.result c.wide-then-h-ne0.result (omega (arith, c.if-h-ne0.true)) c.first_set-i-then-h-ne0.ensures c.wide-then-h-ne0.ensures.0 (omega (arith, c.wide-then-h-ne0.ensures.1)) in
     rw c.met-h.ensures (m.0, c.loop-h.invariant.1, rw (m.1, m.2) c.loop-h.invariant.2)
 
 nexts : (c : goal.Then-h-eq0) → (at : ℕ) → Hands c.price_of-l.result c.loop-u.a.mean c.args.b.places (next_of c.loop-h.h c.price_of-l.result c.loop-u.a.leftovers at) × (to_serve c.price_of-l.result c.loop-u.a.mean c.args.b.places c.loop-h.h ≡ next_fills c.loop-h.h c.price_of-l.result ++ to_serve c.price_of-l.result c.loop-u.a.mean c.args.b.places (next_of c.loop-h.h c.price_of-l.result c.loop-u.a.leftovers at))
@@ -446,7 +447,7 @@ nexts c =
     λ at. let p = price c.before.before.before.before.before.before.before.before.before.before.before.before.before.before.before.before in
     hands_next c.price_of-l.result c.loop-u.a.mean c.args.b.places c.loop-h.h (len c.before.before.before.before.before.before.before.before.before.before.before.before.before.before.before.before.before.before.before.before.before.before.before.before.before.before.before.before.before.before.before.before.before.before.before.before.before.before.before.before) c.loop-h.invariant.0 (omega (arith, c.if-h-ne0.false)) c.if-h-eq0.true (others-fit c.before.before.before.before.before.before.before.before.before.before.before.before.before.before.before.before) p.others-rank p.total-is p.in-turn (shared-low c.before.before.before.before.before.before.before.before.before.before.before.before.before.before.before.before) c.loop-u.a.leftovers (cuts c.before.before.before.before.before.before.before.before) at
 
--- what is still to be written of the price fits
+-- what is still to be written of the price c.before.before.before.before.before.before.before.before.before.before.before.before.before.before.before.before
 
 room : (c : goal.At-loop-h) → c.loop-h.h.at + 3 * length (to_serve c.price_of-l.result c.loop-u.a.mean c.args.b.places c.loop-h.h) ≤ 390
 room c =
@@ -458,18 +459,18 @@ next-room c = omega (arith, room c.before.before.before.before.before.before, ap
 
 pub next-h-requires : goal.next-h-requires
 next-h-requires c =
-    (omega (arith, (price c.before.before.before.before.before.before.before.before.before.before.before.before.before.before.before.before.before).contra-low, c.loop-d.invariant.1), le_trans (next-room c.before) (omega (arith, c.loop-h.invariant.1, c.loop-d.invariant.2, c.write_market-at.auto.1.1.1.1.0, c.requires)))
+    (omega (arith, (price (goal.at.next-h-requires c).After-price_of-l).contra-low, c.loop-d.invariant.1), le_trans (next-room (goal.at.next-h-requires c).Then-h-eq0) (omega (arith, c.loop-h.invariant.1, c.loop-d.invariant.2, c.write_market-at.auto.out, c.requires)))
 
 pub loop-h-smaller-then-h-eq0 : goal.loop-h-smaller-then-h-eq0
 loop-h-smaller-then-h-eq0 c =
-    rw c.next-h.ensures.value (work-next c.args.b.places c.loop-h.h (len c.before.before.before.before.before.before.before.before.before.before.before.before.before.before.before.before.before.before.before.before.before.before.before.before.before.before.before.before.before.before.before.before.before.before.before.before.before.before.before.before.before.before.before.before) c.loop-h.invariant.0.serves (omega (arith, c.if-h-ne0.false)) (going_on c.before.before.before.before.before.before.before.before) c.price_of-l.result c.loop-u.a.leftovers _ c.if-h-eq0.true (others-fit c.before.before.before.before.before.before.before.before.before.before.before.before.before.before.before.before.before.before.before.before))
+    rw c.next-h.ensures.value (work-next c.args.b.places c.loop-h.h (len (goal.at.loop-h-smaller-then-h-eq0 c).Start) c.loop-h.invariant.0.serves (omega (arith, c.if-h-ne0.false)) (going_on (goal.at.loop-h-smaller-then-h-eq0 c).In-loop-h) c.price_of-l.result c.loop-u.a.leftovers _ c.if-h-eq0.true (others-fit (goal.at.loop-h-smaller-then-h-eq0 c).After-price_of-l))
 
 pub loop-h-preserved-then-h-eq0 : goal.loop-h-preserved-then-h-eq0
 loop-h-preserved-then-h-eq0 c =
-    let n = nexts c.before.before.before.before c.next-h.result.at in
+    let n = nexts (goal.at.loop-h-preserved-then-h-eq0 c).Then-h-eq0 c.next-h.result.at in
     let h : Hands c.price_of-l.result c.loop-u.a.mean c.args.b.places c.next-h.result = rw c.next-h.ensures.value n.0 in
     let t : to_serve c.price_of-l.result c.loop-u.a.mean c.args.b.places c.loop-h.h ≡ next_fills c.loop-h.h c.price_of-l.result ++ to_serve c.price_of-l.result c.loop-u.a.mean c.args.b.places c.next-h.result = rw c.next-h.ensures.value n.1 in
-    (h, omega (arith, c.next-h.auto.1.1.1.0, c.loop-h.invariant.1), left-turn (rw t at c.loop-h.invariant.2) c.next-h.ensures.wrote_fills)
+    (h, omega (arith, c.next-h.auto.out, c.loop-h.invariant.1), left-turn (rw t at c.loop-h.invariant.2) c.next-h.ensures.wrote_fills)
 
 -- the next in sequence
 
@@ -493,31 +494,31 @@ serve-room c = omega (arith, room c.before.before.before.before.before.before.be
 
 pub filled-h-requires : goal.filled-h-requires
 filled-h-requires c =
-    let g = c.loop-h.invariant.0 in record { shared_bound = (shared-low c.before.before.before.before.before.before.before.before.before.before.before.before.before.before.before.before.before.before.before, g.low, g.short, omega (arith, g.serves.fits)); r_in_bounds = le_trans (serve-room c.before.before) (omega (arith, c.loop-h.invariant.1, c.loop-d.invariant.2, c.write_market-at.auto.1.1.1.1.0, c.requires)) }
+    let g = c.loop-h.invariant.0 in record { shared_bound = (shared-low (goal.at.filled-h-requires c).After-price_of-l, g.low, g.short, omega (arith, g.serves.fits)); r_in_bounds = le_trans (serve-room (goal.at.filled-h-requires c).After-first_set-i-in-loop-h) (omega (arith, c.loop-h.invariant.1, c.loop-d.invariant.2, c.write_market-at.auto.out, c.requires)) }
 
 pub loop-h-smaller : goal.loop-h-smaller
 loop-h-smaller c =
-    rw c.filled-h.ensures.value (work-served c.args.b.places c.loop-h.h (len c.before.before.before.before.before.before.before.before.before.before.before.before.before.before.before.before.before.before.before.before.before.before.before.before.before.before.before.before.before.before.before.before.before.before.before.before.before.before.before.before.before.before.before.before.before.before) c.loop-h.invariant.0.serves (omega (arith, c.if-h-ne0.false)) (going_on c.before.before.before.before.before.before.before.before.before.before) c.first_set-i-in-loop-h.result c.price_of-l.result c.loop-u.a.mean _ _ (omega (arith, c.if-h-eq0.false)) c.first_set-i-in-loop-h.ensures refl)
+    rw c.filled-h.ensures.value (work-served c.args.b.places c.loop-h.h (len (goal.at.loop-h-smaller c).Start) c.loop-h.invariant.0.serves (omega (arith, c.if-h-ne0.false)) (going_on (goal.at.loop-h-smaller c).In-loop-h) c.first_set-i-in-loop-h.result c.price_of-l.result c.loop-u.a.mean _ _ (omega (arith, c.if-h-eq0.false)) c.first_set-i-in-loop-h.ensures refl)
 
 pub loop-h-preserved : goal.loop-h-preserved
 loop-h-preserved c =
-    let n = serves c.before.before.before.before.before c.filled-h.result.at in
+    let n = serves (goal.at.loop-h-preserved c).After-first_set-i-in-loop-h c.filled-h.result.at in
     let h : Hands c.price_of-l.result c.loop-u.a.mean c.args.b.places c.filled-h.result = rw c.filled-h.ensures.value n.0 in
     let t : to_serve c.price_of-l.result c.loop-u.a.mean c.args.b.places c.loop-h.h ≡ served_fills c.loop-h.h c.price_of-l.result c.loop-u.a.mean (get_or c.args.b.places c.first_set-i-in-loop-h.result no_response) ++ to_serve c.price_of-l.result c.loop-u.a.mean c.args.b.places c.filled-h.result = rw c.filled-h.ensures.value n.1 in
-    (h, omega (arith, c.filled-h.auto.1.1.1.1.0, c.loop-h.invariant.1), left-turn (rw t at c.loop-h.invariant.2) c.filled-h.ensures.wrote_fills)
+    (h, omega (arith, c.filled-h.auto.out, c.loop-h.invariant.1), left-turn (rw t at c.loop-h.invariant.2) c.filled-h.ensures.wrote_fills)
 
 -- ---- the walk stands after the price
 pub passed-s-requires : goal.passed-s-requires
 passed-s-requires c =
-    let p = price c.before.before.before.before.before.before.before.before.before.before.before.before in
-    let u = above c.before.before.before.before.before.before.before.before.before.before.before.before.before.before.before.before.before.before in
+    let p = price (goal.at.passed-s-requires c).After-price_of-l in
+    let u = above (goal.at.passed-s-requires c).In-loop-d in
     (p.fits, omega (arith, p.contra-low, c.loop-d.invariant.1), omega (arith, p.price-is, u.1, c.top_of-top.ensures.0, c.top_of-top.ensures.1))
 
 pub loop-d-smaller : goal.loop-d-smaller
 unfolding passed_of
 loop-d-smaller c =
-    let p = price c.before.before.before.before.before.before.before.before.before.before.before.before.before in
-    let u = above c.before.before.before.before.before.before.before.before.before.before.before.before.before.before.before.before.before.before.before in
+    let p = price (goal.at.loop-d-smaller c).After-price_of-l in
+    let u = above (goal.at.loop-d-smaller c).In-loop-d in
     rw c.passed-s.ensures (omega (arith, p.price-is, u.0, u.1, c.top_of-top.ensures.0))
 
 pub loop-d-preserved : goal.loop-d-preserved
@@ -525,23 +526,23 @@ unfolding passed_of
 loop-d-preserved c =
     let a = c.args in
     let s = c.loop-d.s in
-    let p = price c.before.before.before.before.before.before.before.before.before.before.before.before.before in
-    let u = above c.before.before.before.before.before.before.before.before.before.before.before.before.before.before.before.before.before.before.before in
+    let p = price (goal.at.loop-d-preserved c).After-price_of-l in
+    let u = above (goal.at.loop-d-preserved c).In-loop-d in
     let e = to-serve-done c.price_of-l.result c.loop-u.a.mean a.b.places c.loop-h.h c.loop-h.invariant.0 (not-false c.loop-h.h.done c.loop-h-test.false) in
     let w = rw p.fills at (left-done (rw e at c.loop-h.invariant.2)) in
-    let f = level-fills c.before.before.before.before.before.before.before.before.before.before.before.before.before in
+    let f = level-fills (goal.at.loop-d-preserved c).After-price_of-l in
     rw c.passed-s.ensures (
       omega (arith, p.price-is, u.1, c.top_of-top.ensures.0),
       omega (arith, p.contra-low, c.loop-d.invariant.1),
       omega (arith, c.loop-h.invariant.1, c.loop-d.invariant.2),
       omega (arith, c.loop-d.invariant.3),
-      rw p.price-is (rest-is a.d a.b.places a.b.live c.guarantee_of-g.result s (guaranteed c.before.before.before.before.before.before.before.before.before.before.before.before.before.before.before.before.before.before.before.before.before.before.before.before.before.before.before.before.before.before) c.loop-d.invariant.4 (on c.before.before.before.before.before.before.before.before.before.before.before.before.before.before.before.before.before.before.before).1 (s.rest - c.price_of-l.result.customers - c.price_of-l.result.others) (len c.before.before.before.before.before.before.before.before.before.before.before.before.before.before.before.before.before.before.before.before.before.before.before.before.before.before.before.before.before.before.before.before.before.before.before.before.before) c.loop-d.invariant.3 (omega (arith, p.gone, p.fits))),
+      rw p.price-is (rest-is a.d a.b.places a.b.live c.guarantee_of-g.result s (guaranteed (goal.at.loop-d-preserved c).After-price_of-l) c.loop-d.invariant.4 (on (goal.at.loop-d-preserved c).In-loop-d).1 (s.rest - c.price_of-l.result.customers - c.price_of-l.result.others) (len (goal.at.loop-d-preserved c).Start) c.loop-d.invariant.3 (omega (arith, p.gone, p.fits))),
       left-turn (rw f at c.loop-d.invariant.5) w,
       λ k h.
-          let z = looked-all c.before.before.before.before.before.before.before.before.before.before.before.before.before.before in
+          let z = looked-all (goal.at.loop-d-preserved c).After-loop-unseen in
           let n : s.known ≡ false = not-true s.known k in
           let q : c.loop-unseen.f.price ≡ (level_of a.d a.b.places c.guarantee_of-g.result s).price = sym (priced-price a.d c.guarantee_of-g.result s c.loop-unseen.f c.price_of-l.result c.price_of-l.ensures) ∙ p.price-is in
-          sees-second a.d.bound c.top_of-top.result a.b.places s.rest c.loop-unseen.f c.loop-unseen.n (rw z at (c.loop-unseen.invariant.2 n)) (len c.before.before.before.before.before.before.before.before.before.before.before.before.before.before.before.before.before.before.before.before.before.before.before.before.before.before.before.before.before.before.before.before.before.before.before.before.before) c.loop-d.invariant.3 _ (rw q (omega (arith, p.gone, p.fits))) (omega (arith, q, p.price-is, h)),
+          sees-second a.d.bound c.top_of-top.result a.b.places s.rest c.loop-unseen.f c.loop-unseen.n (rw z at (c.loop-unseen.invariant.2 n)) (len (goal.at.loop-d-preserved c).Start) c.loop-d.invariant.3 _ (rw q (omega (arith, p.gone, p.fits))) (omega (arith, q, p.price-is, h)),
     )
 
 -- ---- the end
@@ -550,4 +551,4 @@ returns c =
     let a = c.args in
     let e = stays c.loop-d.s.left c.loop-d.s.from c.top_of-top.result (sym c.going.ensures ∙ c.loop-d-test.false) in
     let w = left-done (rw (walk-done a.d (offers a.b) c.loop-d.s.from c.loop-d.s.left c.loop-d.s.held (⊎_elim (λ z. inl z) (λ z. inr (omega (arith, c.top_of-top.ensures.0))) e)) at c.loop-d.invariant.5) in
-    rw (fills-are c.before.before.before.before.before.before.before.before.before.before.before.before.before) (wrote-append (rw (market c.before.before.before.before.before.before.before.before) at c.write_market-at.ensures) w)
+    rw (fills-are (goal.at.returns c).At-loop-d) (wrote-append (rw (market (goal.at.returns c).At-loop-d) at c.write_market-at.ensures) w)

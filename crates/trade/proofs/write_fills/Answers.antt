@@ -8,40 +8,41 @@ use Rattle.base.proofs.ListLaws.{length-mapped}
 use borrow.Author.Tests.{not-true, not-false}
 use borrow.Author.Rules.{rules}
 use Rattle.trade.proofs.write_fills.Goals as goal
+use Rattle.trade.proofs.write_fills.Goals.{Start}
 
 len : (c : goal.Start) → length c.args.b.places ≡ 64
 len c = search (rules, length-mapped)
 
 pub returns-then-not-ended : goal.returns-then-not-ended
 returns-then-not-ended c =
-    let both = let a = c.args in not-ended a.ended a.d a.b a.out.now a.start (not-true _ c.if-not-ended.true) in
+    let both = let a = c.args in not-ended a.ended a.d a.b a.out.now a.start c.if-not-ended.true in
     record { value = both.0; out_after = both.1 }
 
 pub returns-then-n-start : goal.returns-then-n-start
 returns-then-n-start c =
-    let both = let a = c.args in start-past a.ended a.d a.b a.out.now a.start (not-false _ c.if-not-ended.false) c.if-n-start.true in
+    let both = let a = c.args in start-past a.ended a.d a.b a.out.now a.start c.if-not-ended.false c.if-n-start.true in
     record { value = both.0; out_after = both.1 }
 
 pub returns-then-n-start-lt390 : goal.returns-then-n-start-lt390
 returns-then-n-start-lt390 c =
-    let both = let a = c.args in too_short a.ended a.d a.b a.out.now a.start (not-false _ c.if-not-ended.false) c.if-n-start.false c.if-n-start-lt390.true in
+    let both = let a = c.args in too_short a.ended a.d a.b a.out.now a.start c.if-not-ended.false c.if-n-start.false c.if-n-start-lt390.true in
     record { value = both.0; out_after = both.1 }
 
 pub overflow_cast-result : goal.overflow_cast-result
 overflow_cast-result c =
     let s = c.before.before.before.before.before.before.before.before in
     let a = s.args in
-    omega (arith, c.write_all-words.ensures.place, fills-few a.d a.b (len s))
+    omega (arith, c.write_all-words.ensures.place, fills-few a.d a.b (len (goal.at.overflow_cast-result c).Start))
 
 pub returns : goal.returns
 returns c =
     let s = c.before.before.before.before.before.before.before.before in
     let a = s.args in
     let w = c.write_all-words in
-    let e = not-false _ c.if-not-ended.false in
+    let e = c.if-not-ended.false in
     let h : a.start ≤ length a.out.now = c.if-n-start.false in
     let k : 390 ≤ length a.out.now - a.start = c.if-n-start-lt390.false in record {
       value = counted a.ended a.d a.b a.out.now a.start e h k _ (omega (arith, w.ensures.place));
-      out_after = words_back a.start a.out.now w.new.1.1.0 (fills_of a.d a.b) (omega (arith, fills-few a.d a.b (len s))) w.ensures.words
+      out_after = words_back a.start a.out.now w.new.out (fills_of a.d a.b) (omega (arith, fills-few a.d a.b (len (goal.at.returns c).Start))) w.ensures.words
           ∙ words-after a.ended a.d a.b a.out.now a.start e h k;
     }

@@ -9,6 +9,7 @@ use Rattle.listing.proofs.FillLaws.{Reported, reported}
 use borrow.Author.Rules.{rules}
 use Rattle.listing.specs.inside.Code.{count_in}
 use Rattle.listing.proofs.results.put_results.Goals as goal
+use Rattle.listing.proofs.results.put_results.Goals.{After-count_of-n, Start}
 
 len : (c : goal.Start) → length c.args.a.board.places ≡ 64
 len c = search (rules, length-mapped)

@@ -12,6 +12,7 @@ use Rattle.words.proofs.WroteLaws.{wrote-same}
 use Rattle.listing.proofs.WatchLaws.{unshown, shown}
 use borrow.Author.Rules.{rules}
 use Rattle.listing.proofs.watch.ended.Goals as goal
+use Rattle.listing.proofs.watch.ended.Goals.{Start}
 
 len : (c : goal.Start) → length c.args.a.board.places ≡ 64
 len c = search (rules, length-mapped)

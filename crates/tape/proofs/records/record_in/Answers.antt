@@ -5,6 +5,7 @@ use lib.ListN.{length}
 use Rattle.tape.proofs.RecordLaws.{records-fit, records-over, record-past, record-there}
 use borrow.Author.Rules.{rules}
 use Rattle.tape.proofs.records.record_in.Goals as goal
+use Rattle.tape.proofs.records.record_in.Goals.{After-event_bytes}
 
 -- the record begins before the bytes end
 fits : (c : goal.After-event_bytes) → c.args.k * c.event_bytes.result ≤ length c.args.s.now - (c.args.t.order + 64)

@@ -4,7 +4,7 @@ use Rattle.trade.proofs.RunLaws.{served-again, served-writes, served-first}
 use Rattle.trade.proofs.write.filled.Goals as goal
 
 pub overflow_add-h : goal.overflow_add-h
-overflow_add-h c = omega (arith, c.requires.0.3)
+overflow_add-h c = omega (arith, c.requires.shared_bound.3)
 
 pub returns-then-h-wide : goal.returns-then-h-wide
 returns-then-h-wide c =
@@ -13,12 +13,12 @@ returns-then-h-wide c =
     record { wrote_fills = both.0; value = both.1 }
 
 pub given-g-requires : goal.given-g-requires
-given-g-requires c = let p = c.requires.0 in (p.0, p.1, p.2)
+given-g-requires c = let p = c.requires.shared_bound in (p.0, p.1, p.2)
 
 pub put_fill-n-requires : goal.put_fill-n-requires
 put_fill-n-requires c =
     let s = c.before.before.before.before.before.before in
-    let g = c.given-g in record { quantity_bound = g.ensures.small; quantity_in_bounds = rw (served-writes s.args.h s.args.l s.args.cut s.args.r g.result (omega (arith, c.if-h-wide.false, c.wide.ensures.0)) g.ensures) at s.requires.1 }
+    let g = c.given-g in record { quantity_bound = g.ensures.small; quantity_in_bounds = rw (served-writes s.args.h s.args.l s.args.cut s.args.r g.result (omega (arith, c.if-h-wide.false, c.wide.ensures.0)) g.ensures) at s.requires.r_in_bounds }
 
 pub returns : goal.returns
 returns c =

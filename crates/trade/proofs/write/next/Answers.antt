@@ -19,7 +19,7 @@ pub returns-then-not-h : goal.returns-then-not-h
 returns-then-not-h c =
     let both = let a = c.args in
     let o = c.others_of in
-    next-others a.h a.l a.spare _ _ o.result c.if-h-ne0.false (not-true a.h.last c.if-not-h.true) o.ensures.0 o.ensures.1 in
+    next-others a.h a.l a.spare _ _ o.result c.if-h-ne0.false (not-true a.h.last c.if-not-h.true) o.ensures.wrote_fills o.ensures.value in
     record { wrote_fills = both.0; value = both.1 }
 
 pub returns : goal.returns

@@ -7,11 +7,12 @@ use Rattle.trade.proofs.WriteLaws.{fill-some}
 use Rattle.share.specs.inside.Fills.{written}
 use borrow.Author.Rules.{rules}
 use Rattle.trade.proofs.write.put_fill.Goals as goal
+use Rattle.trade.proofs.write.put_fill.Goals.{Then-quantity-gt0}
 
 room : (c : goal.Then-quantity-gt0) → c.args.at + 3 ≤ length c.args.out.now
 room c =
     let a = c.args in
-    omega (arith, fill-some a.party a.price a.quantity c.if-quantity-gt0.true, c.requires.1)
+    omega (arith, fill-some a.party a.price a.quantity c.if-quantity-gt0.true, c.requires.quantity_in_bounds)
 
 pub bounds-out-at : goal.bounds-out-at
 bounds-out-at c = omega (arith, room c)
