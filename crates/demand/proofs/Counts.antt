@@ -3,7 +3,7 @@ use mathlib.Core.Path.{◌≡◌, refl, ap, ◌∙◌, sym, subst}
 use mathlib.Core.Bool.{Bool, true, false, not, ◌&&◌}
 use mathlib.Core.List.{List, [], ◌∷◌, ◌++◌}
 use mathlib.Core.Logic.{◌≢◌}
-use Prim.Native.Nat.{ℕ, suc, ◌+◌, ◌≤◌}
+use Prim.Native.Nat.{ℕ, suc, ◌+◌, ◌≤◌, ◌-◌}
 use native.Mathlib.Omega.{arith}
 use borrow.Author.Tests.{eqb-true, eqb-false, ne_eqb}
 use lib.Dec.{eqb}
@@ -15,7 +15,7 @@ use Rattle.base.specs.Lists.{Every, keep, filter}
 use Rattle.share.specs.rules.Share.{in_turn}
 use Rattle.share.specs.rules.Fills.{Fill, fill_of, fills_by, sizes}
 use Rattle.trade.specs.declared.Deal.{Deal}
-use Rattle.trade.specs.rules.Trade.{from_customer, Level, customers, others, given, contra, level_fills, flat, working, offers_at}
+use Rattle.trade.specs.rules.Trade.{from_customer, Level, customers, others, given, contra, level_fills, flat, working, offers_at, traded}
 use Rattle.demand.specs.promises.Demands.{Absent, Distinct, times}
 use Rattle.trade.proofs.Counts.{length-fill}
 use Rattle.demand.proofs.Lists.{all-fill, distinct-keep}
@@ -139,7 +139,7 @@ module _ (d : Deal) (rs : List Response) (s : Walkable d rs) where
   pub run-once : (k p from left held : ℕ) (ls : List Level) → Run d rs from left held ls → times k p (flat ls) ≤ 1
   unfolding filter
   run-once k p from left held [] r = omega arith
-  run-once k p from left held (l ∷ ls) r = go (eqb l.price p) refl (run-once k p _ _ _ ls r.1)
+  run-once k p from left held (l ∷ ls) r = go (eqb l.price p) refl (run-once k p (l.price + 1) (left - traded (level_fills l)) (held + contra l) ls r.1)
     where
       go : (b : Bool) → eqb l.price p ≡ b → times k p (flat ls) ≤ 1 → times k p (level_fills l ++ flat ls) ≤ 1
       go true e h =
@@ -148,7 +148,7 @@ module _ (d : Deal) (rs : List Response) (s : Walkable d rs) where
             arith,
             times-append k p (level_fills l) (flat ls),
             times-level l k p (distinct-here from left held l r.0) (no-contra d rs s from left held l r.0),
-            times-price k p (flat ls) (every_map (λ f. l.price + 1 ≤ f.price) (λ f. f.price ≢ p) (flat ls) (λ f z. omega arith) (run-from d rs s _ _ _ ls r.1)),
+            times-price k p (flat ls) (every_map (λ f. l.price + 1 ≤ f.price) (λ f. f.price ≢ p) (flat ls) (λ f z. omega arith) (run-from d rs s (l.price + 1) (left - traded (level_fills l)) (held + contra l) ls r.1)),
           )
       go false e h =
           let q : l.price ≢ p = eqb-false l.price p e in

@@ -66,7 +66,7 @@ module _ (d : Deal) (rs : List Response) (s : Walkable d rs) where
     run-near from left held [] r =
         let q : sum (gots [] (others_at d rs (working d o))) ≡ 0 = gots-none [] (others_at d rs (working d o)) (λ x n. refl) in
         rw q (inl (sym (rw (zero-mul o.size) (zero-div (sum (sizes (others_at d rs (working d o))))))))
-    run-near from left held (l ∷ ls) r = go (eqb (working d o) l.price) refl (run-near _ _ _ ls r.1)
+    run-near from left held (l ∷ ls) r = go (eqb (working d o) l.price) refl (run-near (l.price + 1) (left - traded (level_fills l)) (held + contra l) ls r.1)
       where
         os : List Response
         os = others_at d rs (working d o)
@@ -80,11 +80,11 @@ module _ (d : Deal) (rs : List Response) (s : Walkable d rs) where
             gots-same (level_fills l ++ flat ls) (level_fills l) os
             (λ x n.
             let a = at-price (working d o) x n in
-            omega (arith, got-append x.sequence (level_fills l) (flat ls), run-passed d rs s x a.0 _ _ _ ls r.1 (omega (arith, a.1))))
+            omega (arith, got-append x.sequence (level_fills l) (flat ls), run-passed d rs s x a.0 (l.price + 1) (left - traded (level_fills l)) (held + contra l) ls r.1 (omega (arith, a.1))))
             ∙ ap (λ (x : List Response). gots (level_fills l) x) h
             ∙ gots-level l (no-contra d rs s from left held l r.0) (here-distinct d rs s o m from left held l r.0) in
             let t : got o.sequence (level_fills l ++ flat ls) ≡ got o.sequence (level_fills l) =
-            omega (arith, got-append o.sequence (level_fills l) (flat ls), run-passed d rs s o m _ _ _ ls r.1 (omega arith)) in
+            omega (arith, got-append o.sequence (level_fills l) (flat ls), run-passed d rs s o m (l.price + 1) (left - traded (level_fills l)) (held + contra l) ls r.1 (omega arith)) in
             rw (g, t, h) (split (leb (sum (sizes (others l))) (shared l)) refl (is-here d rs s o m from left held l r.0 w))
           where
             split : (b : Bool) → leb (sum (sizes (others l))) (shared l) ≡ b → In o l.here
@@ -117,7 +117,7 @@ module _ (d : Deal) (rs : List Response) (s : Walkable d rs) where
     pub run-covered : (from left held : ℕ) (ls : List Level) → Run d rs from left held ls → from ≤ working d o → got o.sequence (flat ls) < o.size
         → held + got 0 (flat ls) ≤ max (guarantee d rs) (held + got_below 0 (working d o) (flat ls))
     run-covered from left held [] r h k = omega arith
-    run-covered from left held (l ∷ ls) r h k = go (eqb (working d o) l.price) refl (λ a b. run-covered _ _ _ ls r.1 a b)
+    run-covered from left held (l ∷ ls) r h k = go (eqb (working d o) l.price) refl (λ a b. run-covered (l.price + 1) (left - traded (level_fills l)) (held + contra l) ls r.1 a b)
       where
         g : Good d rs from left held l
         g = r.0
@@ -142,7 +142,7 @@ module _ (d : Deal) (rs : List Response) (s : Walkable d rs) where
                 short false x =
                     let y : rest l ≡ shared l - sum (given l) = ap (λ b. cond b (shared l - sum (given l)) 0) f in
                     let k : contra l ≤ guarantee d rs - held = took l (guarantee d rs - held) (leb-false (sum (sizes (others l))) (shared l) x) y (r.0.final-want f) in
-                    let v : got 0 (flat ls) ≡ 0 = over _ _ _ ls r.1 (omega (arith, traded-final l f, r.0.left_is)) in
+                    let v : got 0 (flat ls) ≡ 0 = over (l.price + 1) (left - traded (level_fills l)) (held + contra l) ls r.1 (omega (arith, traded-final l f, r.0.left_is)) in
                     capped held (guarantee d rs) (contra l) _ _ k (omega (arith, got-append 0 (level_fills l) (flat ls), got0))
             here false f u dis n = part (r.0.open-want f)
               where
@@ -156,7 +156,7 @@ module _ (d : Deal) (rs : List Response) (s : Walkable d rs) where
                 part : ((l.price < entry d) × (l.want ≡ 0)) ⊎ (size_here l + l.want < left) → held + got 0 (level_fills l ++ flat ls) ≤ max (guarantee d rs) (held + got_below 0 (working d o) (level_fills l ++ flat ls))
                 part (inl q) =
                     let y : rest l ≡ 0 = ap (λ b. cond b (shared l - sum (given l)) 0) f in
-                    omega (arith, got-append 0 (level_fills l) (flat ls), got0, over _ _ _ ls r.1 (omega (arith, traded-open l f, less, r.0.left_is)), q.1)
+                    omega (arith, got-append 0 (level_fills l) (flat ls), got0, over (l.price + 1) (left - traded (level_fills l)) (held + contra l) ls r.1 (omega (arith, traded-open l f, less, r.0.left_is)), q.1)
                 part (inr q) = absurd (omega (arith, less, r.0.left_is))
         go false e ih =
             let z : working d o ≢ l.price = eqb-false (working d o) l.price e in
@@ -175,7 +175,7 @@ module _ (d : Deal) (rs : List Response) (s : Walkable d rs) where
     pub run-guaranteed : (from left held : ℕ) (ls : List Level) → Run d rs from left held ls → from ≤ working d o → entry d ≤ working d o → sold_above (working d o) (flat ls) ≡ 0 → 0 < got o.sequence (flat ls)
         → guarantee d rs ≤ held + got 0 (flat ls)
     run-guaranteed from left held [] r h k a t = absurd (omega arith)
-    run-guaranteed from left held (l ∷ ls) r h k a t = go (eqb (working d o) l.price) refl (λ x y z. run-guaranteed _ _ _ ls r.1 x k y z)
+    run-guaranteed from left held (l ∷ ls) r h k a t = go (eqb (working d o) l.price) refl (λ x y z. run-guaranteed (l.price + 1) (left - traded (level_fills l)) (held + contra l) ls r.1 x k y z)
       where
         got0 : got 0 (level_fills l) ≡ contra l
         got0 = got-contra l (no-contra d rs s from left held l r.0)
@@ -188,7 +188,7 @@ module _ (d : Deal) (rs : List Response) (s : Walkable d rs) where
             → guarantee d rs ≤ held + got 0 (level_fills l ++ flat ls)
         go true e ih =
             let w : working d o ≡ l.price = eqb-true (working d o) l.price e in
-            let u : 0 < got o.sequence (level_fills l) = omega (arith, got-append o.sequence (level_fills l) (flat ls), run-passed d rs s o m _ _ _ ls r.1 (omega arith)) in
+            let u : 0 < got o.sequence (level_fills l) = omega (arith, got-append o.sequence (level_fills l) (flat ls), run-passed d rs s o m (l.price + 1) (left - traded (level_fills l)) (held + contra l) ls r.1 (omega arith)) in
             here w l.final refl (level-first l o (positive d rs s o m) (here-distinct d rs s o m from left held l r.0) (is-here d rs s o m from left held l r.0 w) c u)
           where
             here : working d o ≡ l.price → (f : Bool) → l.final ≡ f → first l ≡ l.want → guarantee d rs ≤ held + got 0 (level_fills l ++ flat ls)
@@ -197,12 +197,12 @@ module _ (d : Deal) (rs : List Response) (s : Walkable d rs) where
                 -- something is left, and trades higher
                 let z : sold_above (working d o) (flat ls) ≡ traded (flat ls) =
                 tally-all (λ f. ltb (working d o) f.price) (flat ls)
-                (every_map (λ f. l.price + 1 ≤ f.price) (λ f. ltb (working d o) f.price ≡ true) (flat ls) (λ f x. lt-ltb (working d o) f.price (omega arith)) (run-from d rs s _ _ _ ls r.1)) in
+                (every_map (λ f. l.price + 1 ≤ f.price) (λ f. ltb (working d o) f.price ≡ true) (flat ls) (λ f x. lt-ltb (working d o) f.price (omega arith)) (run-from d rs s (l.price + 1) (left - traded (level_fills l)) (held + contra l) ls r.1)) in
                 part z (r.0.open-want f)
               where
                 part : sold_above (working d o) (flat ls) ≡ traded (flat ls) → ((l.price < entry d) × (l.want ≡ 0)) ⊎ (size_here l + l.want < left) → guarantee d rs ≤ held + got 0 (level_fills l ++ flat ls)
                 part z (inl x) = absurd (omega (arith, x.0))
-                part z (inr x) = absurd (omega (arith, z, above, run-total d rs s _ _ _ ls r.1, traded-open l f, r.0.left_is))
+                part z (inr x) = absurd (omega (arith, z, above, run-total d rs s (l.price + 1) (left - traded (level_fills l)) (held + contra l) ls r.1, traded-open l f, r.0.left_is))
         go false e ih =
             let z : working d o ≢ l.price = eqb-false (working d o) l.price e in
             let n : l.price ≤ working d o = r.0.least o m h in
@@ -218,17 +218,17 @@ module _ (d : Deal) (rs : List Response) (s : Walkable d rs) where
         → (from left held : ℕ) (ls : List Level) → Run d rs from left held ls → 0 < got o.sequence (flat ls) → got k.sequence (flat ls) ≡ k.size
     run-customers k n j q from left held [] r t = absurd (omega arith)
     run-customers k n j q from left held (l ∷ ls) r t =
-        go (eqb (working d o) l.price) refl (λ t. run-customers k n j q _ _ _ ls r.1 t)
+        go (eqb (working d o) l.price) refl (λ t. run-customers k n j q (l.price + 1) (left - traded (level_fills l)) (held + contra l) ls r.1 t)
       where
         go : (b : Bool) → eqb (working d o) l.price ≡ b → (0 < got o.sequence (flat ls) → got k.sequence (flat ls) ≡ k.size) → got k.sequence (level_fills l ++ flat ls) ≡ k.size
         go true e ih =
             let w : working d o ≡ l.price = eqb-true (working d o) l.price e in
-            let u : 0 < got o.sequence (level_fills l) = omega (arith, got-append o.sequence (level_fills l) (flat ls), run-passed d rs s o m _ _ _ ls r.1 (omega arith)) in
+            let u : 0 < got o.sequence (level_fills l) = omega (arith, got-append o.sequence (level_fills l) (flat ls), run-passed d rs s o m (l.price + 1) (left - traded (level_fills l)) (held + contra l) ls r.1 (omega arith)) in
             let v : 0 < shared l = level-some l o (positive d rs s o m) (here-distinct d rs s o m from left held l r.0) (is-here d rs s o m from left held l r.0 w) c u in
             omega (
               arith,
               got-append k.sequence (level_fills l) (flat ls),
-              run-passed d rs s k n _ _ _ ls r.1 (omega arith),
+              run-passed d rs s k n (l.price + 1) (left - traded (level_fills l)) (held + contra l) ls r.1 (omega arith),
               level-customer l k (positive d rs s k n) (here-distinct d rs s k n from left held l r.0) (is-here d rs s k n from left held l r.0 (q ∙ w)) j v,
             )
         go false e ih =

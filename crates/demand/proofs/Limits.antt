@@ -32,13 +32,13 @@ module _ (d : Deal) (rs : List Response) (s : Walkable d rs) where
   run-early from left held [] r l m h = absurd m
   run-early from left held (x ∷ xs) r l (inl e) h = ap (λ (y : Level). y.held) e ∙ r.0.held-is
   run-early from left held (x ∷ xs) r l (inr m) h =
-      let k : x.price + 1 ≤ l.price = run-above d rs s _ _ _ xs r.1 l m in
-      omega (arith, run-early _ _ _ xs r.1 l m h, none-early from left held x r.0 (omega arith))
+      let k : x.price + 1 ≤ l.price = run-above d rs s (x.price + 1) (left - traded (level_fills x)) (held + contra x) xs r.1 l m in
+      omega (arith, run-early (x.price + 1) (left - traded (level_fills x)) (held + contra x) xs r.1 l m h, none-early from left held x r.0 (omega arith))
 
   pub run-entry : (from left held : ℕ) (ls : List Level) → Run d rs from left held ls → Every (λ f. f.party ≡ 0 → entry d ≤ f.price) (flat ls)
   run-entry from left held [] r = tt
   run-entry from left held (l ∷ ls) r =
-      every_append (λ f. f.party ≡ 0 → entry d ≤ f.price) (level_fills l) (flat ls) (go (leb (entry d) l.price) refl) (run-entry _ _ _ ls r.1)
+      every_append (λ f. f.party ≡ 0 → entry d ≤ f.price) (level_fills l) (flat ls) (go (leb (entry d) l.price) refl) (run-entry (l.price + 1) (left - traded (level_fills l)) (held + contra l) ls r.1)
     where
       go : (b : Bool) → leb (entry d) l.price ≡ b → Every (λ f. f.party ≡ 0 → entry d ≤ f.price) (level_fills l)
       go true e = all-level l (λ f. f.party ≡ 0 → entry d ≤ f.price) (λ k q h z. leb-true (entry d) l.price e)
@@ -50,14 +50,14 @@ module _ (d : Deal) (rs : List Response) (s : Walkable d rs) where
   -- no level lies above the last price
   pub run-top : (from left held : ℕ) (ls : List Level) → Run d rs from left held ls → Every (λ f. f.price ≤ top d) (flat ls)
   run-top from left held [] r = tt
-  run-top from left held (l ∷ ls) r = every_append (λ f. f.price ≤ top d) (level_fills l) (flat ls) (all-level l (λ f. f.price ≤ top d) (λ k q h. r.0.in_top)) (run-top _ _ _ ls r.1)
+  run-top from left held (l ∷ ls) r = every_append (λ f. f.price ≤ top d) (level_fills l) (flat ls) (all-level l (λ f. f.price ≤ top d) (λ k q h. r.0.in_top)) (run-top (l.price + 1) (left - traded (level_fills l)) (held + contra l) ls r.1)
 
   -- each level but that of the last price has responses
   pub run-prices : (from left held : ℕ) (ls : List Level) → Run d rs from left held ls → Every (λ f. (0 < length (offers_at d rs f.price)) ⊎ (f.price ≡ top d)) (flat ls)
   run-prices from left held [] r = tt
   run-prices from left held (l ∷ ls) r =
       every_append (λ f. (0 < length (offers_at d rs f.price)) ⊎ (f.price ≡ top d)) (level_fills l) (flat ls)
-      (all-level l (λ f. (0 < length (offers_at d rs f.price)) ⊎ (f.price ≡ top d)) (λ k q h. go (ltb l.price (top d)) refl)) (run-prices _ _ _ ls r.1)
+      (all-level l (λ f. (0 < length (offers_at d rs f.price)) ⊎ (f.price ≡ top d)) (λ k q h. go (ltb l.price (top d)) refl)) (run-prices (l.price + 1) (left - traded (level_fills l)) (held + contra l) ls r.1)
     where
       go : (b : Bool) → ltb l.price (top d) ≡ b → (0 < length (offers_at d rs l.price)) ⊎ (l.price ≡ top d)
       go true e = inl (subst (λ (os : List Response). 0 < length os) r.0.here-are (r.0.peopled (ltb-true l.price (top d) e)))
@@ -70,13 +70,13 @@ module _ (d : Deal) (rs : List Response) (s : Walkable d rs) where
       let here : sold_at x.price (level_fills x) ≡ traded (level_fills x) =
       tally-all (λ f. eqb f.price x.price) (level_fills x) (all-level x (λ f. eqb f.price x.price ≡ true) (λ k w h. eq-eqb x.price x.price refl)) in
       let later : sold_at x.price (flat xs) ≡ 0 =
-      sold_at-none x.price (flat xs) (every_map (λ f. x.price + 1 ≤ f.price) (λ f. f.price ≢ x.price) (flat xs) (λ f h. omega arith) (run-from d rs s _ _ _ xs r.1)) in
+      sold_at-none x.price (flat xs) (every_map (λ f. x.price + 1 ≤ f.price) (λ f. f.price ≢ x.price) (flat xs) (λ f h. omega arith) (run-from d rs s (x.price + 1) (left - traded (level_fills x)) (held + contra x) xs r.1)) in
       subst (λ (y : Level). sold_at y.price (flat (x ∷ xs)) ≡ traded (level_fills y)) (sym q) (omega (arith, sold-append x.price (level_fills x) (flat xs)))
   run-sold from left held (x ∷ xs) r l (inr n) =
-      let h : x.price + 1 ≤ l.price = run-above d rs s _ _ _ xs r.1 l n in
+      let h : x.price + 1 ≤ l.price = run-above d rs s (x.price + 1) (left - traded (level_fills x)) (held + contra x) xs r.1 l n in
       omega (
         arith,
         sold-append l.price (level_fills x) (flat xs),
         sold_at-none l.price (level_fills x) (all-level x (λ f. f.price ≢ l.price) (λ k w z. omega arith)),
-        run-sold _ _ _ xs r.1 l n,
+        run-sold (x.price + 1) (left - traded (level_fills x)) (held + contra x) xs r.1 l n,
       )

@@ -12,7 +12,7 @@ use Rattle.base.proofs.Bools.{and-no-right}
 use Rattle.base.specs.Lists.{Every, In}
 use Rattle.share.specs.rules.Fills.{Fill}
 use Rattle.trade.specs.declared.Deal.{Deal}
-use Rattle.trade.specs.rules.Trade.{Level, first, level_fills, traded, flat, working, guarantee, offers_at, walk, levels, fills, size_here}
+use Rattle.trade.specs.rules.Trade.{Level, first, level_fills, traded, flat, working, guarantee, offers_at, walk, levels, fills, size_here, contra}
 use Rattle.demand.specs.promises.Demands.{Absent, Distinct, got, got_below, sold_at, sold_below, InRange}
 use Rattle.base.proofs.ListLaws.{every_append, every_map, every_in, every-filter, in-filter}
 use Rattle.demand.proofs.Lists.{distinct-keep, absent-keep, tally-append, tally-none, tally-all, got-none, sold_at-none}
@@ -32,21 +32,21 @@ module _ (d : Deal) (rs : List Response) (s : Walkable d rs) where
   pub run-total : (from left held : ℕ) (ls : List Level) → Run d rs from left held ls → traded (flat ls) ≡ left
   run-total from left held [] r = sym r
   run-total from left held (l ∷ ls) r =
-      omega (arith, total-append (level_fills l) (flat ls), run-total _ _ _ ls r.1, traded-fits l, r.0.left_is)
+      omega (arith, total-append (level_fills l) (flat ls), run-total (l.price + 1) (left - traded (level_fills l)) (held + contra l) ls r.1, traded-fits l, r.0.left_is)
 
   pub run-range : (from left held : ℕ) (ls : List Level) → Run d rs from left held ls → Every (InRange d) (flat ls)
   run-range from left held [] r = tt
   run-range from left held (l ∷ ls) r =
       every_append (InRange d) (level_fills l) (flat ls)
       (all-level l (InRange d) (λ k q h. record { low = r.0.in-bound; high = omega (arith, r.0.in_top, top_below d rs s); some = h }))
-      (run-range _ _ _ ls r.1)
+      (run-range (l.price + 1) (left - traded (level_fills l)) (held + contra l) ls r.1)
 
   -- what holds of each level
   pub run-each : (P : Level → Type 0) → ((from left held : ℕ) (l : Level) → Good d rs from left held l → P l)
       → (from left held : ℕ) (ls : List Level) → Run d rs from left held ls → (l : Level) → In l ls → P l
   run-each P f from left held [] r l m = absurd m
   run-each P f from left held (x ∷ xs) r l (inl e) = subst P (sym e) (f from left held x r.0)
-  run-each P f from left held (x ∷ xs) r l (inr m) = run-each P f _ _ _ xs r.1 l m
+  run-each P f from left held (x ∷ xs) r l (inr m) = run-each P f (x.price + 1) (left - traded (level_fills x)) (held + contra x) xs r.1 l m
 
   -- ---- nothing before `from`
 
@@ -55,7 +55,7 @@ module _ (d : Deal) (rs : List Response) (s : Walkable d rs) where
   run-from from left held (l ∷ ls) r =
       every_append (λ f. from ≤ f.price) (level_fills l) (flat ls)
       (all-level l (λ f. from ≤ f.price) (λ k q h. r.0.above))
-      (every_map (λ f. l.price + 1 ≤ f.price) (λ f. from ≤ f.price) (flat ls) (λ f h. omega (arith, r.0.above)) (run-from _ _ _ ls r.1))
+      (every_map (λ f. l.price + 1 ≤ f.price) (λ f. from ≤ f.price) (flat ls) (λ f h. omega (arith, r.0.above)) (run-from (l.price + 1) (left - traded (level_fills l)) (held + contra l) ls r.1))
 
   -- the fills below the first price of a walk
   none_below : (from left held : ℕ) (ls : List Level) → Run d rs from left held ls → (p : ℕ) → p ≤ from → sold_below p (flat ls) ≡ 0
@@ -73,7 +73,7 @@ module _ (d : Deal) (rs : List Response) (s : Walkable d rs) where
   pub run-above : (from left held : ℕ) (ls : List Level) → Run d rs from left held ls → (l : Level) → In l ls → from ≤ l.price
   run-above from left held [] r l n = absurd n
   run-above from left held (x ∷ xs) r l (inl q) = subst (λ (y : Level). from ≤ y.price) (sym q) r.0.above
-  run-above from left held (x ∷ xs) r l (inr n) = omega (arith, run-above _ _ _ xs r.1 l n, r.0.above)
+  run-above from left held (x ∷ xs) r l (inr n) = omega (arith, run-above (x.price + 1) (left - traded (level_fills x)) (held + contra x) xs r.1 l n, r.0.above)
 
   -- what is left on arriving at a level is what the lower prices leave
   pub run-left : (from left held : ℕ) (ls : List Level) → Run d rs from left held ls → (l : Level) → In l ls → l.left + sold_below l.price (flat ls) ≡ left
@@ -84,16 +84,16 @@ module _ (d : Deal) (rs : List Response) (s : Walkable d rs) where
         arith,
         tally-append (λ f. ltb f.price x.price) (level_fills x) (flat xs),
         tally-none (λ f. ltb f.price x.price) (level_fills x) (all-level x (λ f. ltb f.price x.price ≡ false) (λ k w h. le-ltb x.price x.price (omega arith))),
-        none_below _ _ _ xs r.1 x.price (omega arith),
+        none_below (x.price + 1) (left - traded (level_fills x)) (held + contra x) xs r.1 x.price (omega arith),
       ) in
       subst (λ (y : Level). y.left + sold_below y.price (flat (x ∷ xs)) ≡ left) (sym q) (omega (arith, r.0.left_is))
   run-left from left held (x ∷ xs) r l (inr n) =
-      let h : x.price + 1 ≤ l.price = run-above _ _ _ xs r.1 l n in
+      let h : x.price + 1 ≤ l.price = run-above (x.price + 1) (left - traded (level_fills x)) (held + contra x) xs r.1 l n in
       omega (
         arith,
         tally-append (λ f. ltb f.price l.price) (level_fills x) (flat xs),
         tally-all (λ f. ltb f.price l.price) (level_fills x) (all-level x (λ f. ltb f.price l.price ≡ true) (λ k w z. lt-ltb x.price l.price (omega arith))),
-        run-left _ _ _ xs r.1 l n,
+        run-left (x.price + 1) (left - traded (level_fills x)) (held + contra x) xs r.1 l n,
         traded-fits x,
         r.0.left_is,
       )
@@ -106,7 +106,7 @@ module _ (d : Deal) (rs : List Response) (s : Walkable d rs) where
   run-absent k z a from left held (l ∷ ls) r =
       every_append (λ f. f.party ≢ k) (level_fills l) (flat ls)
       (absent-level l k z (subst (Absent k) (sym r.0.here-are) (every-filter (λ o. o.sequence ≢ k) (λ o. eqb (working d o) l.price) rs a)))
-      (run-absent k z a _ _ _ ls r.1)
+      (run-absent k z a (l.price + 1) (left - traded (level_fills l)) (held + contra l) ls r.1)
 
   -- every party is the Contra Order or a response's
   pub run-who : (Q : ℕ → Type 0) → Q 0 → Every (λ o. Q o.sequence) rs → (from left held : ℕ) (ls : List Level) → Run d rs from left held ls → Every (λ f. Q f.party) (flat ls)
@@ -115,7 +115,7 @@ module _ (d : Deal) (rs : List Response) (s : Walkable d rs) where
   run-who Q z a from left held (l ∷ ls) r =
       every_append (λ f. Q f.party) (level_fills l) (flat ls)
       (all-who l Q z (subst (Every (λ o. Q o.sequence)) (sym r.0.here-are) (every-filter (λ o. Q o.sequence) (λ o. eqb (working d o) l.price) rs a)))
-      (run-who Q z a _ _ _ ls r.1)
+      (run-who Q z a (l.price + 1) (left - traded (level_fills l)) (held + contra l) ls r.1)
 
   -- ---- the Contra Order
 
@@ -161,13 +161,13 @@ module _ (d : Deal) (rs : List Response) (s : Walkable d rs) where
             below-entry = g.below-entry;
           }
   run-held from left held (x ∷ xs) r l (inr n) =
-      let h : x.price + 1 ≤ l.price = run-above _ _ _ xs r.1 l n in
+      let h : x.price + 1 ≤ l.price = run-above (x.price + 1) (left - traded (level_fills x)) (held + contra x) xs r.1 l n in
       omega (
         arith,
         tally-append (λ f. eqb f.party 0 && ltb f.price l.price) (level_fills x) (flat xs),
         got-below x l.price (omega arith),
         got-contra x (no-contra from left held x r.0),
-        run-held _ _ _ xs r.1 l n,
+        run-held (x.price + 1) (left - traded (level_fills x)) (held + contra x) xs r.1 l n,
       )
 
   -- where the Contra Order has taken what it lacks of the guarantee, it holds it at the end
@@ -179,7 +179,7 @@ module _ (d : Deal) (rs : List Response) (s : Walkable d rs) where
       let k : first x ≡ x.want = subst (λ (y : Level). first y ≡ y.want) q h in
       omega (arith, got-append 0 (level_fills x) (flat xs), got-contra x (no-contra from left held x r.0))
   run-guarantee from left held (x ∷ xs) r l (inr m) e h =
-      omega (arith, got-append 0 (level_fills x) (flat xs), got-contra x (no-contra from left held x r.0), run-guarantee _ _ _ xs r.1 l m e h)
+      omega (arith, got-append 0 (level_fills x) (flat xs), got-contra x (no-contra from left held x r.0), run-guarantee (x.price + 1) (left - traded (level_fills x)) (held + contra x) xs r.1 l m e h)
 
   -- ---- a response
 
@@ -212,7 +212,7 @@ module _ (d : Deal) (rs : List Response) (s : Walkable d rs) where
     pub run_only : (from left held : ℕ) (ls : List Level) → Run d rs from left held ls → Every (λ f. f.party ≡ o.sequence → f.price ≡ working d o) (flat ls)
     run_only from left held [] r = tt
     run_only from left held (l ∷ ls) r =
-        every_append (λ f. f.party ≡ o.sequence → f.price ≡ working d o) (level_fills l) (flat ls) (go (eqb (working d o) l.price) refl) (run_only _ _ _ ls r.1)
+        every_append (λ f. f.party ≡ o.sequence → f.price ≡ working d o) (level_fills l) (flat ls) (go (eqb (working d o) l.price) refl) (run_only (l.price + 1) (left - traded (level_fills l)) (held + contra l) ls r.1)
       where
         go : (b : Bool) → eqb (working d o) l.price ≡ b → Every (λ f. f.party ≡ o.sequence → f.price ≡ working d o) (level_fills l)
         go true e = all-level l (λ f. f.party ≡ o.sequence → f.price ≡ working d o) (λ k q h z. sym (eqb-true (working d o) l.price e))
@@ -224,17 +224,17 @@ module _ (d : Deal) (rs : List Response) (s : Walkable d rs) where
     pub run-passed : (from left held : ℕ) (ls : List Level) → Run d rs from left held ls → working d o < from → got o.sequence (flat ls) ≡ 0
     run-passed from left held [] r h = refl
     run-passed from left held (l ∷ ls) r h =
-        omega (arith, got-append o.sequence (level_fills l) (flat ls), got-elsewhere from left held l r.0 (omega (arith, r.0.above)), run-passed _ _ _ ls r.1 (omega (arith, r.0.above)))
+        omega (arith, got-append o.sequence (level_fills l) (flat ls), got-elsewhere from left held l r.0 (omega (arith, r.0.above)), run-passed (l.price + 1) (left - traded (level_fills l)) (held + contra l) ls r.1 (omega (arith, r.0.above)))
 
     -- no more than its size
     pub run_fits : (from left held : ℕ) (ls : List Level) → Run d rs from left held ls → got o.sequence (flat ls) ≤ o.size
     run_fits from left held [] r = omega arith
-    run_fits from left held (l ∷ ls) r = go (eqb (working d o) l.price) refl (run_fits _ _ _ ls r.1)
+    run_fits from left held (l ∷ ls) r = go (eqb (working d o) l.price) refl (run_fits (l.price + 1) (left - traded (level_fills l)) (held + contra l) ls r.1)
       where
         go : (b : Bool) → eqb (working d o) l.price ≡ b → got o.sequence (flat ls) ≤ o.size → got o.sequence (level_fills l ++ flat ls) ≤ o.size
         go true e h =
             let w : working d o ≡ l.price = eqb-true (working d o) l.price e in
-            omega (arith, got-append o.sequence (level_fills l) (flat ls), fits-here from left held l r.0 w, run-passed _ _ _ ls r.1 (omega arith))
+            omega (arith, got-append o.sequence (level_fills l) (flat ls), fits-here from left held l r.0 w, run-passed (l.price + 1) (left - traded (level_fills l)) (held + contra l) ls r.1 (omega arith))
         go false e h =
             omega (arith, got-append o.sequence (level_fills l) (flat ls), got-elsewhere from left held l r.0 (eqb-false (working d o) l.price e))
 
@@ -244,17 +244,17 @@ module _ (d : Deal) (rs : List Response) (s : Walkable d rs) where
     run-level from left held (x ∷ xs) r l (inl q) e =
         let w : working d o ≡ x.price = e ∙ ap (λ (y : Level). y.price) q in
         let t : got o.sequence (level_fills x ++ flat xs) ≡ got o.sequence (level_fills x) =
-        omega (arith, got-append o.sequence (level_fills x) (flat xs), run-passed _ _ _ xs r.1 (omega arith)) in
+        omega (arith, got-append o.sequence (level_fills x) (flat xs), run-passed (x.price + 1) (left - traded (level_fills x)) (held + contra x) xs r.1 (omega arith)) in
         t ∙ ap (λ (y : Level). got o.sequence (level_fills y)) (sym q)
     run-level from left held (x ∷ xs) r l (inr n) e =
-        let later : x.price + 1 ≤ l.price = run-above _ _ _ xs r.1 l n in
-        omega (arith, got-append o.sequence (level_fills x) (flat xs), got-elsewhere from left held x r.0 (omega arith), run-level _ _ _ xs r.1 l n e)
+        let later : x.price + 1 ≤ l.price = run-above (x.price + 1) (left - traded (level_fills x)) (held + contra x) xs r.1 l n in
+        omega (arith, got-append o.sequence (level_fills x) (flat xs), got-elsewhere from left held x r.0 (omega arith), run-level (x.price + 1) (left - traded (level_fills x)) (held + contra x) xs r.1 l n e)
 
     -- where anything trades above its working price, it is filled
     pub run-priority : (from left held : ℕ) (ls : List Level) → Run d rs from left held ls → (p : ℕ) → from ≤ working d o → working d o < p → 0 < sold_at p (flat ls) → got o.sequence (flat ls) ≡ o.size
     run-priority from left held [] r p h k t = absurd (omega arith)
     run-priority from left held (l ∷ ls) r p h k t =
-        go (eqb (working d o) l.price) refl (λ q. run-priority _ _ _ ls r.1 p q k (later here))
+        go (eqb (working d o) l.price) refl (λ q. run-priority (l.price + 1) (left - traded (level_fills l)) (held + contra l) ls r.1 p q k (later here))
       where
         -- nothing here trades at p, so something does later
         later : l.price ≤ working d o → 0 < sold_at p (flat ls)
@@ -273,13 +273,13 @@ module _ (d : Deal) (rs : List Response) (s : Walkable d rs) where
             → got o.sequence (level_fills l ++ flat ls) ≡ o.size
         go true e ih =
             let w : working d o ≡ l.price = eqb-true (working d o) l.price e in
-            let z : 0 < left - traded (level_fills l) = left_over _ _ _ ls r.1 (later here) in
+            let z : 0 < left - traded (level_fills l) = left_over (l.price + 1) (left - traded (level_fills l)) (held + contra l) ls r.1 (later here) in
             let c : size_here l + l.want ≤ l.left = covers l.final refl z in
             omega (
               arith,
               got-append o.sequence (level_fills l) (flat ls),
               level-full l o positive (here-distinct from left held l r.0) (is-here from left held l r.0 w) c,
-              run-passed _ _ _ ls r.1 (omega arith),
+              run-passed (l.price + 1) (left - traded (level_fills l)) (held + contra l) ls r.1 (omega arith),
             )
           where
             covers : (b : Bool) → l.final ≡ b → 0 < left - traded (level_fills l) → size_here l + l.want ≤ l.left

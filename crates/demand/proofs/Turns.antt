@@ -13,7 +13,7 @@ use Rattle.share.specs.rules.Share.{in_turn}
 use Rattle.share.specs.rules.Fills.{Fill, fill_of, fills_by, sizes}
 use Rattle.share.proofs.ShareLaws.{turn-sum, turn-length}
 use Rattle.trade.specs.declared.Deal.{Deal}
-use Rattle.trade.specs.rules.Trade.{from_customer, Level, customers, shared, given, first, contra, level_fills, flat, working, offers_at}
+use Rattle.trade.specs.rules.Trade.{from_customer, Level, customers, shared, given, first, contra, level_fills, flat, working, offers_at, traded}
 use Rattle.demand.specs.promises.Demands.{Distinct, got, got_at}
 use Rattle.base.proofs.ListLaws.{every_map, every_in, in-filter}
 use Rattle.demand.proofs.Lists.{all-fill, distinct-keep, got-none, got-fill, tally-append, tally-none, tally-le, tally-and, absent_by}
@@ -80,16 +80,16 @@ module _ (d : Deal) (rs : List Response) (s : Walkable d rs) (up : RisingFrom 0 
 
   pub run-earlier : (from left held : ℕ) (ls : List Level) → Run d rs from left held ls → 0 < got r.sequence (flat ls) → got k.sequence (flat ls) ≡ k.size
   run-earlier from left held [] run t = absurd (omega arith)
-  run-earlier from left held (l ∷ ls) run t = go (eqb (working d r) l.price) refl (λ t. run-earlier _ _ _ ls run.1 t)
+  run-earlier from left held (l ∷ ls) run t = go (eqb (working d r) l.price) refl (λ t. run-earlier (l.price + 1) (left - traded (level_fills l)) (held + contra l) ls run.1 t)
     where
       go : (b : Bool) → eqb (working d r) l.price ≡ b → (0 < got r.sequence (flat ls) → got k.sequence (flat ls) ≡ k.size) → got k.sequence (level_fills l ++ flat ls) ≡ k.size
       go true w ih =
           let v : working d r ≡ l.price = eqb-true (working d r) l.price w in
-          let u : 0 < got r.sequence (level_fills l) = omega (arith, got-append r.sequence (level_fills l) (flat ls), run-passed d rs s r m _ _ _ ls run.1 (omega arith)) in
+          let u : 0 < got r.sequence (level_fills l) = omega (arith, got-append r.sequence (level_fills l) (flat ls), run-passed d rs s r m (l.price + 1) (left - traded (level_fills l)) (held + contra l) ls run.1 (omega arith)) in
           omega (
             arith,
             got-append k.sequence (level_fills l) (flat ls),
-            run-passed d rs s k n _ _ _ ls run.1 (omega arith),
+            run-passed d rs s k n (l.price + 1) (left - traded (level_fills l)) (held + contra l) ls run.1 (omega arith),
             level-earlier l r k (positive d rs s r m) (positive d rs s k n) (rising-here from left held l run.0) (here-distinct d rs s r m from left held l run.0)
                 (is-here d rs s r m from left held l run.0 v) (is-here d rs s k n from left held l run.0 (q ∙ v)) c e h u,
           )
@@ -127,13 +127,13 @@ module _ (d : Deal) (rs : List Response) (s : Walkable d rs) (k : Response) (n :
 
   pub run-before : (from left held : ℕ) (ls : List Level) → Run d rs from left held ls → 0 < got_at 0 (working d k) (flat ls) → got k.sequence (flat ls) ≡ k.size
   run-before from left held [] run t = absurd (omega arith)
-  run-before from left held (l ∷ ls) run t = go (eqb (working d k) l.price) refl (λ t. run-before _ _ _ ls run.1 t)
+  run-before from left held (l ∷ ls) run t = go (eqb (working d k) l.price) refl (λ t. run-before (l.price + 1) (left - traded (level_fills l)) (held + contra l) ls run.1 t)
     where
       later : working d k ≡ l.price → got_at 0 (working d k) (flat ls) ≡ 0
       later w =
           got_at-none (working d k) (flat ls)
           (every_map (λ f. l.price + 1 ≤ f.price) (λ f. (eqb f.party 0 && eqb f.price (working d k)) ≡ false) (flat ls)
-          (λ f h. rw (ne_eqb f.price (working d k) (omega arith)) (and-false (eqb f.party 0))) (run-from d rs s _ _ _ ls run.1))
+          (λ f h. rw (ne_eqb f.price (working d k) (omega arith)) (and-false (eqb f.party 0))) (run-from d rs s (l.price + 1) (left - traded (level_fills l)) (held + contra l) ls run.1))
 
       go : (b : Bool) → eqb (working d k) l.price ≡ b → (0 < got_at 0 (working d k) (flat ls) → got k.sequence (flat ls) ≡ k.size) → got k.sequence (level_fills l ++ flat ls) ≡ k.size
       go true w ih =
@@ -143,7 +143,7 @@ module _ (d : Deal) (rs : List Response) (s : Walkable d rs) (k : Response) (n :
           omega (
             arith,
             got-append k.sequence (level_fills l) (flat ls),
-            run-passed d rs s k n _ _ _ ls run.1 (omega arith),
+            run-passed d rs s k n (l.price + 1) (left - traded (level_fills l)) (held + contra l) ls run.1 (omega arith),
             level-served l k (positive d rs s k n) (here-distinct d rs s k n from left held l run.0) (is-here d rs s k n from left held l run.0 v) e (contra-after l c),
           )
       go false w ih =

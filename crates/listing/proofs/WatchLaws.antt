@@ -96,6 +96,7 @@ met a e out h = (sym (watched a e out (step_of a e) (length (watch_line a e)) h 
 
 shows : (a : Auction) (es : List Event) (t : List ℕ) (b : Auction) → Shows a es t b → (t ≡ watch_lines a es) × (b ≡ run a es)
 shows a [] [] b none = (refl, refl)
+shows a [] (_ ∷ _) b x4 = elim x4 [ ]
 shows a (e ∷ es) t b (more {t = u} out h rest) =
     let m = met a e out h in
     let ih = shows (watched_of a e out).auction es u b rest in

@@ -32,6 +32,16 @@ put-at xs s ys a h e =
     ∙ sym (append_assoc (take a xs) s (drop (a + length s) xs))
     ∙ sym (sets-eq s xs a h)
 
+-- the same where just so many bytes were lent as are written
+pub put-over : (xs s ys : List ℕ) (a : ℕ) → a + length s ≤ length xs → ys ≡ s → put_mid a (a + length s - a) xs ys ≡ sets xs a s
+put-over xs s ys a h e =
+    let n : a + length s - a ≡ length s = omega arith in
+    rw (e, n) (ap (λ (l : List ℕ). take a xs ++ (s ++ l)) (drop-drop (length s) a xs) ∙ sym (append_assoc (take a xs) s (drop (a + length s) xs)) ∙ sym (sets-eq s xs a h))
+
+-- n records of `long` bytes from a place on, in the other form
+abbrev pub rest : Bool → List ℕ → ℕ → ℕ → ℕ → List ℕ
+rest wide s long at n = together (map (moved_record wide) (parts long (drop at s) n))
+
 -- ---- one turn
 
 -- one record less

@@ -21,7 +21,7 @@ use Rattle.share.specs.promises.Share.{Near}
 use Rattle.share.specs.rules.Fills.{Fill, sizes}
 use Rattle.trade.specs.declared.Deal.{Deal}
 use Rattle.trade.specs.rules.Plan.{Plan, plan_of}
-use Rattle.trade.specs.rules.Trade.{Level, from_customer, from_other, shared, others, level_fills, traded, flat, offers, offers_at, working, working_stop, guarantee, market_price, market_takes, market_fill, levels, fills}
+use Rattle.trade.specs.rules.Trade.{Level, from_customer, from_other, shared, others, level_fills, traded, flat, offers, offers_at, working, working_stop, guarantee, market_price, market_takes, market_fill, levels, fills, contra}
 use Rattle.trade.proofs.Lists.{total-append, total-fill}
 use Rattle.share.proofs.ShareLaws.{shares_sum, shares-length}
 use Rattle.demand.proofs.Fair.{size_in, at-price}
@@ -43,7 +43,7 @@ pub record Priced (ls : List Level) (p : ℕ) : Type 0 where
 
 run-priced : (d : Deal) (rs : List Response) (p from left held : ℕ) (ls : List Level) → Run d rs from left held ls → 0 < sold_at p (flat ls) → Priced ls p
 run-priced d rs p from left held [] r t = absurd (omega arith)
-run-priced d rs p from left held (l ∷ ls) r t = go (eqb l.price p) refl (run-priced d rs p _ _ _ ls r.1)
+run-priced d rs p from left held (l ∷ ls) r t = go (eqb l.price p) refl (run-priced d rs p (l.price + 1) (left - traded (level_fills l)) (held + contra l) ls r.1)
   where
     go : (b : Bool) → eqb l.price p ≡ b → (0 < sold_at p (flat ls) → Priced ls p) → Priced (l ∷ ls) p
     go true e ih = record { level = l; one = inl refl; price = eqb-true l.price p e }

@@ -6,4 +6,4 @@ use Rattle.engine.proofs.cube_listing.Goals as goal
 pub returns : goal.returns
 returns c =
     let l = c.listing in
-    record { value = c.length_of.ensures ∙ ap length_in l.ensures.0; out_after = l.ensures.1 }
+    record { value = c.length_of.ensures ∙ ap length_in l.ensures.value; out_after = l.ensures.out_after }

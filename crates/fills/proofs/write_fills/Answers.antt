@@ -11,4 +11,4 @@ returns c =
     let s = c.args in
     let e = c.has_ended.ensures in
     let d = c.deal_of.ensures in
-    let w = c.write_fills in record { value = w.ensures.0 ∙ ap (λ (b : Bool). fill_answer b c.deal_of.result s.a.board s.out.now s.start) e ∙ ap (λ (x : Deal). fill_answer (has_ended s.a.head) x s.a.board s.out.now s.start) d; out_after = w.ensures.1 ∙ ap (λ (b : Bool). fill_words b c.deal_of.result s.a.board s.out.now s.start) e ∙ ap (λ (x : Deal). fill_words (has_ended s.a.head) x s.a.board s.out.now s.start) d }
+    let w = c.write_fills in record { value = w.ensures.value ∙ ap (λ (b : Bool). fill_answer b c.deal_of.result s.a.board s.out.now s.start) e ∙ ap (λ (x : Deal). fill_answer (has_ended s.a.head) x s.a.board s.out.now s.start) d; out_after = w.ensures.out_after ∙ ap (λ (b : Bool). fill_words b c.deal_of.result s.a.board s.out.now s.start) e ∙ ap (λ (x : Deal). fill_words (has_ended s.a.head) x s.a.board s.out.now s.start) d }

@@ -4,4 +4,4 @@ use borrow.Author.Rules.{rules}
 use Rattle.listing.proofs.list_refused.Goals as goal
 
 pub returns : goal.returns
-returns c = wrote-lists (refused c.args.number) c.before.before.Put-refused.ensures
+returns c = wrote-lists (refused c.args.number) c.put_refused-n.ensures

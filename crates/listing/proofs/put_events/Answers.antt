@@ -22,7 +22,7 @@ use Rattle.words.proofs.WroteLaws.{wrote-same, left-start, left-wrote, left-same
 use Rattle.listing.proofs.LookLaws.{looked, sought-le, look-start, look-end, look-found, look-next}
 use Rattle.listing.proofs.RunLaws.{whole, closed-whole, seat-set, seat-past, seat-free, seat-none, good-after, rest, rest-none, rest_all, events-turn, run-turn}
 use Rattle.listing.proofs.put_events.Goals as goal
-use Rattle.listing.proofs.put_events.Goals.{After-first_set-i, After-sight_of-v, After-without_lowest-rest}
+use Rattle.listing.proofs.put_events.Goals.{in-Seat+then-i-lt64, in-Seat+else-i-lt64, in-Free, in-Nothing, in-Quote, in-Sell, After-first_set-i, After-sight_of-v, After-without_lowest-rest}
 
 pub loop-k-init : goal.loop-k-init
 loop-k-init c = (omega arith, refl, omega arith, refl, left-start _ _ _, refl, rw c.empty-b.ensures empty-good)
@@ -56,7 +56,7 @@ loop-rest-preserved-then-is_named c =
     let l = f.before.before in
     let o = l.before.before.before.before.before.before in (
       omega arith,
-      look-found o.loop-k.b o.loop-k.invariant.6 l.record_in-e.result.f12 l.loop-rest.named l.loop-rest.rest f.first_set-i.result (low f) (sym c.is_named.ensures ∙ c.if-is_named.true) ∙ l.loop-rest.invariant.1,
+      look-found o.loop-k.b o.loop-k.invariant.6 l.record_in-e.result.f12 l.loop-rest.named l.loop-rest.rest f.first_set-i.result (low (goal.at.loop-rest-preserved-then-is_named c).After-first_set-i) (sym c.is_named.ensures ∙ c.if-is_named.true) ∙ l.loop-rest.invariant.1,
     )
 
 -- the places still to come after that turn
@@ -66,7 +66,7 @@ left c = c.without_lowest-rest.ensures ∙ without-lowest _ _ c.first_set-i.ensu
 pub loop-rest-smaller : goal.loop-rest-smaller
 loop-rest-smaller c =
     let f = c.before.before.before.before in
-    omega (arith, left c, without-lt f.loop-rest.rest f.first_set-i.result (low f).set)
+    omega (arith, left c, without-lt f.loop-rest.rest f.first_set-i.result (low (goal.at.loop-rest-smaller c).After-first_set-i).set)
 
 pub loop-rest-preserved : goal.loop-rest-preserved
 loop-rest-preserved c =
@@ -102,16 +102,18 @@ loop-k-preserved c =
     let l = c.loop-k in
     let k = c.loop-k-test.true in
     let e = c.record_in-e in
-    let v = seen c.before.before.before.before.before.before.before in
+    let v = seen (goal.at.loop-k-preserved c).After-sight_of-v in
     let u = c.turn-u in
     let eu = u.ensures ∙ ap (λ (x : Sight). turn_of l.h x e.result) v in
     let seated : c.match-c.b ≡ board_after l.b u.result.change =
-    ⊎_elim (λ x. seat-set l.b _ _ _ _ _ _ x.1.given.1 x.3.taken x.4.ensures x.5)
-    (⊎_elim (λ x. seat-past l.b _ _ _ _ _ x.1.given.1 x.3.left x.4)
-    (⊎_elim (λ x. seat-free l.b _ _ _ _ _ x.1.given.1 x.3.ensures x.4)
-    (⊎_elim (λ x. seat-none l.b _ _ _ x.1.given.1 refl x.2)
-    (⊎_elim (λ x. seat-none l.b _ _ _ x.1.given.1 refl x.2)
-    (λ x. seat-none l.b _ _ _ x.1.given.1 refl x.2))))) c.match-c.branch in (
+    elim c.match-c.branch [
+      | in-Seat+then-i-lt64 w ↦ seat-set l.b _ _ _ _ _ _ w.in-Seat.is w.if-i-lt64.true w.with_bit.ensures w.b-is
+      | in-Seat+else-i-lt64 w ↦ seat-past l.b _ _ _ _ _ w.in-Seat.is w.if-i-lt64.false w.b-is
+      | in-Free w ↦ seat-free l.b _ _ _ _ _ w.in-Free.is w.without_bit.ensures w.b-is
+      | in-Nothing w ↦ seat-none l.b _ _ _ w.in-Nothing.is refl w.b-is
+      | in-Quote w ↦ seat-none l.b _ _ _ w.in-Quote.is refl w.b-is
+      | in-Sell w ↦ seat-none l.b _ _ _ w.in-Sell.is refl w.b-is
+    ] in (
       omega (arith, k),
       search rules,
       omega arith,

@@ -45,7 +45,7 @@ turn c =
     ∙ ap (λ (b : Bool). b && all_bare (parts 40 (drop (l.at + 40) x) (n - (l.k + 1)))) (sym c.is_bare.ensures)
 
 pub returns-then-not-is_bare : goal.returns-then-not-is_bare
-returns-then-not-is_bare c = simp (turn c.before, c.if-not-is_bare.true)
+returns-then-not-is_bare c = simp (turn (goal.at.returns-then-not-is_bare c).After-is_bare, c.if-not-is_bare.true)
 
 pub loop-k-preserved : goal.loop-k-preserved
 loop-k-preserved c =
@@ -56,7 +56,7 @@ loop-k-preserved c =
     let n = s.args.t.events in (
       omega (arith, b.loop-k-test.true),
       omega (arith, l.invariant.1, b.loop-k-test.true),
-      sym (turn b ∙ ap (λ (y : Bool). y && all_bare (parts 40 (drop (l.at + 40) x) (n - (l.k + 1)))) c.if-not-is_bare.false) ∙ ap all_bare (records-are x s.args.t s.requires.0),
+      sym (turn (goal.at.loop-k-preserved c).After-is_bare ∙ ap (λ (y : Bool). y && all_bare (parts 40 (drop (l.at + 40) x) (n - (l.k + 1)))) c.if-not-is_bare.false) ∙ ap all_bare (records-are x s.args.t s.requires.0),
     )
 
 pub returns : goal.returns

@@ -30,23 +30,23 @@ returns-then-has_form c = record { answer = simp (sym c.has_form.ensures ∙ c.i
 
 pub returns-then-length_of-s : goal.returns-then-length_of-s
 unfolding move_opened
-returns-then-length_of-s c = record { answer = simp (other c.before.before, ← c.length_of.ensures, ne_eqb _ _ c.if-length_of-s.true); bytes = refl }
+returns-then-length_of-s c = record { answer = simp (other (goal.at.returns-then-length_of-s c).Else-has_form, ← c.length_of.ensures, ne_eqb _ _ c.if-length_of-s.true); bytes = refl }
 
 pub nothing_lost-requires : goal.nothing_lost-requires
-nothing_lost-requires c = (other c.before.before, adds c)
+nothing_lost-requires c = (other (goal.at.nothing_lost-requires c).Else-has_form, adds c)
 
 pub returns-then-not-nothing_lost : goal.returns-then-not-nothing_lost
 unfolding move_opened
 returns-then-not-nothing_lost c =
     let e = c.before.before in
-    record { answer = simp (other e.before.before, eq-eqb _ _ (adds e), ← c.nothing_lost.ensures, c.if-not-nothing_lost.true); bytes = refl }
+    record { answer = simp (other (goal.at.returns-then-not-nothing_lost c).Else-has_form, eq-eqb _ _ (adds (goal.at.returns-then-not-nothing_lost c).Else-length_of-s), ← c.nothing_lost.ensures, c.if-not-nothing_lost.true); bytes = refl }
 
 pub returns-then-n-gt65536 : goal.returns-then-n-gt65536
 unfolding move_opened
 returns-then-n-gt65536 c =
     let k = c.before.before.before in
     let e = k.before.before in
-    record { answer = simp (other e.before.before, eq-eqb _ _ (adds e), kept k, rw (long c.before) at (lt-ltb _ _ c.if-n-gt65536.true)); bytes = refl }
+    record { answer = simp (other (goal.at.returns-then-n-gt65536 c).Else-has_form, eq-eqb _ _ (adds (goal.at.returns-then-n-gt65536 c).Else-length_of-s), kept (goal.at.returns-then-n-gt65536 c).Else-not-nothing_lost, rw (long (goal.at.returns-then-n-gt65536 c).After-length_of-n) at (lt-ltb _ _ c.if-n-gt65536.true)); bytes = refl }
 
 pub returns-then-room-n : goal.returns-then-room-n
 unfolding move_opened
@@ -54,13 +54,13 @@ returns-then-room-n c =
     let l = c.before.before in
     let k = l.before.before in
     let e = k.before.before in
-    record { answer = simp (other e.before.before, eq-eqb _ _ (adds e), kept k, rw (long l) at (le-ltb _ _ c.if-n-gt65536.false), rw (long l) at (lt-ltb _ _ c.if-room-n.true)); bytes = refl }
+    record { answer = simp (other (goal.at.returns-then-room-n c).Else-has_form, eq-eqb _ _ (adds (goal.at.returns-then-room-n c).Else-length_of-s), kept (goal.at.returns-then-room-n c).Else-not-nothing_lost, rw (long (goal.at.returns-then-room-n c).After-length_of-n) at (le-ltb _ _ c.if-n-gt65536.false), rw (long (goal.at.returns-then-room-n c).After-length_of-n) at (lt-ltb _ _ c.if-room-n.true)); bytes = refl }
 
 pub put_tape-requires : goal.put_tape-requires
 put_tape-requires c =
     let l = c.before.before.before in
     let e = l.before.before.before.before in
-    (adds e, omega (arith, long l, c.if-room-n.false))
+    (adds (goal.at.put_tape-requires c).Else-length_of-s, omega (arith, long (goal.at.put_tape-requires c).After-length_of-n, c.if-room-n.false))
 
 pub returns : goal.returns
 unfolding move_opened
@@ -70,6 +70,6 @@ returns c =
     let k = l.before.before in
     let e = k.before.before in
     record {
-      answer = simp (other e.before.before, eq-eqb _ _ (adds e), kept k, rw (long l) at (le-ltb _ _ n.if-n-gt65536.false), rw (long l) at (le-ltb _ _ n.if-room-n.false), long l);
+      answer = simp (other (goal.at.returns c).Else-has_form, eq-eqb _ _ (adds (goal.at.returns c).Else-length_of-s), kept (goal.at.returns c).Else-not-nothing_lost, rw (long (goal.at.returns c).After-length_of-n) at (le-ltb _ _ n.if-n-gt65536.false), rw (long (goal.at.returns c).After-length_of-n) at (le-ltb _ _ n.if-room-n.false), long (goal.at.returns c).After-length_of-n);
       bytes = c.put_tape.ensures;
     }

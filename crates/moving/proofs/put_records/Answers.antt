@@ -12,14 +12,10 @@ use Rattle.tape.specs.rules.Records.{width_of}
 use Rattle.tape.specs.rules.Whole.{together, parts, records_bytes}
 use Rattle.moving.specs.rules.Moving.{moved_record}
 use Rattle.moving.proofs.MoveLaws.{moved-width}
-use Rattle.moving.proofs.CodeLaws.{less-long, record-turn}
+use Rattle.moving.proofs.CodeLaws.{rest, less-long, record-turn}
 use borrow.Author.Rules.{rules}
 use Rattle.moving.proofs.put_records.Goals as goal
 use Rattle.moving.proofs.put_records.Goals.{In-loop-k}
-
--- n records of `long` bytes from a place on, in the other form
-abbrev rest : Bool → List ℕ → ℕ → ℕ → ℕ → List ℕ
-rest wide s long at n = together (map (moved_record wide) (parts long (drop at s) n))
 
 -- what is left of bytes from a place on
 length_rest : (s : List ℕ) (at : ℕ) → length (take (length s - at) (drop at s)) ≡ length s - at
@@ -59,12 +55,12 @@ put_record-w-requires c =
     let l = i.loop-k in
     let e = i.event_bytes-width in
     let a = i.args in
-    (omega (arith, l.invariant.1, less i e.result, e.ensures.1, length_rest a.s.now l.at), omega (arith, l.invariant.2, less i (width_of a.wide)))
+    (omega (arith, l.invariant.1, less (goal.at.put_record-w-requires c).In-loop-k e.result, e.ensures.1, length_rest a.s.now l.at), omega (arith, l.invariant.2, less (goal.at.put_record-w-requires c).In-loop-k (width_of a.wide)))
 
 pub overflow_add-at-in-loop-k : goal.overflow_add-at-in-loop-k
 overflow_add-at-in-loop-k c =
     let i = c.before.before.before.before.before in
-    omega (arith, i.loop-k.invariant.1, less i i.event_bytes-width.result)
+    omega (arith, i.loop-k.invariant.1, less (goal.at.overflow_add-at-in-loop-k c).In-loop-k i.event_bytes-width.result)
 
 pub loop-k-preserved : goal.loop-k-preserved
 loop-k-preserved c =
@@ -75,8 +71,8 @@ loop-k-preserved c =
     let w = c.put_record-w.ensures in
     let long = e.result in (
       omega (arith, i.loop-k-test.true),
-      omega (arith, l.invariant.1, less i long),
-      omega (arith, l.invariant.2, l.invariant.3, less i (width_of a.wide), w.place, moved-width (take (length a.s.now - l.at) (drop l.at a.s.now)) a.wide (omega (arith, l.invariant.1, less i long, e.ensures.1, length_rest a.s.now l.at))),
+      omega (arith, l.invariant.1, less (goal.at.loop-k-preserved c).In-loop-k long),
+      omega (arith, l.invariant.2, l.invariant.3, less (goal.at.loop-k-preserved c).In-loop-k (width_of a.wide), w.place, moved-width (take (length a.s.now - l.at) (drop l.at a.s.now)) a.wide (omega (arith, l.invariant.1, less (goal.at.loop-k-preserved c).In-loop-k long, e.ensures.1, length_rest a.s.now l.at))),
       search rules,
       record-turn a.s.now l.at a.t.events l.k i.loop-k-test.true a.wide long e.ensures.1 l.invariant.4 w,
     )

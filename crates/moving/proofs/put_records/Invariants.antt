@@ -12,7 +12,7 @@ use Rattle.tape.specs.rules.Records.{width_of}
 use Rattle.tape.specs.rules.Whole.{together, parts, records_bytes}
 use Rattle.moving.specs.rules.Moving.{moved_record}
 use Rattle.moving.proofs.MoveLaws.{moved-width}
-use Rattle.moving.proofs.CodeLaws.{less-long, record-turn}
+use Rattle.moving.proofs.CodeLaws.{rest}
 use borrow.Author.Rules.{rules}
 use Rattle.moving.proofs.put_records.Given as goal
 

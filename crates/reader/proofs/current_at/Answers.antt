@@ -1,6 +1,5 @@
 use borrow.Author.Tests.{le-leb, lt-leb}
 use Rattle.reader.specs.rules.Reader.{current_of}
-use borrow.Author.Rules.{rules}
 use Rattle.reader.proofs.current_at.Goals as goal
 
 pub returns-then-t-place : goal.returns-then-t-place

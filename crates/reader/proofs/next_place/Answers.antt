@@ -1,6 +1,5 @@
 use borrow.Author.Tests.{lt-ltb, le-ltb}
 use Rattle.reader.specs.rules.Reader.{next_place}
-use borrow.Author.Rules.{rules}
 use Rattle.reader.proofs.next_place.Goals as goal
 
 pub returns-then-place-t : goal.returns-then-place-t

@@ -14,23 +14,23 @@ use Rattle.listing.proofs.results.put_results.Goals.{After-count_of-n, Start}
 len : (c : goal.Start) → length c.args.a.board.places ≡ 64
 len c = search (rules, length-mapped)
 
-found : (c : goal.After-count_of-n) → Reported c.args.a c.count_of-n.result c.write_fills.new.1.0
+found : (c : goal.After-count_of-n) → Reported c.args.a c.count_of-n.result c.write_fills.new.out
 found c =
     let s = c.before.before.before.before.before in
     let w = c.write_fills in
-    reported s.args.a (replicate 390 0) c.count_of-n.result w.new.1.0 s.requires.0 (len s) refl (c.count_of-n.ensures ∙ ap count_in w.ensures.0) w.ensures.1
+    reported s.args.a (replicate 390 0) c.count_of-n.result w.new.out s.requires.0 (len c.before.before.before.before.before.before) refl (c.count_of-n.ensures ∙ ap count_in w.ensures.value) w.ensures.out_after
 
 pub put_fills-w-requires : goal.put_fills-w-requires
-put_fills-w-requires c = let f = found c.before.before.before.before.before.before.before in (f.few, omega (arith, f.few, f.long), omega (arith, f.few))
+put_fills-w-requires c = let f = found (goal.at.put_fills-w-requires c).After-count_of-n in (f.few, omega (arith, f.few, f.long), omega (arith, f.few))
 
 pub sum_of-requires : goal.sum_of-requires
-sum_of-requires c = let f = found c.before.before.before.before.before.before.before.before.before.before.before.before in (f.few, omega (arith, f.few, f.long))
+sum_of-requires c = let f = found (goal.at.sum_of-requires c).After-count_of-n in (f.few, omega (arith, f.few, f.long))
 
 pub put_total-requires : goal.put_total-requires
-put_total-requires c = let f = found c.before.before.before.before.before.before.before.before.before.before.before.before.before in omega (arith, f.few)
+put_total-requires c = let f = found (goal.at.put_total-requires c).After-count_of-n in omega (arith, f.few)
 
 pub returns : goal.returns
 unfolding end_lines
 returns c =
-    let f = found c.before.before.before.before.before.before.before.before.before.before.before.before.before.before.before.before in
+    let f = found (goal.at.returns c).After-count_of-n in
     wrote-append c.put_end-end.ensures.wrote_bytes (wrote-append (wrote-same c.put_fills-w.ensures.wrote_bytes (ap fill_lines f.fills)) (wrote-same c.put_total.ensures (ap total_line (c.sum_of.ensures ∙ ap traded f.fills))))

@@ -30,6 +30,6 @@ put_results-requires c =
 pub returns : goal.returns
 returns c =
     let both = let a = c.args in
-    shown (end_lines (closed a.a)) a.out.now c.if-out-lt-LINES.false (omega (arith, end-lines-short (closed a.a) (closed-kept a.a ∙ len c.before.before.before.before.before.before.before)))
+    shown (end_lines (closed a.a)) a.out.now c.if-out-lt-LINES.false (omega (arith, end-lines-short (closed a.a) (closed-kept a.a ∙ len (goal.at.returns c).Start)))
     (wrote-same c.put_results.ensures (ap (λ (s : Stepped). end_lines s.auction) c.close-s.ensures)) in
     record { value = both.0; out_after = both.1 }

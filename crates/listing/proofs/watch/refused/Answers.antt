@@ -12,5 +12,5 @@ returns-then-out-lt-LINES c =
 
 pub returns : goal.returns
 returns c =
-    let both = let a = c.args in shown (refused_line a.number) a.out.now c.if-out-lt-LINES.false (omega (arith, refused-short a.number)) c.before.before.Put-refused.ensures in
+    let both = let a = c.args in shown (refused_line a.number) a.out.now c.if-out-lt-LINES.false (omega (arith, refused-short a.number)) c.put_refused.ensures in
     record { value = both.0; out_after = both.1 }

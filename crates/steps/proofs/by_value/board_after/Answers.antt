@@ -1,6 +1,5 @@
 use mathlib.Core.Path.{sym, ap, ◌∙◌}
 use Rattle.events.specs.rules.Step.{board_after}
-use borrow.Author.Rules.{rules}
 use Rattle.steps.proofs.by_value.board_after.Goals as goal
 
 pub returns-in-Seat : goal.returns-in-Seat
