@@ -9,9 +9,10 @@ ghost use Rattle.evening.specs.Counting.{one_more, no_tapes, counted_tape, count
 
 use auction::Ending;
 use input::MOST;
-use libc::{STDERR_FILENO, STDIN_FILENO, STDOUT_FILENO};
 use listing::{Listed, ROOM};
+use std::io::Read;
 use std::num::wrapping_add_u64;
+use std::rt::{Env, Files};
 
 fn tape_buffer() -> [u8; MOST]
     ensures { 65537 ≡ length result }
@@ -28,9 +29,9 @@ fn listing_buffer() -> [u8; ROOM]
 // ---- the names
 
 // What ends a name: a line's end, or with the argument -0 a zero byte.
-fn separator() -> u8 {
-    let mut word = io::buffer();
-    let n = os::arg(1, &mut word);
+fn separator(rt: &impl Env) -> u8 {
+    let mut word = [0u8; 4096];
+    let n = rt.arg(1, &mut word).unwrap_or(0);
     if n == 2 {
         if word[0] == b'-' {
             if word[1] == b'0' {
@@ -58,11 +59,8 @@ struct Next {
     source: Source,
 }
 
-// No byte is left, or a read failed, which is said.
+// No byte is left, or a read failed.
 fn none_left(s: Source, failed: bool) -> Next {
-    if failed {
-        os::fail(b"evening: standard input");
-    }
     Next {
         found: false,
         byte: 0,
@@ -75,7 +73,8 @@ fn none_left(s: Source, failed: bool) -> Next {
     }
 }
 
-fn next_byte(input: &mut [u8], s: Source) -> Next {
+// A read that fails is said.
+fn next_byte(rt: &impl Eprint, stdin: &mut impl Read, input: &mut [u8], s: Source) -> Next {
     let at = s.at;
     let got = s.got;
     let failed = s.failed;
@@ -94,20 +93,26 @@ fn next_byte(input: &mut [u8], s: Source) -> Next {
             };
         }
     }
-    let moved = libc::read(STDIN_FILENO, input);
-    let n = io::count(moved, input);
-    if n == 0 {
-        return none_left(s, moved < 0);
-    }
-    Next {
-        found: true,
-        byte: input[0],
-        source: Source {
-            at: 1,
-            got: n,
-            failed,
-            separator,
-        },
+    match stdin.read(input) {
+        Ok(n) => {
+            if n == 0 {
+                return none_left(s, false);
+            }
+            Next {
+                found: true,
+                byte: input[0],
+                source: Source {
+                    at: 1,
+                    got: n,
+                    failed,
+                    separator,
+                },
+            }
+        }
+        Err(error) => {
+            input::fail(rt, "evening: standard input", input::last_error(&error));
+            none_left(s, true)
+        }
     }
 }
 
@@ -131,14 +136,20 @@ struct Line {
 }
 
 // The next name into lent bytes, without what ends it. What has no room is dropped: so long a name names no file.
-fn read_line(input: &mut [u8], source: Source, name: &mut [u8]) -> Line
+fn read_line(
+    rt: &impl Eprint,
+    stdin: &mut impl Read,
+    input: &mut [u8],
+    source: Source,
+    name: &mut [u8],
+) -> Line
     ensures { IsPrefixLen result.length name.new }
 {
     let mut s = source;
     let mut k = 0;
     let mut turns = u64::MAX;
     while turns > 0 {
-        let b = next_byte(input, s);
+        let b = next_byte(rt, stdin, input, s);
         s = b.source;
         if !b.found {
             return Line {
@@ -259,89 +270,102 @@ fn stopped(mut t: Tally) -> Tally {
 }
 
 // Whether all was written; where not, it is said.
-fn print(s: &[u8]) -> bool {
-    if io::write_all(STDOUT_FILENO, s) {
-        return true;
+fn print(rt: &(impl Print + Eprint), s: &[u8]) -> bool {
+    match rt.write_all(s) {
+        Ok(()) => true,
+        Err(error) => {
+            input::fail(rt, "evening: standard output", input::last_error(&error));
+            false
+        }
     }
-    os::fail(b"evening: standard output");
-    false
 }
 
-fn print_number(n: u64) -> bool {
+fn print_number(rt: &(impl Print + Eprint), n: u64) -> bool {
     let mut text = [0u8; 20];
     let k = io::decimal(n, &mut text);
-    print(&text[..k])
+    print(rt, &text[..k])
 }
 
 // A word and the name, on a line.
-fn print_name(word: &[u8], name: &[u8]) -> bool {
-    if !print(word) {
+fn print_name(rt: &(impl Print + Eprint), word: &[u8], name: &[u8]) -> bool {
+    if !print(rt, word) {
         return false;
     }
-    if !print(name) {
+    if !print(rt, name) {
         return false;
     }
-    print(b"\n")
+    print(rt, b"\n")
 }
 
 // That a file can't be read: the system's number for why, and the name.
-fn print_unreadable(error: u64, name: &[u8]) -> bool {
-    if !print(b"UNREADABLE ") {
+fn print_unreadable(rt: &(impl Print + Eprint), error: u64, name: &[u8]) -> bool {
+    if !print(rt, b"UNREADABLE ") {
         return false;
     }
-    if !print_number(error) {
+    if !print_number(rt, error) {
         return false;
     }
-    print_name(b" ", name)
+    print_name(rt, b" ", name)
 }
 
-fn unreadable(t: Tally, error: u64, name: &[u8]) -> Tally {
-    if !print_unreadable(error, name) {
+fn unreadable(rt: &(impl Print + Eprint), t: Tally, error: u64, name: &[u8]) -> Tally {
+    if !print_unreadable(rt, error, name) {
         return stopped(t);
     }
     count_unreadable(t)
 }
 
 // The listing of a tape, in lent bytes, onto standard output.
-fn show(t: Tally, tape: &[u8], out: &mut [u8]) -> Tally {
+fn show(rt: &(impl Print + Eprint), t: Tally, tape: &[u8], out: &mut [u8]) -> Tally {
     let l = listing::listing(tape, out);
     let n = listing::length_of(l);
-    if !print(&out[..n]) {
+    if !print(rt, &out[..n]) {
         return stopped(t);
     }
     count_listed(t, l)
 }
 
 // One tape by its name: its listing, or that it can't be read.
-fn serve(t: Tally, name: &[u8], tape: &mut [u8], out: &mut [u8]) -> Tally {
-    if !print_name(b"TAPE ", name) {
+fn serve(
+    rt: &(impl Files + Print + Eprint),
+    t: Tally,
+    name: &[u8],
+    tape: &mut [u8],
+    out: &mut [u8],
+) -> Tally {
+    if !print_name(rt, b"TAPE ", name) {
         return stopped(t);
     }
-    let fd = os::open_read(name);
-    if fd < 0 {
-        return unreadable(t, input::last_error(), name);
-    }
-    let c = input::read_tape(fd, tape);
-    libc::close(fd);
+    let c = match input::open(rt, name) {
+        Ok(mut file) => input::read_tape(&mut file, tape),
+        Err(error) => return unreadable(rt, t, error, name),
+    };
     if !c.whole {
-        return unreadable(t, c.error, name);
+        return unreadable(rt, t, c.error, name);
     }
     let n = c.length;
-    show(t, &tape[..n], out)
+    show(rt, t, &tape[..n], out)
 }
 
 // Each name of standard input in turn, until something fails.
-fn serve_all(input: &mut [u8], name: &mut [u8], tape: &mut [u8], out: &mut [u8]) -> Tally {
+fn serve_all(
+    rt: &(impl Env + Files + Print + Eprint),
+    stdin: &mut impl Read,
+    input: &mut [u8],
+    name: &mut [u8],
+    tape: &mut [u8],
+    out: &mut [u8],
+) -> Tally {
     let mut t = no_tapes();
     let mut s = Source {
         at: 0,
         got: 0,
         failed: false,
-        separator: separator(),
+        separator: separator(rt),
     };
     let mut turns = u64::MAX;
     while turns > 0 {
-        let line = read_line(input, s, name);
+        let line = read_line(rt, stdin, input, s, name);
         s = line.source;
         if s.failed {
             return stopped(t);
@@ -350,7 +374,7 @@ fn serve_all(input: &mut [u8], name: &mut [u8], tape: &mut [u8], out: &mut [u8])
             return t;
         }
         let n = line.length;
-        t = serve(t, &name[..n], tape, out);
+        t = serve(rt, t, &name[..n], tape, out);
         if t.failed {
             return t;
         }
@@ -362,29 +386,35 @@ fn serve_all(input: &mut [u8], name: &mut [u8], tape: &mut [u8], out: &mut [u8])
 
 // ---- the summary
 
-fn say(word: &[u8], n: u64) {
-    io::write_all(STDERR_FILENO, word);
-    io::print_decimal(STDERR_FILENO, n);
+fn say(rt: &impl Eprint, word: &str, n: u64) {
+    let _ = eprint!(rt; "{word}{n}");
 }
 
-fn summary(t: Tally) {
-    say(b"tapes ", t.tapes);
-    say(b", refused ", t.refused);
-    say(b", ended by time ", t.time);
-    say(b", by same ", t.same);
-    say(b", by opposite ", t.opposite);
-    say(b", by improve ", t.improve);
-    say(b", unreadable ", t.unreadable);
-    io::write_all(STDERR_FILENO, b"\n");
+fn summary(rt: &impl Eprint, t: Tally) {
+    say(rt, "tapes ", t.tapes);
+    say(rt, ", refused ", t.refused);
+    say(rt, ", ended by time ", t.time);
+    say(rt, ", by same ", t.same);
+    say(rt, ", by opposite ", t.opposite);
+    say(rt, ", by improve ", t.improve);
+    say(rt, ", unreadable ", t.unreadable);
+    let _ = eprint!(rt; "\n");
 }
 
-fn main() {
-    let mut input = io::large_buffer();
-    let mut name = io::buffer();
+fn main(rt: HostRuntime) {
+    let mut input = [0u8; 65536];
+    let mut name = [0u8; 4096];
     let mut tape = tape_buffer();
     let mut out = listing_buffer();
-    let t = serve_all(&mut input, &mut name, &mut tape, &mut out);
+    let t = serve_all(
+        &rt,
+        &mut rt.stdin(),
+        &mut input,
+        &mut name,
+        &mut tape,
+        &mut out,
+    );
     if !t.failed {
-        summary(t);
+        summary(&rt, t);
     }
 }

@@ -7,7 +7,6 @@ ghost use Rattle.io.specs.Counts.{IsPrefixLen};
 ghost use Rattle.listing.specs.rules.Listing.{length_in, listed_of, bytes_of};
 
 use input::MOST;
-use libc::{STDIN_FILENO, STDOUT_FILENO};
 use listing::ROOM;
 
 fn tape_buffer() -> [u8; MOST]
@@ -31,21 +30,21 @@ fn answer(tape: &[u8], out: &mut [u8]) -> usize
     listing::length_of(listing::listing(tape, out))
 }
 
-fn show(tape: &[u8], out: &mut [u8]) {
+fn show<R: Print + Eprint>(rt: &R, tape: &[u8], out: &mut [u8]) {
     let n = answer(tape, out);
-    if !io::write_all(STDOUT_FILENO, &out[..n]) {
-        os::fail(b"runner: standard output");
+    if let Err(error) = rt.write_all(&out[..n]) {
+        input::fail(rt, "runner: standard output", input::last_error(&error));
     }
 }
 
-fn main() {
+fn main(rt: HostRuntime) {
     let mut tape = tape_buffer();
     let mut out = listing_buffer();
-    let c = input::read_tape(STDIN_FILENO, &mut tape);
+    let c = input::read_tape(&mut rt.stdin(), &mut tape);
     if !c.whole {
-        os::fail(b"runner: standard input");
+        input::fail(&rt, "runner: standard input", c.error);
         return;
     }
     let n = c.length;
-    show(&tape[..n], &mut out);
+    show(&rt, &tape[..n], &mut out);
 }

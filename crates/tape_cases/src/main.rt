@@ -5,33 +5,33 @@
 
 #![tactic(auto)]
 
+use std::io::Read;
 use words::bytes::read_word;
 
 // ---- printing
 
-fn text(s: &[u8]) {
-    io::write_all(1, s);
+fn text(rt: &impl Print, s: &[u8]) {
+    let _ = rt.write_all(s);
 }
 
-fn number(n: u32) {
-    text(b" ");
-    io::print_decimal(1, n as u64);
+fn number(rt: &impl Print, n: u32) {
+    let _ = print!(rt; " {n}");
 }
 
-fn refused(n: u32) {
-    text(b"refused");
-    number(n);
+fn refused(rt: &impl Print, n: u32) {
+    text(rt, b"refused");
+    number(rt, n);
 }
 
-fn small(b: u8) {
-    number(b as u32);
+fn small(rt: &impl Print, b: u8) {
+    number(rt, b as u32);
 }
 
 // All bytes, in decimal.
-fn bytes(s: &[u8]) {
+fn bytes(rt: &impl Print, s: &[u8]) {
     let mut i = 0;
     while i < s.len() {
-        small(s[i]);
+        small(rt, s[i]);
         i += 1;
     }
 }
@@ -51,71 +51,71 @@ fn starts(s: &[u8], front: &[u8]) -> bool {
     true
 }
 
-fn same(yes: bool) {
+fn same(rt: &impl Print, yes: bool) {
     if yes {
-        text(b" same");
+        text(rt, b" same");
     } else {
-        text(b" differs");
+        text(rt, b" differs");
     }
 }
 
-fn written(w: tape::Written) {
+fn written(rt: &impl Print, w: tape::Written) {
     match w {
-        tape::Written::Done => text(b"done"),
-        tape::Written::Refused(n) => refused(n),
+        tape::Written::Done => text(rt, b"done"),
+        tape::Written::Refused(n) => refused(rt, n),
     }
 }
 
 // ---- reading: the values, and whether they write back to the same bytes
 
-fn order_values(o: tape::Order) {
-    text(b"order");
-    small(o.side);
-    small(o.mode);
-    small(o.marks);
-    number(o.size);
-    number(o.limit);
-    number(o.stop);
-    number(o.nbb);
-    number(o.nbo);
-    number(o.bb);
+fn order_values(rt: &impl Print, o: tape::Order) {
+    text(rt, b"order");
+    small(rt, o.side);
+    small(rt, o.mode);
+    small(rt, o.marks);
+    number(rt, o.size);
+    number(rt, o.limit);
+    number(rt, o.stop);
+    number(rt, o.nbb);
+    number(rt, o.nbo);
+    number(rt, o.bb);
 }
 
-fn order_rest(o: tape::Order) {
-    number(o.bo);
-    number(o.time);
-    number(o.opens);
-    number(o.closes);
-    number(o.interval);
-    number(o.displayed);
-    number(o.collar);
+fn order_rest(rt: &impl Print, o: tape::Order) {
+    number(rt, o.bo);
+    number(rt, o.time);
+    number(rt, o.opens);
+    number(rt, o.closes);
+    number(rt, o.interval);
+    number(rt, o.displayed);
+    number(rt, o.collar);
 }
 
-fn order(s: &[u8]) {
+fn order(rt: &impl Print, s: &[u8]) {
     match tape::read_order(s) {
         tape::ReadOrder::Order(o) => {
-            order_values(o);
-            order_rest(o);
+            order_values(rt, o);
+            order_rest(rt, o);
             let mut back = [0u8; 64];
             tape::write_order(o, &mut back);
-            same(starts(s, &back));
+            same(rt, starts(s, &back));
         }
-        tape::ReadOrder::Refused(n) => refused(n),
+        tape::ReadOrder::Refused(n) => refused(rt, n),
     }
 }
 
-fn event_values(e: tape::Event) {
-    text(b"event");
-    number(e.sequence);
-    number(e.time);
-    small(e.kind);
-    small(e.marks);
-    small(e.side);
-    number(e.f12);
-    number(e.f16);
-    number(e.f20);
-    number(e.f24);
-    number(e.participant);
+fn event_values(rt: &impl Print, e: tape::Event) {
+    text(rt, b"event");
+    number(rt, e.sequence);
+    number(rt, e.time);
+    small(rt, e.kind);
+    small(rt, e.marks);
+    small(rt, e.side);
+    number(rt, e.f12);
+    number(rt, e.f16);
+    number(rt, e.f20);
+    number(rt, e.f24);
+    number(rt, e.participant);
 }
 
 // Of which form a case is, for those that have one for each: the new one's numbers are ten higher.
@@ -123,56 +123,56 @@ fn is_wide(what: u32) -> bool {
     10 < what
 }
 
-fn event_back(wide: bool, e: tape::Event, s: &[u8], back: &mut [u8]) {
+fn event_back(rt: &impl Print, wide: bool, e: tape::Event, s: &[u8], back: &mut [u8]) {
     tape::write_event(wide, e, back);
-    same(starts(s, back));
+    same(rt, starts(s, back));
 }
 
-fn event(wide: bool, s: &[u8]) {
+fn event(rt: &impl Print, wide: bool, s: &[u8]) {
     match tape::read_event(wide, s) {
         tape::ReadEvent::Event(e) => {
-            event_values(e);
+            event_values(rt, e);
             let mut back = [0u8; 40];
             let start = 0;
             let n = tape::event_bytes(wide);
-            event_back(wide, e, s, &mut back[start..n]);
+            event_back(rt, wide, e, s, &mut back[start..n]);
         }
-        tape::ReadEvent::Refused(n) => refused(n),
+        tape::ReadEvent::Refused(n) => refused(rt, n),
     }
 }
 
-fn form(wide: bool) {
+fn form(rt: &impl Print, wide: bool) {
     if wide {
-        text(b" new");
+        text(rt, b" new");
     } else {
-        text(b" old");
+        text(rt, b" old");
     }
 }
 
-fn trailer(s: &[u8]) {
+fn trailer(rt: &impl Print, s: &[u8]) {
     match tape::read_trailer(s) {
         tape::ReadTrailer::Trailer(t) => {
-            text(b"trailer");
-            form(t.wide);
-            number(t.order);
-            number(t.events);
+            text(rt, b"trailer");
+            form(rt, t.wide);
+            number(rt, t.order);
+            number(rt, t.events);
             let mut back = [0u8; 16];
             tape::write_trailer(t, &mut back);
-            same(starts(s, &back));
+            same(rt, starts(s, &back));
         }
-        tape::ReadTrailer::Refused(n) => refused(n),
+        tape::ReadTrailer::Refused(n) => refused(rt, n),
     }
 }
 
-fn opened(s: &[u8]) {
+fn opened(rt: &impl Print, s: &[u8]) {
     match tape::open_tape(s) {
         tape::Opened::Tape(t) => {
-            text(b"tape");
-            form(t.wide);
-            number(t.order);
-            number(t.events);
+            text(rt, b"tape");
+            form(rt, t.wide);
+            number(rt, t.order);
+            number(rt, t.events);
         }
-        tape::Opened::Refused(n) => refused(n),
+        tape::Opened::Refused(n) => refused(rt, n),
     }
 }
 
@@ -218,35 +218,34 @@ fn event_from(v: &[u8]) -> tape::Event {
     }
 }
 
-fn put_order(v: &[u8], lent: &mut [u8]) {
-    written(tape::write_order(order_from(v), lent));
-    bytes(lent);
+fn put_order(rt: &impl Print, v: &[u8], lent: &mut [u8]) {
+    written(rt, tape::write_order(order_from(v), lent));
+    bytes(rt, lent);
 }
 
-fn put_event(wide: bool, v: &[u8], lent: &mut [u8]) {
-    written(tape::write_event(wide, event_from(v), lent));
-    bytes(lent);
+fn put_event(rt: &impl Print, wide: bool, v: &[u8], lent: &mut [u8]) {
+    written(rt, tape::write_event(wide, event_from(v), lent));
+    bytes(rt, lent);
 }
 
-fn put_trailer(wide: bool, v: &[u8], lent: &mut [u8]) {
+fn put_trailer(rt: &impl Print, wide: bool, v: &[u8], lent: &mut [u8]) {
     let t = tape::Trailer {
         order: read_word(v, 0),
         events: read_word(v, 4),
         wide,
     };
-    written(tape::write_trailer(t, lent));
-    bytes(lent);
+    written(rt, tape::write_trailer(t, lent));
+    bytes(rt, lent);
 }
 
 // ---- moving the tape that the lent bytes are: the answer, and all bytes of a room of as many bytes as the first value says
 
-fn moved(m: moving::Moved) {
+fn moved(rt: &impl Print, m: moving::Moved) {
     match m {
         moving::Moved::Length(n) => {
-            text(b"moved ");
-            io::print_decimal(1, n);
+            let _ = print!(rt; "moved {n}");
         }
-        moving::Moved::Refused(n) => refused(n),
+        moving::Moved::Refused(n) => refused(rt, n),
     }
 }
 
@@ -260,78 +259,78 @@ fn sevens(room: &mut [u8]) {
 }
 
 // The bytes of the room, which are sevens before it is moved into; of a long one only those at its end.
-fn move_into(wide: bool, s: &[u8], room: &mut [u8]) {
+fn move_into(rt: &impl Print, wide: bool, s: &[u8], room: &mut [u8]) {
     sevens(room);
-    moved(moving::move_tape(wide, s, room));
+    moved(rt, moving::move_tape(wide, s, room));
     let n = room.len();
     if n < 400 {
-        return bytes(room);
+        return bytes(rt, room);
     }
-    bytes(&room[n - 24..]);
+    bytes(rt, &room[n - 24..]);
 }
 
-fn move_to(wide: bool, v: &[u8], s: &[u8]) {
+fn move_to(rt: &impl Print, wide: bool, v: &[u8], s: &[u8]) {
     let mut room = [0u8; 65540];
     let start = 0;
     let n = read_word(v, 0) as usize;
     if n <= 65540 {
-        move_into(wide, s, &mut room[start..n]);
+        move_into(rt, wide, s, &mut room[start..n]);
     }
 }
 
 // ---- a case
 
-fn run(what: u32, v: &[u8], lent: &mut [u8]) {
+fn run(rt: &impl Print, what: u32, v: &[u8], lent: &mut [u8]) {
     let wide = is_wide(what);
     if what == 1 {
-        return order(lent);
+        return order(rt, lent);
     }
     if (what == 2) | (what == 12) {
-        return event(wide, lent);
+        return event(rt, wide, lent);
     }
     if what == 3 {
-        return trailer(lent);
+        return trailer(rt, lent);
     }
     if what == 4 {
-        return opened(lent);
+        return opened(rt, lent);
     }
     if what == 5 {
-        return put_order(v, lent);
+        return put_order(rt, v, lent);
     }
     if (what == 6) | (what == 16) {
-        return put_event(wide, v, lent);
+        return put_event(rt, wide, v, lent);
     }
     if (what == 8) | (what == 18) {
-        return move_to(wide, v, lent);
+        return move_to(rt, wide, v, lent);
     }
-    put_trailer(wide, v, lent);
+    put_trailer(rt, wide, v, lent);
 }
 
 // Bytes of standard input into a part of a slice.
-fn fill(s: &mut [u8], from: usize, to: usize) {
+fn fill(stdin: &mut impl Read, s: &mut [u8], from: usize, to: usize) {
     if to < from {
         return;
     }
     if s.len() < to {
         return;
     }
-    io::read_full(0, &mut s[from..to]);
+    input::read_tape(stdin, &mut s[from..to]);
 }
 
 // Runs a case on the first n bytes.
-fn run_on(what: u32, v: &[u8], lent: &mut [u8], n: usize) {
+fn run_on(rt: &impl Print, what: u32, v: &[u8], lent: &mut [u8], n: usize) {
     if lent.len() < n {
         return;
     }
     let start = 0;
-    run(what, v, &mut lent[start..n]);
-    text(b"\n");
+    run(rt, what, v, &mut lent[start..n]);
+    text(rt, b"\n");
 }
 
 // Reads a case and runs it; false where there is none.
-fn next_case() -> bool {
+fn next_case(rt: &impl Print, stdin: &mut impl Read) -> bool {
     let mut head = [0u8; 20];
-    if io::read_full(0, &mut head) < 20 {
+    if input::read_tape(stdin, &mut head).length < 20 {
         return false;
     }
     let what = read_word(&head, 0);
@@ -344,16 +343,17 @@ fn next_case() -> bool {
     if n < t {
         return false;
     }
-    fill(&mut values, 0, v);
-    fill(&mut lent, 0, h);
-    fill(&mut lent, n - t, n);
-    run_on(what, &values, &mut lent, n);
+    fill(stdin, &mut values, 0, v);
+    fill(stdin, &mut lent, 0, h);
+    fill(stdin, &mut lent, n - t, n);
+    run_on(rt, what, &values, &mut lent, n);
     true
 }
 
-fn main() {
+fn main(rt: HostRuntime) {
+    let mut stdin = rt.stdin();
     let mut turns: u32 = 100000;
-    while turns > 0 && next_case() {
+    while turns > 0 && next_case(&rt, &mut stdin) {
         turns -= 1;
     }
 }
