@@ -55,7 +55,7 @@ class Building(Case):
         return open(path).read().splitlines() if os.path.exists(path) else []
 
     def test_first_use_and_after(self):
-        self.ends(self.run_cube(), 0, LISTING, "cube: proving and linking the engine, an hour or so on first use\n")
+        self.ends(self.run_cube(), 0, LISTING, "cube: proving and linking the engine, some minutes on first use\n")
         made = self.run_cube()
         self.ends(made, 0, LISTING)
         self.assertEqual(made.stderr, b"")

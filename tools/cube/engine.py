@@ -87,7 +87,7 @@ def prove(first):
     """Runs `rt run` in the folder of each program, which proves, compiles and links it, and runs it; target/cube/log has what it said."""
     if shutil.which("rt") is None:
         raise Trouble(NOT_CURRENT + "the Rattle kit's command rt is not on the PATH")
-    say("proving and linking the engine, an hour or so on first use" if first else "the sources have changed: proving and linking the engine again")
+    say("proving and linking the engine, some minutes on first use" if first else "the sources have changed: proving and linking the engine again")
     began, path = time.time(), os.path.join(BUILT, "log")
     with open(path, "wb") as log:
         failed = any(run_rt(["run", "--"] + words, program, log) != 0 for program, words in PROGRAMS.items())
