@@ -68,10 +68,10 @@ class Building(Case):
 
     def test_changed_sources(self):
         self.run_cube()
-        for name, text in (("crates/one/src/lib.rt", "// two\n"), ("crates/one/proofs/f/Proof.antt", "-- new\n"), ("crates.txt", "one:\n# more\n")):
+        for name, text in (("crates/one/src/lib.rt", "// two\n"), ("crates/one/proofs/f/Answers.antt", "-- new\n"), ("crates.txt", "one:\n# more\n")):
             self.change(name, text)
             self.ends(self.run_cube(), 0, LISTING, "cube: the sources have changed: proving and linking the engine again\n")
-        os.unlink(os.path.join(self.root, "crates/one/proofs/f/Proof.antt"))
+        os.unlink(os.path.join(self.root, "crates/one/proofs/f/Answers.antt"))
         self.ends(self.run_cube(), 0, LISTING, "the sources have changed")
         self.assertEqual(self.asked(), 5 * ASKED)
 
