@@ -1,7 +1,7 @@
 /* embed.c: a program of your own around the engine. It lists the tapes that it is given the names of.
  *
- *   rt staticlib engine
- *   cc -Iinclude -o embed examples/embed.c target/staticlib/libengine.a
+ *   (cd crates/engine && rt lib)
+ *   cc -Iinclude -o embed examples/embed.c crates/engine/out/libengine.a
  *   ./embed a.tape b.tape
  *
  * The status is 0 where all were listed (a refused tape is listed), and 1 where something could not be read or written. */

@@ -3,7 +3,7 @@
 
     tests/compare_peer.py [COUNT [SEED..]]     COUNT tapes for each seed (4,000; seeds 1 to 5)
 
-From the project's root, after `rt check evening desk`. Builds the peer with a C compiler into target/peer. Each tape is six tests: its listing, its
+From the project's root, after `rt ci`, or `rt run` in crates/evening and crates/desk. Builds the peer with a C compiler into target/peer. Each tape is six tests: its listing, its
 watch, the participants beside its fills, the tape moved to the new form and to the old (with what moves also moved back, and listed), and its way to
 text and back (tools/cube/form.py). A difference is kept under target/peer/differences and named. The last line is 'N passed, M failed'.
 """
@@ -76,7 +76,7 @@ def evening(names):
 @functools.lru_cache(maxsize=None)
 def program():
     """The words that start `desk`."""
-    return engine.run_prefix().decode().splitlines() + ["target/bin/desk"]
+    return engine.run_prefix().decode().splitlines() + ["crates/desk/out/desk"]
 
 
 def desk(words, tape):

@@ -13,24 +13,21 @@ import re
 import sys
 
 
-# The functions whose proof is by hand: the kit makes no reading of their contracts that a theorem could cite. docs/STATEMENTS.md names them, and why.
-BY_HAND = {"crates/steps": ["lent.apply", "lent.cancel"], "crates/reader": ["hold", "held_order", "current_event", "next"]}
-
-# The functions that read: what a file holds no contract can say. docs/STATEMENTS.md names them, too.
-OUTSIDE = {"crates/input": ["last_error", "read_tape"]}
+# The functions that read, open a file or write: what a file holds, or the system says, no contract can say. docs/STATEMENTS.md names them.
+OUTSIDE = {"crates/input": ["last_error", "read_tape", "open", "fail"]}
 
 
 # What a program's function promises: `runner` writes what `listing` wrote, `evening` counts what came of each tape.
-LISTS = ["r ≡ lengthIn (listedOf (now (tape .entry)) (now (out .entry)))", "now (out .exit) ≡ bytesOf (now (tape .entry)) (now (out .entry))"]
+LISTS = ["result ≡ length_in (listed_of tape.now out.old)", "out.new ≡ bytes_of tape.now out.old"]
 PROGRAMS = {
     "crates/runner": {"answer": LISTS},
     "crates/evening": {
-        "one_more": ["r ≡ oneMore n"],
-        "no_tapes": ["r ≡ noTapes"],
-        "count_tape": ["r ≡ countedTape t"],
-        "count_unreadable": ["r ≡ countedUnreadable t"],
-        "count_ending": ["r ≡ countedEnding t g"],
-        "count_listed": ["r ≡ countedListed t l"],
+        "one_more": ["result ≡ one_more n"],
+        "no_tapes": ["result ≡ no_tapes"],
+        "count_tape": ["result ≡ counted_tape t"],
+        "count_unreadable": ["result ≡ counted_unreadable t"],
+        "count_ending": ["result ≡ counted_ending t g"],
+        "count_listed": ["result ≡ counted_listed t l"],
     },
 }
 
@@ -51,12 +48,21 @@ def public(crate):
                 yield name if file == "lib" else file + "." + name
 
 
+# What a theorem cites, by the names that its file gives them: of a crate's contracts their types, and what their clauses say.
+CITED = ["use Rattle.%s.specs.contracts as stated", "use Rattle.%s.proofs as contracts"]
+
+
 def stated(crate):
+    """The statements of a crate's theorems, where the names in them lead to this crate's own contracts."""
     path = crate + "/proofs/Settled.antt"
     if not os.path.exists(path):
         return []
     with open(path) as f:
-        return re.findall(r"^pub \S+ : (Settled .*)$", f.read(), re.M)
+        text = f.read()
+    lacks = [line % os.path.basename(crate) for line in CITED if not re.search("^%s$" % re.escape(line % os.path.basename(crate)), text, re.M)]
+    for line in lacks:
+        print("{}: no line '{}'".format(path, line))
+    return [] if lacks else re.findall(r"^pub \S+ : (Settled .*)$", text, re.M)
 
 
 def main():
@@ -64,7 +70,7 @@ def main():
     for crate in sorted(glob.glob("crates/*")):
         if not os.path.exists(crate + "/src/lib.rt"):
             continue
-        wanted = ["Settled contracts.{0}.ended contracts.{0}.Reads.Asked contracts.{0}.Reads.Learnt".format(f) for f in public(crate) if f not in BY_HAND.get(crate, []) + OUTSIDE.get(crate, [])]
+        wanted = ["Settled stated.{0}.ended contracts.{0}.Reads.Asked contracts.{0}.Reads.Learnt".format(f) for f in public(crate) if f not in OUTSIDE.get(crate, [])]
         found = stated(crate)
         for line in wanted:
             if line in found:
@@ -77,7 +83,7 @@ def main():
             print(crate + ": not in the order of src/")
     for crate, functions in sorted(PROGRAMS.items()):
         for name, clauses in functions.items():
-            lacks = [c for c in clauses if "⌜ %s ⌝" % c not in contract(crate, name)]
+            lacks = [c for c in clauses if not re.search(r"\bensures(?: \w+)? \{ %s \}" % re.escape(c), contract(crate, name))]
             passed += not lacks
             failed += bool(lacks)
             for clause in lacks:

@@ -20,12 +20,11 @@ class Around(Case):
         """The header compiles by itself, in C and C++; the example lists what cube lists."""
         if platform.machine() != "x86_64":
             raise unittest.SkipTest("the static library is for x86-64")
-        made = subprocess.run(["rt", "staticlib", "engine"], cwd=ROOT, stdout=subprocess.PIPE, stderr=subprocess.STDOUT)
-        self.assertEqual(made.returncode, 0, made.stdout.decode()[-2000:])
+        from cube import engine
         compiler = next(c for c in ("cc", "gcc", "clang") if shutil.which(c))
         program = self.path("embed")
         strict = [compiler, "-std=c99", "-Wall", "-Wextra", "-Wpedantic", "-Werror", "-I", os.path.join(ROOT, "include")]
-        subprocess.run(strict + ["-o", program, os.path.join(ROOT, "examples", "embed.c"), os.path.join(ROOT, "target", "staticlib", "libengine.a")], check=True)
+        subprocess.run(strict + ["-o", program, os.path.join(ROOT, "examples", "embed.c"), engine.archive()], check=True)
         made = subprocess.run([program] + samples(), stdout=subprocess.PIPE, check=True).stdout
         listed = cube(*samples()).stdout
         self.assertEqual(made, b"".join(re.split(rb"^TAPE .*\n", listed, flags=re.M)))

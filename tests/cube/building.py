@@ -6,15 +6,17 @@ import unittest
 
 from support import CUBE, LISTING, ROOT, Case, cube, programs
 
-# says what it was asked; copies the programs; may wait, fail or change a source first
+# says what it was asked, in which crate's folder; copies the program; may wait, fail or change a source first
 STAND_IN = """#!/bin/sh
-echo "$@" >>"$STAND_IN/asked"
-[ "$1" = check ] || exit 2
+name=${PWD##*/}
+echo "$name: $@" >>"$STAND_IN/asked"
+[ "$1 $2" = "run --" ] && [ "$PWD" = "$STAND_IN_ROOT/crates/$name" ] || exit 2
 sleep "${STAND_IN_WAIT:-0}"
-if [ -e "$STAND_IN/touch" ]; then rm "$STAND_IN/touch"; echo "// later" >>crates/one/src/lib.rt; fi
-if [ -e "$STAND_IN/fail" ]; then echo "rt: one NOT PROVED (exit 1, 2 s)"; echo "rt: FAILED: one"; exit 1; fi
-mkdir -p target/bin && cp "$STAND_IN"/programs/runner "$STAND_IN"/programs/evening "$STAND_IN"/programs/desk target/bin/
+if [ -e "$STAND_IN/touch" ]; then rm "$STAND_IN/touch"; echo "// later" >>../one/src/lib.rt; fi
+if [ -e "$STAND_IN/fail" ]; then echo "error: a clause of one is not proved"; echo "rt: the library one did not build"; exit 1; fi
+mkdir -p out && cp "$STAND_IN/programs/$name" out/
 """
+ASKED = ["runner: run --", "evening: run --", "desk: run -- trace"]
 TOOLS = ["sh", "bash", "python3", "readlink", "uname", "cat", "mkdir", "cp", "rm", "sleep", "dirname", "printf", "ls", "chmod"]
 
 
@@ -29,13 +31,15 @@ class Building(Case):
         shutil.copytree(os.path.join(ROOT, "tools"), os.path.join(self.root, "tools"), ignore=shutil.ignore_patterns("__pycache__"))
         self.change("crates.txt", "one:\n")
         self.change("crates/one/src/lib.rt", "// one\n")
+        for program in ("runner", "evening", "desk"):
+            self.change("crates/%s/src/main.rt" % program, "// a program\n")
         for tool in TOOLS:
             os.symlink(shutil.which(tool), os.path.join(self.kit, "bin", tool))
         self.rt = os.path.join(self.kit, "bin", "rt")
         with open(self.rt, "w") as f:
             f.write(STAND_IN)
         os.chmod(self.rt, 0o755)
-        self.env = {"PATH": os.path.join(self.kit, "bin"), "STAND_IN": self.kit}
+        self.env = {"PATH": os.path.join(self.kit, "bin"), "STAND_IN": self.kit, "STAND_IN_ROOT": os.path.realpath(self.root)}
 
     def change(self, name, text):
         path = os.path.join(self.root, name)
@@ -55,7 +59,7 @@ class Building(Case):
         made = self.run_cube()
         self.ends(made, 0, LISTING)
         self.assertEqual(made.stderr, b"")
-        self.assertEqual(self.asked(), ["check runner evening desk"])
+        self.assertEqual(self.asked(), ASKED)
 
     def test_rt_is_not_needed_where_the_programs_are_current(self):
         self.run_cube()
@@ -64,12 +68,12 @@ class Building(Case):
 
     def test_changed_sources(self):
         self.run_cube()
-        for name, text in (("crates/one/src/lib.rt", "// two\n"), ("crates/one/proofs/f/Proof.antt", "-- new\n"), ("crates.txt", "one:\n# more\n")):
+        for name, text in (("crates/one/src/lib.rt", "// two\n"), ("crates/one/proofs/f/Answers.antt", "-- new\n"), ("crates.txt", "one:\n# more\n")):
             self.change(name, text)
             self.ends(self.run_cube(), 0, LISTING, "cube: the sources have changed: proving and linking the engine again\n")
-        os.unlink(os.path.join(self.root, "crates/one/proofs/f/Proof.antt"))
+        os.unlink(os.path.join(self.root, "crates/one/proofs/f/Answers.antt"))
         self.ends(self.run_cube(), 0, LISTING, "the sources have changed")
-        self.assertEqual(len(self.asked()), 5)
+        self.assertEqual(self.asked(), 5 * ASKED)
 
     def test_an_old_time_on_a_changed_file(self):
         self.run_cube()
@@ -86,14 +90,14 @@ class Building(Case):
         self.change("crates/one/src/lib.rt", "// one\n")
         made = self.run_cube()
         self.ends(made, 0, LISTING)
-        self.assertEqual(len(self.asked()), 2)
+        self.assertEqual(self.asked(), 2 * ASKED)
 
     def test_sources_that_change_during_the_build(self):
         open(os.path.join(self.kit, "touch"), "w").close()
         self.ends(self.run_cube(), 0, LISTING, "cube: the sources changed during the build\n")
-        self.assertEqual(len(self.asked()), 2)
+        self.assertEqual(self.asked(), 2 * ASKED)
         self.ends(self.run_cube(), 0, LISTING)
-        self.assertEqual(len(self.asked()), 2)
+        self.assertEqual(self.asked(), 2 * ASKED)
 
     def sentence(self, made, words):
         """Status 1, nothing on standard output, and one sentence."""
@@ -107,7 +111,8 @@ class Building(Case):
     def test_not_proved(self):
         open(os.path.join(self.kit, "fail"), "w").close()
         made = self.run_cube()
-        self.ends(made, 1, b"", "rt: FAILED: one")
+        self.ends(made, 1, b"", "rt: the library one did not build")
+        self.assertEqual(self.asked(), ASKED[:1])
         self.assertIn(b"the engine was not proved; the lines above say why", made.stderr)
         os.unlink(os.path.join(self.kit, "fail"))
         self.ends(self.run_cube(), 0, LISTING)
@@ -154,7 +159,7 @@ class Building(Case):
         begun = [subprocess.Popen([os.path.join(self.root, "cube"), self.tape], env=env, stdout=subprocess.PIPE, stderr=subprocess.PIPE) for _ in range(3)]
         ended = [p.communicate() for p in begun]
         self.assertEqual([(p.returncode, out) for p, (out, _) in zip(begun, ended)], [(0, LISTING.encode())] * 3)
-        self.assertEqual(self.asked(), ["check runner evening desk"])
+        self.assertEqual(self.asked(), ASKED)
         self.assertEqual(sum(b"another cube is building the engine; waiting for it" in said for _, said in ended), 2)
 
     def test_a_build_beside_a_run(self):

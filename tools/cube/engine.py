@@ -14,16 +14,26 @@ import time
 from .trouble import Trouble, reason, say
 
 ROOT = os.path.dirname(os.path.dirname(os.path.dirname(os.path.realpath(__file__))))
-PROGRAMS = ("runner", "evening", "desk")
+# the programs, each with the words that it is given where it is run on empty standard input after it was built
+PROGRAMS = {"runner": [], "evening": [], "desk": ["trace"]}
+ARCHIVE = "libengine.a"
 BUILT = os.path.join(ROOT, "target", "cube")
 KEPT = 4
 NOT_CURRENT = "the engine is not built from the present sources, and can't be built: "
 
 
+def left(crate, name):
+    """A file that `rt` leaves of a crate: `rt ci` and `rt run` a program by its own name, `rt lib` a static library."""
+    return os.path.join(ROOT, "crates", crate, "out", name)
+
+
 def sources():
-    """Every file that a program is made from: crates.txt and all under crates/."""
+    """Every file that a program is made from: crates.txt and all under crates/, but for the folders out/, in which `rt` leaves what it makes."""
     yield "crates.txt"
-    for folder, folders, files in os.walk(os.path.join(ROOT, "crates")):
+    crates = os.path.join(ROOT, "crates")
+    for folder, folders, files in os.walk(crates):
+        if os.path.dirname(folder) == crates and "out" in folders:
+            folders.remove("out")
         folders.sort()
         for file in sorted(files):
             yield os.path.relpath(os.path.join(folder, file), ROOT)
@@ -69,15 +79,19 @@ def no_space():
         return False
 
 
+def run_rt(words, crate, log):
+    return subprocess.run(["rt"] + words, cwd=os.path.join(ROOT, "crates", crate), stdin=subprocess.DEVNULL, stdout=log, stderr=subprocess.STDOUT).returncode
+
+
 def prove(first):
-    """Runs `rt check`, which proves, compiles and links the programs; target/cube/log has what it said."""
+    """Runs `rt run` in the folder of each program, which proves, compiles and links it, and runs it; target/cube/log has what it said."""
     if shutil.which("rt") is None:
         raise Trouble(NOT_CURRENT + "the Rattle kit's command rt is not on the PATH")
     say("proving and linking the engine, some minutes on first use" if first else "the sources have changed: proving and linking the engine again")
     began, path = time.time(), os.path.join(BUILT, "log")
     with open(path, "wb") as log:
-        made = subprocess.run(["rt", "check"] + list(PROGRAMS), cwd=ROOT, stdin=subprocess.DEVNULL, stdout=log, stderr=subprocess.STDOUT)
-    if made.returncode != 0:
+        failed = any(run_rt(["run", "--"] + words, program, log) != 0 for program, words in PROGRAMS.items())
+    if failed:
         if no_space():
             raise Trouble(NOT_CURRENT + "no space is left at " + BUILT)
         with open(path, encoding="utf-8", errors="replace") as log:
@@ -88,7 +102,7 @@ def prove(first):
 
 
 def run_prefix():
-    """The words before a program's name: none where the machine runs it natively, else the kit's emulator and loader."""
+    """The words before a program's name: none where the machine runs it natively, else the emulator that is there."""
     script = ". tools/run_program.sh && run_prefix"
     made = subprocess.run(["bash", "-c", script], cwd=ROOT, stdin=subprocess.DEVNULL, stdout=subprocess.PIPE, stderr=subprocess.PIPE)
     if made.returncode != 0:
@@ -96,12 +110,14 @@ def run_prefix():
     return made.stdout
 
 
-def keep(mark):
-    """Copies of the programs under the hash of their sources, all or none."""
+def keep(mark, archive=None):
+    """Copies of the programs under the hash of their sources, and of the static library where one is given, all or none."""
     part = tempfile.mkdtemp(prefix="part-", dir=BUILT)
     try:
         for program in PROGRAMS:
-            shutil.copy(os.path.join(ROOT, "target", "bin", program), os.path.join(part, program))
+            shutil.copy(left(program, program), os.path.join(part, program))
+        if archive:
+            shutil.copy(archive, os.path.join(part, ARCHIVE))
         with open(os.path.join(part, "prefix"), "wb") as f:
             f.write(run_prefix())
         os.chmod(part, 0o755)
@@ -136,6 +152,18 @@ def build(mark):
         except OSError as e:
             raise Trouble(NOT_CURRENT + "%s: %s" % (e.filename or BUILT, reason(e)))
     return mark
+
+
+def archive():
+    """The path of the engine's static library, from the present sources: what was kept with the programs, or else what `rt lib` makes, or has made."""
+    kept = os.path.join(BUILT, fingerprint(), ARCHIVE)
+    if os.path.exists(kept):
+        return kept
+    with tempfile.TemporaryFile() as log:
+        if run_rt(["lib"], "engine", log) != 0:
+            log.seek(0)
+            raise Trouble("the engine's static library was not proved:\n" + log.read().decode("utf-8", "replace")[-2000:])
+    return left("engine", ARCHIVE)
 
 
 class Engine:

@@ -5,6 +5,7 @@ import itertools
 import os
 import re
 import subprocess
+import tempfile
 
 from .files import LONGEST_TAPE, bytes_of, in_memory
 from .listing import Listing, Unreadable, WithFirms, refusal
@@ -93,15 +94,45 @@ def fault(name):
     return errno.ENAMETOOLONG if len(name) >= PATH_MAX else 0
 
 
+def is_text(names):
+    """Whether the bytes are UTF-8, as every name is that `evening` opens."""
+    try:
+        names.decode("utf-8")
+        return True
+    except UnicodeDecodeError:
+        return False
+
+
+def link(name, path):
+    """A link to a file, by a name that is seen from the folder in which a program runs."""
+    os.symlink(name if name.startswith(b"/") else b"/proc/self/cwd/" + name, path)
+    return os.fsencode(path)
+
+
+@contextlib.contextmanager
+def called(names):
+    """The names by which `evening` is asked for these: a link of ours leads to a file whose name is no text."""
+    with contextlib.ExitStack() as until:
+        if not is_text(b"\0".join(names)):
+            try:
+                folder = until.enter_context(tempfile.TemporaryDirectory(prefix="cube-"))
+                names = [name if is_text(name) else link(name, os.path.join(folder, str(k))) for k, name in enumerate(names)]
+            except OSError as e:
+                raise Trouble("no link can be made to a file whose name is no text: %s" % reason(e))
+        yield names
+
+
 class Evening:
     """One run of `evening` over a block of names: what it wrote, and its counts."""
 
     def __init__(self, engine, names):
         self.names = self.sent = names
-        given = b"\0".join(names) + b"\0"
-        if given.count(b"\0") != len(names) or max(map(len, names)) >= PATH_MAX:
+        if b"\0".join(names).count(b"\0") != len(names) - 1 or max(map(len, names)) >= PATH_MAX:
             self.sent = [b"" if fault(n) else n for n in names]
-            given = b"\0".join(self.sent) + b"\0"
+        with called(self.sent) as self.sent:
+            self.run(engine, b"\0".join(self.sent) + b"\0")
+
+    def run(self, engine, given):
         with in_memory(given) as stdin, in_memory() as stdout:
             process = engine.start("evening", ["-0"], stdin=stdin, stdout=stdout)
             _, said = finish(process)
@@ -113,8 +144,8 @@ class Evening:
         self.counts = [int(n) for n in summary.groups()]
 
     def is_plain(self):
-        """Every name was listed: what was written can go out as it is."""
-        return self.counts[-1] == 0
+        """Every name was listed, under its own name: what was written can go out as it is."""
+        return self.counts[-1] == 0 and self.sent == self.names
 
     def __iter__(self):
         """What is listed of each name, in order. A name may hold anything, so each is stepped over by its own length."""
