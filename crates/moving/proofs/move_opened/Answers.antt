@@ -53,7 +53,7 @@ returns-then-room-n c =
     let l = c.before.before in
     let k = l.before.before in
     let e = k.before.before in
-    record { answer = simp (other (goal.at.returns-then-room-n c).Else-has_form, eq-eqb _ _ (adds (goal.at.returns-then-room-n c).Else-length_of-s), kept (goal.at.returns-then-room-n c).Else-not-nothing_lost, rw (long (goal.at.returns-then-room-n c).After-length_of-n) at (le-ltb _ _ c.if-n-gt65536.false), rw (long (goal.at.returns-then-room-n c).After-length_of-n) at (lt-ltb _ _ c.if-room-n.true)); bytes = refl }
+    record { answer = simp (other (goal.at.returns-then-room-n c).Else-has_form, eq-eqb _ _ (adds (goal.at.returns-then-room-n c).Else-length_of-s), kept (goal.at.returns-then-room-n c).Else-not-nothing_lost, rw (long (goal.at.returns-then-room-n c).After-length_of-n) at (le-ltb 65536 c.length_of-n.result (omega arith)), rw (long (goal.at.returns-then-room-n c).After-length_of-n) at (lt-ltb _ _ c.if-room-n.true)); bytes = refl }
 
 pub put_tape-requires : goal.put_tape-requires
 put_tape-requires c =
