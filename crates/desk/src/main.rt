@@ -19,10 +19,11 @@ ghost use Rattle.io.specs.Counts.{IsPrefixLen};
 use auction::{Auction, Entry, Firm};
 use board::{Board, Response};
 use input::{Contents, MOST};
-use libc::{STDERR_FILENO, STDIN_FILENO, STDOUT_FILENO};
 use listing::watch;
 use listing::watch::LINES;
 use moving::Moved;
+use std::env::Env;
+use std::io::Read;
 use tape::{Event, ORDER_BYTES, Opened, Order, ReadOrder, Trailer, event_bytes};
 use trade::Filled;
 
@@ -60,81 +61,81 @@ fn fills_buffer() -> [u32; 390]
 // ---- reading
 
 // Bytes of standard input, as many as are lent, or all that there are; a read that fails is said.
-fn read_input(bytes: &mut [u8]) -> Contents
+fn read_input(rt: &impl Eprint, stdin: &mut impl Read, bytes: &mut [u8]) -> Contents
     ensures { IsPrefixLen result.length bytes.new }
 {
-    let c = input::read_tape(STDIN_FILENO, bytes);
+    let c = input::read_tape(stdin, bytes);
     if !c.whole {
-        os::fail(b"desk: standard input");
+        input::fail(rt, "desk: standard input", c.error);
     }
     c
 }
 
 // ---- writing: whether all was written; where not, it is said
 
-fn print(s: &[u8]) -> bool {
-    if io::write_all(STDOUT_FILENO, s) {
-        return true;
+fn print(rt: &(impl Print + Eprint), s: &[u8]) -> bool {
+    match rt.write_all(s) {
+        Ok(()) => true,
+        Err(error) => {
+            input::fail(rt, "desk: standard output", input::last_error(&error));
+            false
+        }
     }
-    os::fail(b"desk: standard output");
-    false
 }
 
 // On standard error.
-fn say(s: &[u8]) {
-    io::write_all(STDERR_FILENO, s);
+fn say(rt: &impl Eprint, s: &str) {
+    let _ = rt.eprint(s);
 }
 
 // A refusal, on standard error.
-fn say_refused(number: u32) {
-    say(b"REFUSED ");
-    io::print_decimal(STDERR_FILENO, base::wide(number));
-    say(b"\n");
+fn say_refused(rt: &impl Eprint, number: u32) {
+    let _ = eprint!(rt; "REFUSED {number}\n");
 }
 
-fn print_number(n: u32) -> bool {
+fn print_number(rt: &(impl Print + Eprint), n: u32) -> bool {
     let mut text = [0u8; 20];
     let k = io::decimal(n as u64, &mut text);
-    print(&text[..k])
+    print(rt, &text[..k])
 }
 
-fn print_field(word: &[u8], n: u32) -> bool {
-    if !print(word) {
+fn print_field(rt: &(impl Print + Eprint), word: &[u8], n: u32) -> bool {
+    if !print(rt, word) {
         return false;
     }
-    print_number(n)
+    print_number(rt, n)
 }
 
 // ---- where the auction stands
 
-fn print_range(a: Auction) -> bool {
+fn print_range(rt: &(impl Print + Eprint), a: Auction) -> bool {
     let r = auction::price_range(a.head);
-    if !print_field(b" range ", r.low) {
+    if !print_field(rt, b" range ", r.low) {
         return false;
     }
-    print_field(b" to ", r.high)
+    print_field(rt, b" to ", r.high)
 }
 
 // A live response: its sequence, its size and whether it is a Customer's.
-fn print_response(r: Response) -> bool {
-    if !print_field(b" ", r.sequence) {
+fn print_response(rt: &(impl Print + Eprint), r: Response) -> bool {
+    if !print_field(rt, b" ", r.sequence) {
         return false;
     }
-    if !print_field(b":", r.size) {
+    if !print_field(rt, b":", r.size) {
         return false;
     }
     if r.customer {
-        return print(b":customer");
+        return print(rt, b":customer");
     }
     true
 }
 
 // The responses that stand, from the first place on.
-fn print_standing(b: Board) -> bool {
+fn print_standing(rt: &(impl Print + Eprint), b: Board) -> bool {
     let mut i = 0;
     while i < 64 {
         if board::is_live(b, i) {
-            if !print_response(board::response_at(b, i)) {
+            if !print_response(rt, board::response_at(b, i)) {
                 return false;
             }
         }
@@ -144,39 +145,39 @@ fn print_standing(b: Board) -> bool {
 }
 
 // A line: what it is of, the range, the responses that stand.
-fn print_auction(word: &[u8], a: Auction) -> bool {
-    if !print(word) {
+fn print_auction(rt: &(impl Print + Eprint), word: &[u8], a: Auction) -> bool {
+    if !print(rt, word) {
         return false;
     }
-    if !print_range(a) {
+    if !print_range(rt, a) {
         return false;
     }
-    if !print(b" stand") {
+    if !print(rt, b" stand") {
         return false;
     }
-    if !print_standing(a.board) {
+    if !print_standing(rt, a.board) {
         return false;
     }
-    print(b"\n")
+    print(rt, b"\n")
 }
 
 // ---- the lines of a watch, in lent bytes
 
 // The first n bytes.
-fn print_start(out: &[u8], n: usize) -> bool
+fn print_start(rt: &(impl Print + Eprint), out: &[u8], n: usize) -> bool
     requires { n ≤ length out.now }
 {
-    print(&out[..n])
+    print(rt, &out[..n])
 }
 
-fn show_refused(number: u32, out: &mut [u8]) -> bool {
+fn show_refused(rt: &(impl Print + Eprint), number: u32, out: &mut [u8]) -> bool {
     let n = watch::refused(number, out);
-    print_start(out, n)
+    print_start(rt, out, n)
 }
 
-fn show_opened(a: Auction, out: &mut [u8]) -> bool {
+fn show_opened(rt: &(impl Print + Eprint), a: Auction, out: &mut [u8]) -> bool {
     let n = watch::opened(a.head, out);
-    print_start(out, n)
+    print_start(rt, out, n)
 }
 
 // The auction after an event, and whether all went well: its lines were written, and live another record may follow.
@@ -186,16 +187,16 @@ struct Shown {
     well: bool,
 }
 
-fn show_event(a: Auction, e: Event, out: &mut [u8]) -> Shown {
+fn show_event(rt: &(impl Print + Eprint), a: Auction, e: Event, out: &mut [u8]) -> Shown {
     let w = watch::event(a, e, out);
-    let well = print_start(out, w.length);
+    let well = print_start(rt, out, w.length);
     let auction = w.auction;
     Shown { auction, well }
 }
 
-fn show_ended(a: Auction, out: &mut [u8]) -> bool {
+fn show_ended(rt: &(impl Print + Eprint), a: Auction, out: &mut [u8]) -> bool {
     let n = watch::ended(a, out);
-    print_start(out, n)
+    print_start(rt, out, n)
 }
 
 // ---- a tape
@@ -206,73 +207,85 @@ fn after(a: Auction, tape: &[u8], t: Trailer, k: u32) -> Auction {
     s.auction
 }
 
-fn trace_events(tape: &[u8], t: Trailer, opened: Auction) -> bool {
+fn trace_events(rt: &(impl Print + Eprint), tape: &[u8], t: Trailer, opened: Auction) -> bool {
     let mut a = opened;
     let mut k = 0;
     while k < t.events {
         a = after(a, tape, t, k);
-        if !print_auction(b"RECORD", a) {
+        if !print_auction(rt, b"RECORD", a) {
             return false;
         }
         k += 1;
     }
     let c = steps::close(a);
-    print_auction(b"CLOSE", c.auction)
+    print_auction(rt, b"CLOSE", c.auction)
 }
 
-fn trace_auction(tape: &[u8], t: Trailer, a: Auction) -> bool {
-    if !print_auction(b"ORDER", a) {
+fn trace_auction(rt: &(impl Print + Eprint), tape: &[u8], t: Trailer, a: Auction) -> bool {
+    if !print_auction(rt, b"ORDER", a) {
         return false;
     }
-    trace_events(tape, t, a)
+    trace_events(rt, tape, t, a)
 }
 
-fn watch_events(tape: &[u8], t: Trailer, opened: Auction, out: &mut [u8]) -> bool {
+fn watch_events(
+    rt: &(impl Print + Eprint),
+    tape: &[u8],
+    t: Trailer,
+    opened: Auction,
+    out: &mut [u8],
+) -> bool {
     let mut a = opened;
     let mut k = 0;
     while k < t.events {
-        let s = show_event(a, tape::record_in(tape, t, k as usize), out);
+        let s = show_event(rt, a, tape::record_in(tape, t, k as usize), out);
         if !s.well {
             return false;
         }
         a = s.auction;
         k += 1;
     }
-    show_ended(a, out)
+    show_ended(rt, a, out)
 }
 
-fn watch_auction(tape: &[u8], t: Trailer, a: Auction, out: &mut [u8]) -> bool {
-    if !show_opened(a, out) {
+fn watch_auction(
+    rt: &(impl Print + Eprint),
+    tape: &[u8],
+    t: Trailer,
+    a: Auction,
+    out: &mut [u8],
+) -> bool {
+    if !show_opened(rt, a, out) {
         return false;
     }
-    watch_events(tape, t, a, out)
+    watch_events(rt, tape, t, a, out)
 }
 
 // ---- who traded
 
 // The participant of a response; nothing of a market order, which is none.
-fn print_participant(a: Auction, party: u32) -> bool {
+fn print_participant(rt: &(impl Print + Eprint), a: Auction, party: u32) -> bool {
     match auction::participant_of(a, party) {
-        Firm::Participant(n) => print_field(b" ", n),
+        Firm::Participant(n) => print_field(rt, b" ", n),
         Firm::Nobody => true,
     }
 }
 
-fn print_firm(a: Auction, party: u32) -> bool {
+fn print_firm(rt: &(impl Print + Eprint), a: Auction, party: u32) -> bool {
     if party == 0 {
-        return print(b"FIRM contra\n");
+        return print(rt, b"FIRM contra\n");
     }
-    if !print_field(b"FIRM ", party) {
+    if !print_field(rt, b"FIRM ", party) {
         return false;
     }
-    if !print_participant(a, party) {
+    if !print_participant(rt, a, party) {
         return false;
     }
-    print(b"\n")
+    print(rt, b"\n")
 }
 
 // A line for each of n fills, three words each.
-fn print_firms(a: Auction, words: &[u32], n: u32) -> bool
+fn print_firms(rt: &(impl Print + Eprint), a: Auction, words: &[u32], n: u32) -> bool
     requires { 390 ≤ length words.now }
 {
     let mut i: u32 = 0;
@@ -280,7 +293,7 @@ fn print_firms(a: Auction, words: &[u32], n: u32) -> bool
         if n <= i {
             return true;
         }
-        if !print_firm(a, words[3 * (i as usize)]) {
+        if !print_firm(rt, a, words[3 * (i as usize)]) {
             return false;
         }
         i += 1;
@@ -288,11 +301,11 @@ fn print_firms(a: Auction, words: &[u32], n: u32) -> bool
     true
 }
 
-fn print_filled(a: Auction, words: &[u32], f: Filled) -> bool
+fn print_filled(rt: &(impl Print + Eprint), a: Auction, words: &[u32], f: Filled) -> bool
     requires { 390 ≤ length words.now }
 {
     match f {
-        Filled::Count(n) => print_firms(a, words, n),
+        Filled::Count(n) => print_firms(rt, a, words, n),
         Filled::Refused(_) => true,
     }
 }
@@ -309,11 +322,11 @@ fn closed(tape: &[u8], t: Trailer, opened: Auction) -> Auction {
     c.auction
 }
 
-fn firms_auction(tape: &[u8], t: Trailer, opened: Auction) -> bool {
+fn firms_auction(rt: &(impl Print + Eprint), tape: &[u8], t: Trailer, opened: Auction) -> bool {
     let a = closed(tape, t, opened);
     let mut words = fills_buffer();
     let f = fills::write_fills(a, &mut words, 0);
-    print_filled(a, &words, f)
+    print_filled(rt, a, &words, f)
 }
 
 // ---- what is looked at
@@ -326,70 +339,90 @@ enum Look {
 }
 
 // An auction that was opened, with the tape's records.
-fn serve_auction(look: Look, tape: &[u8], t: Trailer, a: Auction, out: &mut [u8]) -> bool {
+fn serve_auction(
+    rt: &(impl Print + Eprint),
+    look: Look,
+    tape: &[u8],
+    t: Trailer,
+    a: Auction,
+    out: &mut [u8],
+) -> bool {
     match look {
-        Look::Trace => trace_auction(tape, t, a),
-        Look::Watch => watch_auction(tape, t, a, out),
-        Look::Firms => firms_auction(tape, t, a),
+        Look::Trace => trace_auction(rt, tape, t, a),
+        Look::Watch => watch_auction(rt, tape, t, a, out),
+        Look::Firms => firms_auction(rt, tape, t, a),
     }
 }
 
-fn serve_order(look: Look, tape: &[u8], t: Trailer, o: Order, out: &mut [u8]) -> bool {
+fn serve_order(
+    rt: &(impl Print + Eprint),
+    look: Look,
+    tape: &[u8],
+    t: Trailer,
+    o: Order,
+    out: &mut [u8],
+) -> bool {
     let opening = auction::accept(o);
     let answer = opening.answer;
     let a = opening.auction;
     match answer {
-        Entry::Accepted => serve_auction(look, tape, t, a, out),
-        Entry::Refused(number) => show_refused(number, out),
+        Entry::Accepted => serve_auction(rt, look, tape, t, a, out),
+        Entry::Refused(number) => show_refused(rt, number, out),
     }
 }
 
-fn serve_opened(look: Look, tape: &[u8], t: Trailer, out: &mut [u8]) -> bool {
+fn serve_opened(
+    rt: &(impl Print + Eprint),
+    look: Look,
+    tape: &[u8],
+    t: Trailer,
+    out: &mut [u8],
+) -> bool {
     match tape::order_in(tape, t) {
-        ReadOrder::Order(o) => serve_order(look, tape, t, o, out),
-        ReadOrder::Refused(number) => show_refused(number, out),
+        ReadOrder::Order(o) => serve_order(rt, look, tape, t, o, out),
+        ReadOrder::Refused(number) => show_refused(rt, number, out),
     }
 }
 
-fn serve_bytes(look: Look, tape: &[u8], out: &mut [u8]) -> bool {
+fn serve_bytes(rt: &(impl Print + Eprint), look: Look, tape: &[u8], out: &mut [u8]) -> bool {
     match tape::open_tape(tape) {
-        Opened::Tape(t) => serve_opened(look, tape, t, out),
-        Opened::Refused(number) => show_refused(number, out),
+        Opened::Tape(t) => serve_opened(rt, look, tape, t, out),
+        Opened::Refused(number) => show_refused(rt, number, out),
     }
 }
 
 // The tape on standard input.
-fn serve_tape(look: Look, out: &mut [u8]) {
+fn serve_tape(rt: &(impl Print + Eprint), stdin: &mut impl Read, look: Look, out: &mut [u8]) {
     let mut tape = tape_buffer();
-    let c = read_input(&mut tape);
+    let c = read_input(rt, stdin, &mut tape);
     if !c.whole {
         return;
     }
     let n = c.length;
-    serve_bytes(look, &tape[..n], out);
+    serve_bytes(rt, look, &tape[..n], out);
 }
 
 // ---- moving
 
-fn move_bytes(wide: bool, tape: &[u8], out: &mut [u8]) {
+fn move_bytes(rt: &(impl Print + Eprint), wide: bool, tape: &[u8], out: &mut [u8]) {
     match moving::move_tape(wide, tape, out) {
         Moved::Length(n) => {
-            print_start(out, n as usize);
+            print_start(rt, out, n as usize);
         }
-        Moved::Refused(number) => say_refused(number),
+        Moved::Refused(number) => say_refused(rt, number),
     }
 }
 
 // The tape on standard input in the other form, onto standard output.
-fn move_input(wide: bool) {
+fn move_input(rt: &(impl Print + Eprint), stdin: &mut impl Read, wide: bool) {
     let mut tape = tape_buffer();
-    let c = read_input(&mut tape);
+    let c = read_input(rt, stdin, &mut tape);
     if !c.whole {
         return;
     }
     let n = c.length;
     let mut out = tape_buffer();
-    move_bytes(wide, &tape[..n], &mut out);
+    move_bytes(rt, wide, &tape[..n], &mut out);
 }
 
 // ---- records as they come
@@ -401,29 +434,29 @@ fn is_open(a: Auction) -> bool {
 }
 
 // The input is at its end: an auction still open is closed by hand; of one that has ended the lines were shown.
-fn live_end(a: Auction, out: &mut [u8]) {
+fn live_end(rt: &(impl Print + Eprint), a: Auction, out: &mut [u8]) {
     if is_open(a) {
-        show_ended(a, out);
+        show_ended(rt, a, out);
     }
 }
 
 // The input ended inside an event record: an auction still open is not closed, for what was to come is not known.
-fn live_cut(a: Auction) {
-    say(b"desk: standard input ended inside an event record");
+fn live_cut(rt: &impl Eprint, a: Auction) {
+    say(rt, "desk: standard input ended inside an event record");
     if is_open(a) {
-        say(b"; the auction was not closed");
+        say(rt, "; the auction was not closed");
     }
-    say(b"\n");
+    say(rt, "\n");
 }
 
 // One event; the lines of the end at once where it ends the auction.
-fn live_event(a: Auction, e: Event, out: &mut [u8]) -> Shown {
-    let s = show_event(a, e, out);
+fn live_event(rt: &(impl Print + Eprint), a: Auction, e: Event, out: &mut [u8]) -> Shown {
+    let s = show_event(rt, a, e, out);
     let after = s.auction;
     if !s.well | !is_open(a) | is_open(after) {
         return s;
     }
-    let well = show_ended(after, out);
+    let well = show_ended(rt, after, out);
     Shown {
         auction: after,
         well,
@@ -439,27 +472,41 @@ fn stopped(a: Auction) -> Shown {
 }
 
 // The next event record: the auction after it, and whether one may follow.
-fn live_turn(wide: bool, a: Auction, bytes: &mut [u8], out: &mut [u8]) -> Shown {
-    let c = read_input(bytes);
+fn live_turn(
+    rt: &(impl Print + Eprint),
+    stdin: &mut impl Read,
+    wide: bool,
+    a: Auction,
+    bytes: &mut [u8],
+    out: &mut [u8],
+) -> Shown {
+    let c = read_input(rt, stdin, bytes);
     if !c.whole {
         return stopped(a);
     }
     if c.length == 0 {
-        live_end(a, out);
+        live_end(rt, a, out);
         return stopped(a);
     }
     if c.length < event_bytes(wide) {
-        live_cut(a);
+        live_cut(rt, a);
         return stopped(a);
     }
-    live_event(a, tape::record_at(wide, bytes), out)
+    live_event(rt, a, tape::record_at(wide, bytes), out)
 }
 
-fn live_events(wide: bool, opened: Auction, bytes: &mut [u8], out: &mut [u8]) {
+fn live_events(
+    rt: &(impl Print + Eprint),
+    stdin: &mut impl Read,
+    wide: bool,
+    opened: Auction,
+    bytes: &mut [u8],
+    out: &mut [u8],
+) {
     let mut a = opened;
     let mut turns = u64::MAX;
     while turns > 0 {
-        let s = live_turn(wide, a, bytes, out);
+        let s = live_turn(rt, stdin, wide, a, bytes, out);
         if !s.well {
             return;
         }
@@ -468,42 +515,54 @@ fn live_events(wide: bool, opened: Auction, bytes: &mut [u8], out: &mut [u8]) {
     }
 }
 
-fn live_auction(wide: bool, a: Auction, out: &mut [u8]) {
+fn live_auction(
+    rt: &(impl Print + Eprint),
+    stdin: &mut impl Read,
+    wide: bool,
+    a: Auction,
+    out: &mut [u8],
+) {
     let mut bytes = event_buffer();
     let start = 0;
     let n = event_bytes(wide);
-    if show_opened(a, out) {
-        live_events(wide, a, &mut bytes[start..n], out);
+    if show_opened(rt, a, out) {
+        live_events(rt, stdin, wide, a, &mut bytes[start..n], out);
     }
 }
 
-fn live_order(wide: bool, o: Order, out: &mut [u8]) {
+fn live_order(
+    rt: &(impl Print + Eprint),
+    stdin: &mut impl Read,
+    wide: bool,
+    o: Order,
+    out: &mut [u8],
+) {
     let opening = auction::accept(o);
     let answer = opening.answer;
     let a = opening.auction;
     match answer {
-        Entry::Accepted => live_auction(wide, a, out),
+        Entry::Accepted => live_auction(rt, stdin, wide, a, out),
         Entry::Refused(number) => {
-            show_refused(number, out);
+            show_refused(rt, number, out);
         }
     }
 }
 
 // `wide` says that the event records are of the new form.
-fn live(wide: bool, out: &mut [u8]) {
+fn live(rt: &(impl Print + Eprint), stdin: &mut impl Read, wide: bool, out: &mut [u8]) {
     let mut order = order_buffer();
-    let c = read_input(&mut order);
+    let c = read_input(rt, stdin, &mut order);
     if !c.whole {
         return;
     }
     let n = c.length;
     if n < ORDER_BYTES {
-        say(b"desk: standard input ended inside the order record\n");
+        say(rt, "desk: standard input ended inside the order record\n");
     }
     match tape::read_order(&order[..n]) {
-        ReadOrder::Order(o) => live_order(wide, o, out),
+        ReadOrder::Order(o) => live_order(rt, stdin, wide, o, out),
         ReadOrder::Refused(number) => {
-            show_refused(number, out);
+            show_refused(rt, number, out);
         }
     }
 }
@@ -527,66 +586,67 @@ fn is_word(text: &[u8], word: &[u8]) -> bool {
     true
 }
 
-fn unknown() {
+fn unknown(rt: &impl Eprint) {
     say(
-        b"desk: no such subcommand; there are: desk trace < TAPE, desk watch < TAPE, desk firms < TAPE, desk live [new], desk move new|old < TAPE\n",
+        rt,
+        "desk: no such subcommand; there are: desk trace < TAPE, desk watch < TAPE, desk firms < TAPE, desk live [new], desk move new|old < TAPE\n",
     );
 }
 
 // The form that a word names: the old one where it names none.
-fn serve_live(form: &[u8]) {
+fn serve_live(rt: &(impl Print + Eprint), stdin: &mut impl Read, form: &[u8]) {
     let mut out = lines_buffer();
     if is_word(form, b"new") {
-        live(true, &mut out);
+        live(rt, stdin, true, &mut out);
         return;
     }
     if is_word(form, b"") {
-        live(false, &mut out);
+        live(rt, stdin, false, &mut out);
         return;
     }
-    unknown();
+    unknown(rt);
 }
 
-fn serve_move(form: &[u8]) {
+fn serve_move(rt: &(impl Print + Eprint), stdin: &mut impl Read, form: &[u8]) {
     if is_word(form, b"new") {
-        move_input(true);
+        move_input(rt, stdin, true);
         return;
     }
     if is_word(form, b"old") {
-        move_input(false);
+        move_input(rt, stdin, false);
         return;
     }
-    unknown();
+    unknown(rt);
 }
 
-fn serve_look(look: Look) {
+fn serve_look(rt: &(impl Print + Eprint), stdin: &mut impl Read, look: Look) {
     let mut out = lines_buffer();
-    serve_tape(look, &mut out);
+    serve_tape(rt, stdin, look, &mut out);
 }
 
-fn serve(word: &[u8], form: &[u8]) {
+fn serve(rt: &(impl Print + Eprint), stdin: &mut impl Read, word: &[u8], form: &[u8]) {
     if is_word(word, b"trace") {
-        return serve_look(Look::Trace);
+        return serve_look(rt, stdin, Look::Trace);
     }
     if is_word(word, b"watch") {
-        return serve_look(Look::Watch);
+        return serve_look(rt, stdin, Look::Watch);
     }
     if is_word(word, b"firms") {
-        return serve_look(Look::Firms);
+        return serve_look(rt, stdin, Look::Firms);
     }
     if is_word(word, b"live") {
-        return serve_live(form);
+        return serve_live(rt, stdin, form);
     }
     if is_word(word, b"move") {
-        return serve_move(form);
+        return serve_move(rt, stdin, form);
     }
-    unknown();
+    unknown(rt);
 }
 
-fn main() {
-    let mut word = io::buffer();
-    let mut form = io::buffer();
-    let k = os::arg(1, &mut word);
-    let n = os::arg(2, &mut form);
-    serve(&word[..k], &form[..n]);
+fn main(rt: HostRuntime) {
+    let mut word = [0u8; 4096];
+    let mut form = [0u8; 4096];
+    let k = rt.arg(1, &mut word).unwrap_or(0);
+    let n = rt.arg(2, &mut form).unwrap_or(0);
+    serve(&rt, &mut rt.stdin(), &word[..k], &form[..n]);
 }

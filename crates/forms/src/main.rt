@@ -6,9 +6,9 @@
 ghost use Rattle.std.specs.Prelude.{◌≡◌, ◌≤◌, length};
 
 use input::MOST;
-use libc::STDIN_FILENO;
 use lines::print_name;
 use play::play_tape;
+use std::rt::Files;
 
 mod lines;
 mod loans;
@@ -38,33 +38,31 @@ fn line_end(names: &[u8], at: usize) -> usize
 }
 
 // A file that can't be read is nothing wrong with the forms.
-fn unreadable(name: &[u8]) -> bool {
-    print_name(b"UNREADABLE ", name);
+fn unreadable(rt: &impl Print, name: &[u8]) -> bool {
+    print_name(rt, b"UNREADABLE ", name);
     true
 }
 
 // One tape by its name; whether nothing was wrong.
-fn serve(name: &[u8], tape: &mut [u8]) -> bool {
-    print_name(b"TAPE ", name);
-    let fd = os::open_read(name);
-    if fd < 0 {
-        return unreadable(name);
-    }
-    let c = input::read_tape(fd, tape);
-    libc::close(fd);
+fn serve(rt: &(impl Files + Print), name: &[u8], tape: &mut [u8]) -> bool {
+    print_name(rt, b"TAPE ", name);
+    let Ok(mut file) = input::open(rt, name) else {
+        return unreadable(rt, name);
+    };
+    let c = input::read_tape(&mut file, tape);
     if !c.whole {
-        return unreadable(name);
+        return unreadable(rt, name);
     }
     let n = c.length;
-    play_tape(&tape[..n])
+    play_tape(rt, &tape[..n])
 }
 
 // Each line in turn.
-fn serve_all(names: &[u8], tape: &mut [u8]) {
+fn serve_all(rt: &(impl Files + Print), names: &[u8], tape: &mut [u8]) {
     let mut at = 0;
     while at < names.len() {
         let end = line_end(names, at);
-        if !serve(&names[at..end], tape) {
+        if !serve(rt, &names[at..end], tape) {
             return;
         }
         if end == names.len() {
@@ -74,9 +72,9 @@ fn serve_all(names: &[u8], tape: &mut [u8]) {
     }
 }
 
-fn main() {
-    let mut names = io::large_buffer();
+fn main(rt: HostRuntime) {
+    let mut names = [0u8; 65536];
     let mut tape = tape_buffer();
-    let n = io::read_full(STDIN_FILENO, &mut names);
-    serve_all(&names[..n], &mut tape);
+    let n = input::read_tape(&mut rt.stdin(), &mut names).length;
+    serve_all(&rt, &names[..n], &mut tape);
 }

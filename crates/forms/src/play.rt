@@ -48,11 +48,11 @@ struct Heard {
 }
 
 // One event, with its line.
-fn play_event(a: Auction, e: Event, place: usize) -> Heard {
+fn play_event(rt: &impl Print, a: Auction, e: Event, place: usize) -> Heard {
     let s = played(a, e, place);
     let answer = s.answer;
     let auction = s.auction;
-    print_event(e.sequence, answer);
+    print_event(rt, e.sequence, answer);
     Heard {
         right: is_right(a.board, auction.board, e.kind, answer),
         auction,
@@ -60,7 +60,7 @@ fn play_event(a: Auction, e: Event, place: usize) -> Heard {
 }
 
 // The events up to the end of the tape.
-fn play_events(bytes: &[u8], t: Trailer, a: Auction) -> Heard {
+fn play_events(rt: &impl Print, bytes: &[u8], t: Trailer, a: Auction) -> Heard {
     let mut last = a;
     let mut place = 0;
     let mut current = reader::tape_event(bytes, t, place);
@@ -71,9 +71,9 @@ fn play_events(bytes: &[u8], t: Trailer, a: Auction) -> Heard {
                 auction: last,
             };
         };
-        let p = play_event(last, e, place);
+        let p = play_event(rt, last, e, place);
         if !p.right {
-            print_last(b"WRONG board after event ", wide(e.sequence));
+            print_last(rt, b"WRONG board after event ", wide(e.sequence));
             return p;
         }
         last = p.auction;
@@ -82,44 +82,44 @@ fn play_events(bytes: &[u8], t: Trailer, a: Auction) -> Heard {
     }
 }
 
-fn play_auction(bytes: &[u8], t: Trailer, a: Auction) -> bool {
-    print_auction(a.head);
-    let p = play_events(bytes, t, a);
+fn play_auction(rt: &impl Print, bytes: &[u8], t: Trailer, a: Auction) -> bool {
+    print_auction(rt, a.head);
+    let p = play_events(rt, bytes, t, a);
     if !p.right {
         return false;
     }
     let s = steps::close(p.auction);
     let last = s.auction;
-    print_end(last.head);
-    print_results(last)
+    print_end(rt, last.head);
+    print_results(rt, last)
 }
 
-fn play_refused(number: u32) -> bool {
-    print_refused(number);
+fn play_refused(rt: &impl Print, number: u32) -> bool {
+    print_refused(rt, number);
     true
 }
 
-fn play_order(bytes: &[u8], t: Trailer, o: Order) -> bool {
+fn play_order(rt: &impl Print, bytes: &[u8], t: Trailer, o: Order) -> bool {
     let opening = auction::accept(o);
     let answer = opening.answer;
     let a = opening.auction;
     match answer {
-        Entry::Accepted => play_auction(bytes, t, a),
-        Entry::Refused(number) => play_refused(number),
+        Entry::Accepted => play_auction(rt, bytes, t, a),
+        Entry::Refused(number) => play_refused(rt, number),
     }
 }
 
-fn play_opened(bytes: &[u8], t: Trailer) -> bool {
+fn play_opened(rt: &impl Print, bytes: &[u8], t: Trailer) -> bool {
     match reader::tape_order(bytes, t) {
-        ReadOrder::Order(o) => play_order(bytes, t, o),
-        ReadOrder::Refused(number) => play_refused(number),
+        ReadOrder::Order(o) => play_order(rt, bytes, t, o),
+        ReadOrder::Refused(number) => play_refused(rt, number),
     }
 }
 
 // The listing of a tape; whether nothing was wrong.
-pub(crate) fn play_tape(bytes: &[u8]) -> bool {
+pub(crate) fn play_tape(rt: &impl Print, bytes: &[u8]) -> bool {
     match tape::open_tape(bytes) {
-        Opened::Tape(t) => play_opened(bytes, t),
-        Opened::Refused(number) => play_refused(number),
+        Opened::Tape(t) => play_opened(rt, bytes, t),
+        Opened::Refused(number) => play_refused(rt, number),
     }
 }
