@@ -3,7 +3,7 @@ use mathlib.Core.Path.{◌≡◌, refl, sym, ap, ◌∙◌}
 use mathlib.Core.Bool.{Bool, true, false, cond}
 use mathlib.Core.List.{List, [], ◌∷◌, ◌++◌}
 use mathlib.Core.Logic.{◌≢◌}
-use Prim.Native.Nat.{ℕ, zero, suc, ◌+◌, ◌-◌, ◌*◌, ◌/◌, ◌^◌, ◌≤◌, ◌<◌}
+use Prim.Native.Nat.{ℕ, zero, suc, ◌+◌, ◌-◌, ◌*◌, ◌/◌, ◌%◌, ◌^◌, ◌≤◌, ◌<◌}
 use native.Mathlib.Nat.{pow-suc}
 use native.Mathlib.Omega.{arith}
 use borrow.Author.Tests.{ne_eqb, eqb-true}
@@ -112,12 +112,33 @@ left-turn {xs} {at} {n} {ys} {w} {rest} h l =
           ∙ l.bytes;
     }
 
+-- the tens of a number are those of what it has past the hundreds
+tens : (n : ℕ) → n / 10 % 10 ≡ n % 100 / 10
+tens n =
+    let x : n / 10 ≡ n / 100 * 10 + n % 100 / 10 = omega arith in
+    let y : n % 100 / 10 < 10 = omega arith in
+    omega (arith, x, y)
+
+-- two digits
+pub left-pair : {xs : List ℕ} {at n : ℕ} {ys : List ℕ} {w rest : ℕ} → 100 ≤ rest → DigitsLeft xs at n ys w rest → DigitsLeft xs at n (set (set ys (w - 1) (digit (rest % 100))) (w - 1 - 1) (digit (rest % 100 / 10))) (w - 1 - 1) (rest / 100)
+left-pair {xs} {at} {n} {ys} {w} {rest} h l =
+    let e : digit (rest % 100) ≡ digit rest = omega arith in
+    let f : digit (rest % 100 / 10) ≡ digit (rest / 10) = omega (arith, tens rest) in
+    let g : rest / 100 ≡ rest / 10 / 10 = omega arith in
+    rw (e, f, g) (left-turn (omega arith) (left-turn (omega arith) l))
+
 -- the byte before the last that was written
 pub left-some : {xs : List ℕ} {at n : ℕ} {ys : List ℕ} {w rest : ℕ} → 10 ≤ rest → DigitsLeft xs at n ys w rest → (at < w) × (w ≤ at + 20)
 left-some {xs} {at} {n} {ys} {w} {rest} h l = (omega (arith, l.place, length_more rest h l.small), omega (arith, l.place, decimal-short rest))
 
 pub left-last : {xs : List ℕ} {at n : ℕ} {ys : List ℕ} {w rest : ℕ} → rest < 10 → DigitsLeft xs at n ys w rest → set ys at (digit rest) ≡ sets xs at (decimal n)
 left-last {xs} {at} {n} {ys} {w} {rest} h l = ap (λ (s : List ℕ). sets ys at s) (sym (decimal-one rest h)) ∙ l.bytes
+
+-- the last two at once
+pub left-two : {xs : List ℕ} {at n : ℕ} {ys : List ℕ} {w rest : ℕ} → 10 ≤ rest → rest < 100 → DigitsLeft xs at n ys w rest → set (set ys (at + 1) (digit rest)) at (digit (rest / 10)) ≡ sets xs at (decimal n)
+left-two {xs} {at} {n} {ys} {w} {rest} h small l =
+    let e : at + 1 ≡ w - 1 = omega (arith, l.place, digits_2 rest h small) in
+    ap (λ (k : ℕ). set (set ys k (digit rest)) at (digit (rest / 10))) e ∙ left-last (omega arith) (left-turn h l)
 
 -- ---- digits read back
 

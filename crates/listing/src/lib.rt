@@ -2,13 +2,14 @@
 
 #![tactic(auto)]
 
-ghost use Rattle.std.specs.Prelude.{◌≡◌, cond, ◌+◌, ◌*◌, ◌≤◌, length};
+ghost use Rattle.std.specs.Prelude.{◌≡◌, cond, ◌+◌, ◌*◌, ◌%◌, ◌≤◌, ◌<◌, eqb, length};
 ghost use Rattle.board.specs.rules.Board.{empty_board};
 ghost use Rattle.tape.specs.rules.Tape.{order_in, records_of};
 ghost use Rattle.run.specs.rules.Run.{run, heard, closed, refused, run_entry, run_order};
 ghost use Rattle.listing.specs.rules.Listing.{event_lines, room_of, length_in, listed_of, bytes_of};
 ghost use Rattle.listing.specs.inside.Code.{Lists};
 ghost use Rattle.words.specs.inside.Writing.{WroteBytes};
+ghost use Rattle.words.specs.rules.Bits.{count_trailing_zeros};
 
 use auction::{Auction, Ending, Entry};
 use board::Found;
@@ -65,6 +66,31 @@ fn sought(names: bool, live: u64) -> u64
     0
 }
 
+// How many places, by fours, come before the four that have the lowest place of a word.
+fn gap_of(word: u64) -> usize
+    requires { (0 < word) × (word % 16 ≡ 0) }
+    ensures { (0 < result) × (result < 64) × (result % 4 ≡ 0) × (result ≤ count_trailing_zeros 64 word) }
+{
+    let i = bits::first_set(word) as usize;
+    i / 4 * 4
+}
+
+// Which of four places has this sequence: the first of three that have it, else the fourth.
+fn which(sequence: u32, first: u32, second: u32, third: u32) -> usize
+    ensures { (result ≡ cond (eqb first sequence) 0 (cond (eqb second sequence) 1 (cond (eqb third sequence) 2 3))) × (result ≤ 3) }
+{
+    if first == sequence {
+        return 0;
+    }
+    if second == sequence {
+        return 1;
+    }
+    if third == sequence {
+        return 2;
+    }
+    3
+}
+
 // A line for each of the tape's events. The board is the loop's own, and begins empty: what a turn says is seated on it in place.
 fn put_events(tape: &[u8], t: Trailer, a: Auction, out: &mut [u8], start: usize) -> Heard
     requires events_bound { (t.events ≤ 2045) × (start + 56 * t.events ≤ length out.old) }
@@ -79,25 +105,65 @@ fn put_events(tape: &[u8], t: Trailer, a: Auction, out: &mut [u8], start: usize)
     let mut k = 0;
     while k < n {
         let e = tape::record_in(tape, t, k);
-        // The response that a cancel or an amend names is looked for on the board itself.
+        // A cancel or an amend names a response. It is looked for on the board itself, four places at a time, and a gap is skipped at once. `rest` is the word of live places from place i on.
         let nobody = board::response_at(b, 64);
         let mut named = Found {
             place: 64,
             response: nobody,
         };
         let mut rest = sought(turns::names(e), b.live);
+        let mut i = 0;
+        let mut slow = 0;
         while rest != 0 {
-            let i = bits::first_set(rest) as usize;
-            let r = b.places[i];
-            if board::is_named(r, e.f12, false) {
-                named = Found {
-                    place: i,
-                    response: r,
-                };
-                rest = 0;
+            if rest % 16 == 0 {
+                let gap = gap_of(rest);
+                rest = rest >> gap;
+                i += gap;
                 continue;
             }
-            rest = bits::without_lowest(rest);
+            let second = i + 1;
+            let third = i + 2;
+            let fourth = i + 3;
+            if (b.places[i].sequence != e.f12)
+                & (b.places[second].sequence != e.f12)
+                & (b.places[third].sequence != e.f12)
+                & (b.places[fourth].sequence != e.f12)
+            {
+                rest /= 16;
+                i += 4;
+                continue;
+            }
+            let j = i
+                + which(
+                    e.f12,
+                    b.places[i].sequence,
+                    b.places[second].sequence,
+                    b.places[third].sequence,
+                );
+            let r = b.places[j];
+            rest = 0;
+            if bits::test(b.live, j) & board::is_named(r, e.f12, false) {
+                named = Found {
+                    place: j,
+                    response: r,
+                };
+                continue;
+            }
+            // A freed place still has this sequence: the live places are looked at one by one.
+            slow = b.live;
+        }
+        while slow != 0 {
+            let j = bits::first_set(slow) as usize;
+            let r = b.places[j];
+            if board::is_named(r, e.f12, false) {
+                named = Found {
+                    place: j,
+                    response: r,
+                };
+                slow = 0;
+                continue;
+            }
+            slow = bits::without_lowest(slow);
         }
         let v = turns::sight_of(b.live, named);
         let u = turns::turn(h, v, e);

@@ -52,7 +52,7 @@ fn count_digits(n: u64) -> usize
     k + few_digits(rest)
 }
 
-// The digits are written from the last on.
+// The digits are written from the last on, two at a time.
 pub(crate) fn put_number(out: &mut [u8], at: usize, n: u64) -> usize
     requires { at + 20 ≤ length out.old }
     ensures wrote_bytes { WroteBytes out.old at (decimal n) result out.new }
@@ -61,10 +61,18 @@ pub(crate) fn put_number(out: &mut [u8], at: usize, n: u64) -> usize
     let end = at + count_digits(n);
     let mut w = end;
     let mut rest = n;
-    while 10 <= rest {
-        w -= 1;
-        out[w] = last_digit(rest);
-        rest /= 10;
+    while 100 <= rest {
+        let pair = rest % 100;
+        let last = w - 1;
+        out[last] = last_digit(pair);
+        w = last - 1;
+        out[w] = last_digit(pair / 10);
+        rest /= 100;
+    }
+    if 10 <= rest {
+        out[at + 1] = last_digit(rest);
+        out[at] = last_digit(rest / 10);
+        return end;
     }
     out[at] = last_digit(rest);
     end

@@ -22,7 +22,7 @@ use Rattle.share.specs.rules.Fills.{sizes}
 use Rattle.trade.specs.declared.Found.{Found}
 use Rattle.trade.specs.inside.Code.{works_at, customer_at, other_at, rank_after, rank_of, nothing_at, added_to, found_at, found_with, later_with, FoundAt, least_of, Stands}
 use Rattle.trade.proofs.CodeLaws.{Turn, least-le, sizes-turn, sizes-none, count_turn, live-short}
-use Rattle.trade.proofs.StepLaws.{word_split, word-rest}
+use Rattle.trade.proofs.StepLaws.{word-left, word-rest}
 
 -- ---- the rank: it tells whether sequences rise
 
@@ -159,7 +159,7 @@ module _ (bound : ℕ) where
           (le-or-lt (p + 1) w)
 
 -- ---- words: of those that pass u, those that pass t are all that pass it, where t is for none but these
-word-within : {A : Type 0} (t u : A → Bool) (w : ℕ) (ps : List A) → ((x : A) → (u x && t x) ≡ t x) → word_of t (word_of u w ps) ps ≡ word_of t w ps
+pub word-within : {A : Type 0} (t u : A → Bool) (w : ℕ) (ps : List A) → ((x : A) → (u x && t x) ≡ t x) → word_of t (word_of u w ps) ps ≡ word_of t w ps
 unfolding word_of
 word-within t u w [] h = refl
 word-within t u w (x ∷ ps) h = go (eqb (w % 2) 1) (u x) (t x) (h x) (word-within t u (w / 2) ps h)
@@ -447,8 +447,7 @@ module _ (bound last : ℕ) (ps : List Response) (word : ℕ) where
 
     rest-word : (t : Response → Bool) → Spares t → word_of t m ps ≡ word_of t word ps
     rest-word t h =
-        let z : m ≡ word_of (λ r. not (works_at bound p r)) word ps = omega (arith, word_split (works_at bound p) word ps fits) in
-        rw z (word-within t (λ r. not (works_at bound p r)) word ps h)
+        ap (λ (n : ℕ). word_of t n ps) (word-left (works_at bound p) word m ps fits rest) ∙ word-within t (λ r. not (works_at bound p r)) word ps h
 
     works-other : (q : ℕ) (r : Response) (c : Bool) → q ≢ p → (not (works_at bound p r) && (works_at bound q r && c)) ≡ (works_at bound q r && c)
     works-other q r c n = go (works_at bound q r) refl

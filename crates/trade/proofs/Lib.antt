@@ -2,6 +2,7 @@
 pub mod PlanLaws
 pub mod CodeLaws
 pub mod FoundLaws
+pub mod NearLaws
 pub mod WriteLaws
 pub mod RunLaws
 pub mod NarrowLaws

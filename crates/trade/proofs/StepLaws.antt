@@ -114,10 +114,11 @@ pub word-le : {A : Type 0} (t : A → Bool) (w : ℕ) (ps : List A) → w < 2 ^ 
 word-le t w ps h = omega (arith, word_split t w ps h)
 
 -- what is left of a word without those that pass
+pub word-left : {A : Type 0} (t : A → Bool) (w rest : ℕ) (ps : List A) → w < 2 ^ length ps → rest + word_of t w ps ≡ w → rest ≡ word_of (λ x. not (t x)) w ps
+word-left t w rest ps h e = omega (arith, word_split t w ps h)
+
 pub word-rest : {A : Type 0} (t : A → Bool) (w rest : ℕ) (ps : List A) → w < 2 ^ length ps → rest + word_of t w ps ≡ w → live_in rest ps ≡ filter (λ x. not (t x)) (live_in w ps)
-word-rest t w rest ps h e =
-    let z : rest ≡ word_of (λ x. not (t x)) w ps = omega (arith, word_split t w ps h) in
-    rw z (word-filters (λ x. not (t x)) w ps)
+word-rest t w rest ps h e = ap (λ (n : ℕ). live_in n ps) (word-left t w rest ps h e) ∙ word-filters (λ x. not (t x)) w ps
 
 -- of those that pass t, those that pass u and those that do not
 pub word-parts : {A : Type 0} (t u : A → Bool) (w : ℕ) (ps : List A) → word_of (λ x. t x && u x) w ps + word_of (λ x. t x && not (u x)) w ps ≡ word_of t w ps

@@ -215,11 +215,27 @@ fn write_all(d: Deal, b: Board, out: &mut [u32]) -> usize
         known: false,
     };
     let mut n = scan::nothing(top);
+    let mut near: u64 = 0;
     // From the lowest working price up, until nothing is left or the last price is passed.
     while numbers::going(s.left, s.from, top) {
+        // The first look goes over all places, the others over the near ones alone: those that work below a limit. Where none of them is left, near ones are chosen among the rest.
+        let close = near & s.rest;
+        if scan::is_due(s, n, close) {
+            let limit = scan::limit_of(s.from, top);
+            near = 0;
+            let mut unsorted = s.rest;
+            while unsorted != 0 {
+                let i = bits::first_set(unsorted) as usize;
+                near = scan::nearer(near, limit, numbers::working(b.places[i].price, d.bound), i);
+                unsorted = bits::without_lowest(unsorted);
+            }
+            near = scan::or_all(near, s.rest);
+            s.known = false;
+            continue;
+        }
         // A look finds what stands at the two lowest prices: every other price is known from the look before.
         let mut f = scan::kept(s.known, n, top);
-        let mut unseen = scan::unseen(s.known, s.rest);
+        let mut unseen = scan::unseen(s.known, scan::or_all(close, s.rest));
         n = scan::nothing(top);
         while unseen != 0 {
             let i = bits::first_set(unseen) as usize;

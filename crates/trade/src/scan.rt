@@ -1,8 +1,9 @@
 // What is found of a place that is looked at.
-ghost use Rattle.std.specs.Prelude.{◌≡◌, cond, ◌+◌, ◌*◌, ◌/◌, ◌%◌, ◌≤◌, ◌<◌, max};
-ghost use Rattle.trade.specs.inside.Code.{nothing_at, found_at, rank_after, added_to, found_with, later_with};
+ghost use Rattle.std.specs.Prelude.{◌≡◌, cond, ◌+◌, ◌-◌, ◌*◌, ◌/◌, ◌%◌, ◌≤◌, ◌<◌, min, max, ltb};
+ghost use Rattle.words.specs.rules.Bits.{with_bit};
+ghost use Rattle.trade.specs.inside.Code.{nothing_at, found_at, rank_after, added_to, found_with, later_with, or_all, due_of};
 
-use crate::Found;
+use crate::{Found, Walked};
 use board::Response;
 use words::bits;
 
@@ -121,4 +122,48 @@ pub(crate) fn fraction_of(amount: u64, total: u64, size: u32) -> u64
     ensures { (result ≡ amount * size % total) × (result < total) }
 {
     amount * base::wide(size) % total
+}
+
+// Whether the near places are to be chosen anew: none of them is left (close), though others are. Not before the first look, nor where the next price is known to have a place.
+pub(crate) fn is_due(s: Walked, n: Found, close: u64) -> bool
+    ensures { result ≡ due_of s n close }
+{
+    if close != 0 {
+        return false;
+    }
+    if s.from == 0 {
+        return false;
+    }
+    if s.known & ((n.customers != 0) | (n.others != 0)) {
+        return false;
+    }
+    s.rest != 0
+}
+
+// The places of a word, or all that are left where it has none.
+pub(crate) fn or_all(word: u64, rest: u64) -> u64
+    ensures { result ≡ or_all word rest }
+{
+    if word == 0 {
+        return rest;
+    }
+    word
+}
+
+// The price below which a place is near: a quarter of the way from the lowest price to come to the last.
+pub(crate) fn limit_of(from: u64, top: u64) -> u64
+    requires { (from ≤ 4294967296) × (top ≤ 4294967295) }
+    ensures { result ≡ from + (top - min from top) / 4 + 1 }
+{
+    from + (top - base::lesser(from, top)) / 4 + 1
+}
+
+// The near places, with place i where it works below the limit.
+pub(crate) fn nearer(near: u64, limit: u64, working: u64, i: usize) -> u64
+    ensures { result ≡ cond (ltb working limit) (with_bit near i) near }
+{
+    if working < limit {
+        return bits::with_bit(near, i);
+    }
+    near
 }

@@ -1,4 +1,5 @@
 use mathlib.Core.Path.{◌≡◌}
+use mathlib.Core.Logic.{◌⊎◌}
 use Prim.Native.Nat.{◌+◌, ◌-◌, ◌*◌, ◌^◌, ◌≤◌, ◌<◌}
 use lib.ListN.{length}
 use Rattle.run.specs.rules.Run.{run, heard}
@@ -7,17 +8,25 @@ use Rattle.events.proofs.SightLaws.{found_at}
 use Rattle.board.specs.promises.Board.{Good}
 use Rattle.listing.specs.rules.Listing.{event_lines}
 use Rattle.words.specs.inside.Writing.{LeftBytes}
-use Rattle.listing.proofs.LookLaws.{looked}
+use Rattle.listing.proofs.LookLaws.{Seeks, Sought, looked}
 use Rattle.listing.proofs.RunLaws.{whole, rest}
 use Rattle.listing.proofs.put_events.Given as goal
 
--- the response that the event names is what was found so far, or among the places still to come
+-- the response that the event names: at no place before i, or found, or to be looked for one place at a time
 abbrev pub invariant-loop-rest : goal.invariant-loop-rest
 invariant-loop-rest l =
-    (l.rest < 2 ^ 64) × (looked l.b l.e.f12 l.named l.rest ≡ found_at l.b (found_for l.b l.e))
+    Seeks l.b l.e.f12 l.initial.rest l.named l.rest l.i l.slow ⊎ Sought l.b l.e.f12 l.initial.rest l.named l.rest l.slow
 
 abbrev pub decreases-loop-rest : goal.decreases-loop-rest
 decreases-loop-rest l = l.rest
+
+-- it is what was found so far, or among the places still to come
+abbrev pub invariant-loop-slow : goal.invariant-loop-slow
+invariant-loop-slow l =
+    (l.slow < 2 ^ 64) × (looked l.b l.e.f12 l.named l.slow ≡ found_at l.b (found_for l.b l.e))
+
+abbrev pub decreases-loop-slow : goal.decreases-loop-slow
+decreases-loop-slow l = l.slow
 
 abbrev pub invariant-loop-k : goal.invariant-loop-k
 invariant-loop-k l =

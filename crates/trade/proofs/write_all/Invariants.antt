@@ -1,14 +1,17 @@
 use mathlib.Core.Path.{◌≡◌}
 use mathlib.Core.Bool.{true, false}
-use Prim.Native.Nat.{◌+◌, ◌-◌, ◌^◌, ◌≤◌, ◌<◌, min}
+use Prim.Native.Nat.{◌+◌, ◌-◌, ◌*◌, ◌^◌, ◌≤◌, ◌<◌, min}
+use lib.Bits.{bit_and}
 use lib.ListN.{length}
 use Rattle.base.specs.Lists.{filter, sum}
 use Rattle.board.specs.rules.Board.{live_in, live_of, in_sequence}
+use Rattle.board.proofs.LiveLaws.{Sifted}
 use Rattle.share.specs.inside.Fills.{LeftFills}
 use Rattle.trade.specs.rules.Trade.{offers, flat}
 use Rattle.trade.specs.rules.Write.{reported}
-use Rattle.trade.specs.inside.Code.{least_of, Stands, fractions_in, place_fills, walk_from}
+use Rattle.trade.specs.inside.Code.{least_of, Stands, fractions_in, place_fills, or_all, due_of, walk_from}
 use Rattle.trade.proofs.FoundLaws.{Sees}
+use Rattle.trade.proofs.NearLaws.{below, Near, choosing}
 use Rattle.trade.proofs.StepLaws.{ahead}
 use Rattle.trade.proofs.NarrowLaws.{Search, seek_work}
 use Rattle.trade.proofs.ServeLaws.{Hands, to_serve}
@@ -22,11 +25,18 @@ invariant-loop-word l =
 abbrev pub decreases-loop-word : goal.decreases-loop-word
 decreases-loop-word l = l.word
 
+abbrev pub invariant-loop-unsorted : goal.invariant-loop-unsorted
+invariant-loop-unsorted l =
+    (l.unsorted < 2 ^ 64) × Sifted (below l.d.bound l.limit) l.b.places l.s.rest l.near l.unsorted
+
+abbrev pub decreases-loop-unsorted : goal.decreases-loop-unsorted
+decreases-loop-unsorted l = l.unsorted
+
 abbrev pub invariant-loop-unseen : goal.invariant-loop-unseen
 invariant-loop-unseen l =
     (l.unseen < 2 ^ 64)
     × (l.s.known ≡ true → (l.unseen ≡ 0) × (l.s.from ≤ l.top → Stands l.d.bound l.top l.b.places l.s.rest l.f))
-    × (l.s.known ≡ false → Sees l.d.bound l.top l.b.places l.s.rest l.f l.n l.unseen)
+    × (l.s.known ≡ false → Sees l.d.bound l.top l.b.places (or_all l.close l.s.rest) l.f l.n l.unseen)
 
 abbrev pub decreases-loop-unseen : goal.decreases-loop-unseen
 decreases-loop-unseen l = l.unseen
@@ -64,7 +74,8 @@ invariant-loop-d l =
     × (l.s.rest < 2 ^ 64)
     × (live_in l.s.rest l.b.places ≡ filter (ahead l.d l.s.from) (live_of l.b))
     × LeftFills l.initial.out l.at (reported l.d.sell (flat (walk_from l.d (offers l.b) 0 l.left 0))) l.out l.s.at (reported l.d.sell (flat (walk_from l.d (offers l.b) l.s.from l.s.left l.s.held)))
-    × (l.s.known ≡ true → l.s.from ≤ l.top → Stands l.d.bound l.top l.b.places l.s.rest l.n)
+    × Near l.d.bound l.b.places l.near l.s.rest
+    × (l.s.known ≡ true → l.s.from ≤ l.top → due_of l.s l.n (bit_and l.near l.s.rest) ≡ false → Stands l.d.bound l.top l.b.places l.s.rest l.n)
 
 abbrev pub decreases-loop-d : goal.decreases-loop-d
-decreases-loop-d l = l.top + 1 - l.s.from
+decreases-loop-d l = 2 * (l.top + 1 - l.s.from) + choosing (bit_and l.near l.s.rest)

@@ -227,6 +227,14 @@ priced_of d G s f =
 unfoldable pub passed_of : Walked → Price → ℕ → Walked
 passed_of s l at = record { from = l.price + 1; rest = s.rest - l.customers - l.others; left = l.after; held = s.held + l.contra; at = at; known = not s.known }
 
+-- the places of a word, or all that are left where it has none
+abbrev pub or_all : ℕ → ℕ → ℕ
+or_all word rest = cond (eqb word 0) rest word
+
+-- whether near places are to be chosen among all that are left: none of them, `close`, is left, a price was walked, and the next, n, is not known to have a place
+unfoldable pub due_of : Walked → Found → ℕ → Bool
+due_of s n close = eqb close 0 && (not (eqb s.from 0) && (not (s.known && (not (eqb n.customers 0) || not (eqb n.others 0))) && not (eqb s.rest 0)))
+
 -- the walk of the definition from a price on, without fuel
 unfoldable pub walk_from : Deal → List Response → ℕ → ℕ → ℕ → List Level
 walk_from d rs from left held = walk d rs (suc (top d) - from) from left held
