@@ -1,3 +1,4 @@
+-- Of `forms::play::is_cancel`: seven tests tell a cancel from each other event.
 use mathlib.Core.Path.{◌≡◌}
 use mathlib.Core.Bool.{Bool, true, ◌&&◌}
 use lib.Dec.{eqb}
@@ -5,8 +6,7 @@ use borrow.Author.Tests.{eqb-true}
 use Rattle.base.proofs.Bools.{and_left, and_right}
 use Rattle.tape.specs.declared.event.Event.{Event}
 use Rattle.steps.specs.rules.Lent.{cancel_event}
-use Rattle.forms.proofs.play.is_cancel.Statement.{statement}
-use Rattle.forms.proofs.play.is_cancel.Tie as tie
+use Rattle.forms.proofs.play.is_cancel.Goals as goal
 
 -- seven tests that hold together hold each
 seven : (a b c d f g j : Bool) → ((((((a && b) && c) && d) && f) && g) && j) ≡ true → (a ≡ true) × (b ≡ true) × (c ≡ true) × (d ≡ true) × (f ≡ true) × (g ≡ true) × (j ≡ true)
@@ -37,8 +37,5 @@ told e h =
       participant = eqb-true e.participant 0 t.6 i;
     }
 
-returns : tie.Need-returns
-returns c = told c.before.before.before.before.before.before.before.args.e
-
-pub is-cancel-spec : {M : Type 1} → statement M
-is-cancel-spec = tie.close (tie.spec returns)
+pub returns : goal.returns
+returns c = told c.args.e
