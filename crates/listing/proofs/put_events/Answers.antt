@@ -7,7 +7,7 @@ use borrow.Author.Rules.{rules}
 use Rattle.run.specs.rules.Run.{run, heard, closed}
 use Rattle.events.specs.rules.Step.{sight_of, board_after, turn_of}
 use Rattle.events.proofs.SightLaws.{found_at, sight-found}
-use Rattle.words.specs.rules.Bits.{without_bit}
+use Rattle.words.specs.rules.Bits.{with_bit, without_bit}
 use Rattle.words.proofs.BitLaws.{without-le, without-lt, without-lowest, LowestBit, lowest_set}
 use Rattle.board.specs.declared.Response.{Response}
 use Rattle.board.specs.promises.Board.{Good}
@@ -15,6 +15,7 @@ use Rattle.board.proofs.BoardLaws.{empty-good}
 use Rattle.auction.specs.declared.Auction.{Auction}
 use Rattle.decision.specs.declared.Sight.{Sight}
 use Rattle.tape.specs.declared.event.Event.{Event}
+use Rattle.tape.specs.rules.Tape.{record_in}
 use mathlib.Core.List.{List, []}
 use Rattle.listing.specs.rules.Listing.{event_lines}
 use Rattle.words.proofs.WroteLaws.{wrote-same, left-start, left-wrote, left-same, left-done}
@@ -228,12 +229,13 @@ loop-k-preserved c =
     let l = c.loop-k in
     let k = c.loop-k-test.true in
     let e = c.record_in-e in
+    let met : e.result ≡ record_in a.tape.now a.t l.k = e.ensures ∙ ap (λ (n : ℕ). record_in a.tape.now a.t n) (omega arith) in
     let v = seen (goal.at.loop-k-preserved c).After-sight_of-v in
     let u = c.turn-u in
     let eu = u.ensures ∙ ap (λ (x : Sight). turn_of l.h x e.result) v in
     let seated : c.match-c.b ≡ board_after l.b u.result.change =
     elim c.match-c.branch [
-      | in-Seat+then-i-lt64 w ↦ seat-set l.b _ _ _ _ _ _ w.in-Seat.is w.if-i-lt64.true w.with_bit.ensures w.b-is
+      | in-Seat+then-i-lt64 w ↦ seat-set l.b _ _ _ _ _ _ w.in-Seat.is w.if-i-lt64.true (w.with_bit.ensures ∙ ap (λ (n : ℕ). with_bit l.b.live n) (omega arith)) w.b-is
       | in-Seat+else-i-lt64 w ↦ seat-past l.b _ _ _ _ _ w.in-Seat.is w.if-i-lt64.false w.b-is
       | in-Free w ↦ seat-free l.b _ _ _ _ _ w.in-Free.is w.without_bit.ensures w.b-is
       | in-Nothing w ↦ seat-none l.b _ _ _ w.in-Nothing.is refl w.b-is
@@ -244,8 +246,8 @@ loop-k-preserved c =
       search rules,
       omega arith,
       refl,
-      left-wrote (left-same l.invariant.4 (events-turn a.tape.now a.t l.k l.h l.b _ e.result u.result e.ensures eu seated k)) c.put_event-w.ensures.wrote_bytes,
-      run-turn a.tape.now a.t l.k l.h l.b _ e.result u.result e.ensures eu seated k ∙ l.invariant.5,
+      left-wrote (left-same l.invariant.4 (events-turn a.tape.now a.t l.k l.h l.b _ e.result u.result met eu seated k)) c.put_event-w.ensures.wrote_bytes,
+      run-turn a.tape.now a.t l.k l.h l.b _ e.result u.result met eu seated k ∙ l.invariant.5,
       rw seated (good-after l.b u.result.change l.invariant.6),
     )
 
