@@ -177,8 +177,8 @@ loop-unsorted-preserved c =
     let i = c.first_set-i-in-loop-unsorted.result in
     let kept : c.nearer-near.result ≡ cond (below c.args.d.bound c.limit_of-limit.result (get_or c.args.b.places i no_response)) (with_bit near i) near =
     c.nearer-near.ensures
-        ∙ ap (λ (n : ℕ). cond (ltb n c.limit_of-limit.result) (with_bit near i) near) c.working-in-loop-unsorted.ensures.0
-        ∙ ap (λ (n : ℕ). cond (ltb (max n c.args.d.bound) c.limit_of-limit.result) (with_bit near i) near) (omega arith) in (
+    ∙ ap (λ (n : ℕ). cond (ltb n c.limit_of-limit.result) (with_bit near i) near) c.working-in-loop-unsorted.ensures.0
+    ∙ ap (λ (n : ℕ). cond (ltb (max n c.args.d.bound) c.limit_of-limit.result) (with_bit near i) near) (omega arith) in (
       rw (left3 c) (omega (arith, t.less, c.loop-unsorted.invariant.0)),
       rw (left3 c, kept) (sift-step (below c.args.d.bound c.limit_of-limit.result) c.args.b.places c.loop-d.s.rest near c.loop-unsorted.unsorted i no_response (omega (arith, t.low, len (goal.at.loop-unsorted-preserved c).Start)) t.low t.set c.loop-unsorted.invariant.1),
     )
