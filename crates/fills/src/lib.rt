@@ -6,6 +6,7 @@ ghost use Rattle.std.specs.Prelude.{◌≡◌};
 ghost use Rattle.fills.specs.rules.Fills.{has_ended, deal_of, fills_answer, fills_after};
 
 use auction::{Auction, Head, bound_now, is_open};
+use board::Board;
 use trade::{Deal, Filled};
 
 fn has_ended(h: Head) -> bool
@@ -38,6 +39,13 @@ pub fn write_fills(a: Auction, out: &mut [u32], start: usize) -> Filled
     ensures value { result ≡ fills_answer a out.old start }
     ensures out_after { out.new ≡ fills_after a out.old start }
 {
-    let h = a.head;
-    trade::write_fills(has_ended(h), deal_of(h), a.board, out, start)
+    write_lent(a.head, &a.board, out, start)
+}
+
+// The same of an auction's head and its board, which is lent, so that none is copied.
+pub fn write_lent(h: Head, b: &Board, out: &mut [u32], start: usize) -> Filled
+    ensures value { result ≡ fills_answer (record { head = h; board = b.now }) out.old start }
+    ensures out_after { out.new ≡ fills_after (record { head = h; board = b.now }) out.old start }
+{
+    trade::write_lent(has_ended(h), deal_of(h), b, out, start)
 }

@@ -11,8 +11,8 @@ ghost use Rattle.listing.specs.inside.Code.{Lists};
 ghost use Rattle.words.specs.inside.Writing.{WroteBytes};
 ghost use Rattle.words.specs.rules.Bits.{count_trailing_zeros};
 
-use auction::{Auction, Ending, Entry};
-use board::Found;
+use auction::{Auction, Ending, Entry, Head};
+use board::{Board, Found};
 use decision::Change;
 use events::turns;
 use lines::{put_auction, put_event, put_refused};
@@ -49,11 +49,11 @@ pub fn length_of(l: Listed) -> usize
 
 // ---- the events
 
-// The auction after its events, closed, and the place after their lines.
+// The auction's head after its events, closed, and the place after their lines.
 #[derive(Clone, Copy)]
 struct Heard {
     next: usize,
-    auction: Auction,
+    head: Head,
 }
 
 // The places to look over for the response that an event names: the live ones where it names one.
@@ -91,22 +91,28 @@ fn which(sequence: u32, first: u32, second: u32, third: u32) -> usize
     3
 }
 
-// A line for each of the tape's events. The board is the loop's own, and begins empty: what a turn says is seated on it in place.
-fn put_events(tape: &[u8], t: Trailer, a: Auction, out: &mut [u8], start: usize) -> Heard
+// A line for each of the tape's events. The board is lent, and begins empty: what a turn says is seated on it in place.
+fn put_events(
+    tape: &[u8],
+    t: Trailer,
+    a: Auction,
+    b: &mut Board,
+    out: &mut [u8],
+    start: usize,
+) -> Heard
     requires events_bound { (t.events ≤ 2045) × (start + 56 * t.events ≤ length out.old) }
-    requires board_value { a.board ≡ empty_board }
+    requires board_value { (a.board ≡ empty_board) × (b.old ≡ empty_board) }
     ensures wrote_bytes { WroteBytes out.old start (event_lines (heard a (records_of tape.now t))) result.next out.new }
-    ensures auction_value { (result.auction ≡ closed (run a (records_of tape.now t))) × (result.next ≤ start + 56 * t.events) }
+    ensures auction_value { (record { head = result.head; board = b.new } ≡ closed (run a (records_of tape.now t))) × (result.next ≤ start + 56 * t.events) × (length b.new.places ≡ 64) }
 {
     let n = t.events as usize;
-    let mut b = board::empty();
     let mut h = a.head;
     let mut w = start;
     let mut k = 0;
     while k < n {
         let e = tape::record_in(tape, t, k);
         // A cancel or an amend names a response. It is looked for on the board itself, four places at a time, and a gap is skipped at once. `rest` is the word of live places from place i on.
-        let nobody = board::response_at(b, 64);
+        let nobody = board::response_at(*b, 64);
         let mut named = Found {
             place: 64,
             response: nobody,
@@ -189,10 +195,7 @@ fn put_events(tape: &[u8], t: Trailer, a: Auction, out: &mut [u8], start: usize)
     }
     let last = turns::close_turn(h);
     let head = last.head;
-    Heard {
-        next: w,
-        auction: Auction { head, board: b },
-    }
+    Heard { next: w, head }
 }
 
 // ---- the tape
@@ -213,10 +216,10 @@ fn list_auction(tape: &[u8], t: Trailer, a: Auction, out: &mut [u8]) -> Listed
 {
     let opened = a.head;
     let w = put_auction(out, 0, opened);
-    let h = put_events(tape, t, a, out, w);
-    let last = h.auction;
-    let n = put_results(out, h.next, last);
-    let end = last.head;
+    let mut b = board::empty();
+    let h = put_events(tape, t, a, &mut b, out, w);
+    let end = h.head;
+    let n = put_results(out, h.next, end, &b);
     let ending = end.ending;
     Listed::Ended { ending, length: n }
 }

@@ -8,9 +8,10 @@ ghost use Rattle.listing.specs.inside.Code.{count_in, fills_in};
 ghost use Rattle.words.specs.inside.Writing.{WroteBytes};
 
 use crate::lines::{put_end, put_fill, put_total};
-use auction::Auction;
+use auction::Head;
 use base::wide;
-use fills::write_fills;
+use board::Board;
+use fills::write_lent;
 use trade::Filled;
 
 // How many fills were written; none where they were refused.
@@ -54,13 +55,12 @@ fn sum_of(words: &[u32], n: usize) -> u64
 }
 
 // The end of the listing of an auction that has ended.
-pub(crate) fn put_results(out: &mut [u8], at: usize, a: Auction) -> usize
-    requires { (has_ended a.head ≡ true) × (at + 8931 ≤ length out.old) }
-    ensures { WroteBytes out.old at (end_lines a) result out.new }
+pub(crate) fn put_results(out: &mut [u8], at: usize, h: Head, b: &Board) -> usize
+    requires { (has_ended h ≡ true) × (at + 8931 ≤ length out.old) × (length b.now.places ≡ 64) }
+    ensures { WroteBytes out.old at (end_lines (record { head = h; board = b.now })) result out.new }
 {
     let mut words = [0u32; 390];
-    let n = count_of(write_fills(a, &mut words, 0));
-    let h = a.head;
+    let n = count_of(write_lent(h, b, &mut words, 0));
     let end = put_end(out, at, h);
     let w = put_fills(out, end, &words, n);
     put_total(out, w, sum_of(&words, n))

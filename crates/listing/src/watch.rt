@@ -70,5 +70,6 @@ pub fn ended(a: Auction, out: &mut [u8]) -> usize
         return 0;
     }
     let s = close(a);
-    put_results(out, 0, s.auction)
+    let n = s.auction;
+    put_results(out, 0, n.head, &n.board)
 }

@@ -2,7 +2,7 @@
 
 #![tactic(auto)]
 
-ghost use Rattle.std.specs.Prelude.{◌≡◌, true, ◌+◌, ◌*◌, ◌≤◌, ◌<◌, length};
+ghost use Rattle.std.specs.Prelude.{◌≡◌, true, ◌+◌, ◌*◌, ◌^◌, ◌≤◌, ◌<◌, length};
 ghost use Rattle.share.specs.rules.Fills.{fill_of};
 ghost use Rattle.share.specs.inside.Fills.{WroteFills};
 ghost use Rattle.trade.specs.rules.Write.{reported_price, fills_of, fill_answer, fill_words};
@@ -188,15 +188,16 @@ fn write_market(d: Deal, live: u64, lowest: u64, takes: u64, out: &mut [u32]) ->
 
 // All the fills, from the first of the lent words on. Answers the place after them. The board is looked over here alone, and no place of it is copied: what is made of a place is
 // decided of its response, and of words of places.
-fn write_all(d: Deal, b: Board, out: &mut [u32]) -> usize
-    requires { 390 ≤ length out.old }
-    ensures { WroteFills out.old 0 (fills_of d b) result out.new }
+fn write_all(d: Deal, b: &Board, out: &mut [u32]) -> usize
+    requires room { 390 ≤ length out.old }
+    requires fits { (length b.now.places ≡ 64) × (b.now.live < 2 ^ 64) }
+    ensures { WroteFills out.old 0 (fills_of d b.now) result out.new }
 {
     let top = numbers::top_of(d);
     let size = base::wide(d.size);
     let takes = base::lesser(size, base::wide(d.selling));
     let left = size - takes;
-    let g = numbers::guarantee_of(size, board::live_count(b));
+    let g = numbers::guarantee_of(size, bits::ones(b.live));
     // The lowest working price, for the market order alone.
     let mut lowest = top;
     let mut word = scan::unseen(takes == 0, b.live);
@@ -296,11 +297,26 @@ fn write_all(d: Deal, b: Board, out: &mut [u32]) -> usize
     s.at
 }
 
+// The word of the live places. Its contract says what is known of every board, and so of one that is lent.
+fn live_of(b: Board) -> u64
+    ensures { (result ≡ b.live) × (length b.places ≡ 64) × (b.live < 2 ^ 64) }
+{
+    b.live
+}
+
 // Writes the fills of an ended auction into the part of the lent words from `start` on, and counts them.
 // 40: it has not ended; 39: fewer than 390 words from the start place, or a start past the end. A refusal changes nothing.
 pub fn write_fills(ended: bool, d: Deal, b: Board, out: &mut [u32], start: usize) -> Filled
     ensures value { result ≡ fill_answer ended d b out.old start }
     ensures out_after { out.new ≡ fill_words ended d b out.old start }
+{
+    write_lent(ended, d, &b, out, start)
+}
+
+// The same of a board that is lent, so that none is copied.
+pub fn write_lent(ended: bool, d: Deal, b: &Board, out: &mut [u32], start: usize) -> Filled
+    ensures value { result ≡ fill_answer ended d b.now out.old start }
+    ensures out_after { out.new ≡ fill_words ended d b.now out.old start }
 {
     if !ended {
         return Filled::Refused(40);
@@ -312,6 +328,7 @@ pub fn write_fills(ended: bool, d: Deal, b: Board, out: &mut [u32], start: usize
     if n - start < 390 {
         return Filled::Refused(39);
     }
+    let _live = live_of(*b);
     let words = write_all(d, b, &mut out[start..]);
     Filled::Count((words / 3) as u32)
 }

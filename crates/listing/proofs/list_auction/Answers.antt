@@ -13,10 +13,10 @@ put_results-n-requires c =
     let h = c.put_events-h in
     let p = c.requires in
     let a = c.args in
-    (ap (λ (a : Auction). has_ended a.head) h.ensures.auction_value.0 ∙ closed-ended (run a.a (records_of a.tape.now a.t)), omega (arith, p.events_bound, c.put_auction-w.ensures.upper_bound, h.ensures.auction_value.1))
+    (ap (λ (a : Auction). has_ended a.head) h.ensures.auction_value.0 ∙ closed-ended (run a.a (records_of a.tape.now a.t)), omega (arith, p.events_bound, c.put_auction-w.ensures.upper_bound, h.ensures.auction_value.1), h.ensures.auction_value.2)
 
 pub returns : goal.returns
 returns c =
     let a = c.args in
     let h = c.put_events-h in
-    auction-lists h.result.auction.head.ending h.result.auction (closed (run a.a (records_of a.tape.now a.t))) c.put_auction-w.ensures.wrote_bytes h.ensures.wrote_bytes c.put_results-n.ensures refl h.ensures.auction_value.0
+    auction-lists h.result.head.ending (record { head = h.result.head; board = h.new.b }) (closed (run a.a (records_of a.tape.now a.t))) c.put_auction-w.ensures.wrote_bytes h.ensures.wrote_bytes c.put_results-n.ensures refl h.ensures.auction_value.0

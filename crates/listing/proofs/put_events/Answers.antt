@@ -25,7 +25,7 @@ use Rattle.listing.proofs.put_events.Goals as goal
 use Rattle.listing.proofs.put_events.Goals.{in-Seat+then-i-lt64, in-Seat+else-i-lt64, in-Free, in-Nothing, in-Quote, in-Sell, After-first_set-j, After-sight_of-v, After-which, After-without_lowest-slow, In-loop-rest}
 
 pub loop-k-init : goal.loop-k-init
-loop-k-init c = (omega arith, refl, omega arith, refl, left-start _ _ _, refl, rw c.empty-b.ensures empty-good)
+loop-k-init c = (omega arith, refl, omega arith, refl, left-start _ _ _, refl, rw c.requires.board_value.1 empty-good)
 
 -- ---- the search for the response that the event names, four places at a time
 pub loop-rest-init : goal.loop-rest-init
@@ -235,9 +235,9 @@ loop-k-preserved c =
     let eu = u.ensures ∙ ap (λ (x : Sight). turn_of l.h x e.result) v in
     let seated : c.match-c.b ≡ board_after l.b u.result.change =
     elim c.match-c.branch [
-      | in-Seat+then-i-lt64 w ↦ seat-set l.b _ _ _ _ _ _ w.in-Seat.is w.if-i-lt64.true (w.with_bit.ensures ∙ ap (λ (n : ℕ). with_bit l.b.live n) (omega arith)) w.b-is
+      | in-Seat+then-i-lt64 w ↦ seat-set l.b _ _ _ _ _ _ w.in-Seat.is w.if-i-lt64.true (w.with_bit-b.ensures ∙ ap (λ (n : ℕ). with_bit l.b.live n) (omega arith)) w.b-is
       | in-Seat+else-i-lt64 w ↦ seat-past l.b _ _ _ _ _ w.in-Seat.is w.if-i-lt64.false w.b-is
-      | in-Free w ↦ seat-free l.b _ _ _ _ _ w.in-Free.is w.without_bit.ensures w.b-is
+      | in-Free w ↦ seat-free l.b _ _ _ _ _ w.in-Free.is w.without_bit-b.ensures w.b-is
       | in-Nothing w ↦ seat-none l.b _ _ _ w.in-Nothing.is refl w.b-is
       | in-Quote w ↦ seat-none l.b _ _ _ w.in-Quote.is refl w.b-is
       | in-Sell w ↦ seat-none l.b _ _ _ w.in-Sell.is refl w.b-is
@@ -257,7 +257,7 @@ returns c =
     let l = c.loop-k in
     let s = a.tape.now in
     let none : rest s a.t l.k ≡ [] = rest-none s a.t l.k (omega arith) in
-    let first : whole a.a.head c.empty-b.result ≡ a.a = ap (whole a.a.head) (c.empty-b.ensures ∙ sym c.requires.board_value) in record {
+    let first : whole a.a.head a.b.now ≡ a.a = ap (whole a.a.head) (c.requires.board_value.1 ∙ sym c.requires.board_value.0) in record {
       wrote_bytes = wrote-same (left-done (left-same l.invariant.4 (ap (λ (es : List Event). event_lines (heard (whole l.h l.b) es)) none)))
           (ap₂ (λ (x : Auction) (es : List Event). event_lines (heard x es)) first (sym (rest_all s a.t)));
       auction_value = (
@@ -266,5 +266,6 @@ returns c =
             ∙ ap closed l.invariant.5
             ∙ ap₂ (λ (x : Auction) (es : List Event). closed (run x es)) first (sym (rest_all s a.t)),
         omega arith,
+        l.invariant.6.places-are,
       );
     }

@@ -1,24 +1,18 @@
-use mathlib.Core.Path.{◌≡◌, refl, ap, ◌∙◌}
+use mathlib.Core.Path.{refl, ap, ◌∙◌}
 use native.Mathlib.Omega.{arith}
-use lib.ListN.{length, replicate}
-use Rattle.base.proofs.ListLaws.{length-mapped}
+use lib.ListN.{replicate}
 use Rattle.trade.specs.rules.Trade.{traded}
 use Rattle.listing.specs.rules.Listing.{fill_lines, total_line, end_lines}
 use Rattle.words.proofs.WroteLaws.{wrote-append, wrote-same}
 use Rattle.listing.proofs.FillLaws.{Reported, reported}
-use borrow.Author.Rules.{rules}
 use Rattle.listing.specs.inside.Code.{count_in}
 use Rattle.listing.proofs.results.put_results.Goals as goal
-use Rattle.listing.proofs.results.put_results.Goals.{After-count_of-n, Start}
+use Rattle.listing.proofs.results.put_results.Goals.{After-count_of-n}
 
-len : (c : goal.Start) → length c.args.a.board.places ≡ 64
-len c = search (rules, length-mapped)
-
-found : (c : goal.After-count_of-n) → Reported c.args.a c.count_of-n.result c.write_fills.new.out
+found : (c : goal.After-count_of-n) → Reported (record { head = c.args.h; board = c.args.b.now }) c.count_of-n.result c.write_lent.new.out
 found c =
-    let s = c.before.before.before.before.before in
-    let w = c.write_fills in
-    reported s.args.a (replicate 390 0) c.count_of-n.result w.new.out s.requires.0 (len c.before.before.before.before.before.before) refl (c.count_of-n.ensures ∙ ap count_in w.ensures.value) w.ensures.out_after
+    let w = c.write_lent in
+    reported (record { head = c.args.h; board = c.args.b.now }) (replicate 390 0) c.count_of-n.result w.new.out c.requires.0 c.requires.2 refl (c.count_of-n.ensures ∙ ap count_in w.ensures.value) w.ensures.out_after
 
 pub put_fills-w-requires : goal.put_fills-w-requires
 put_fills-w-requires c = let f = found (goal.at.put_fills-w-requires c).After-count_of-n in (f.few, omega (arith, f.few, f.long), omega (arith, f.few))

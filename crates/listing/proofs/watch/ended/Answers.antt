@@ -25,7 +25,7 @@ returns-then-out-lt-LINES c =
 pub put_results-requires : goal.put_results-requires
 put_results-requires c =
     let a = c.args in
-    (ap (λ (s : Stepped). has_ended s.auction.head) c.close-s.ensures ∙ closed-ended a.a, omega (arith, c.if-out-lt-LINES.false))
+    (ap (λ (s : Stepped). has_ended s.auction.head) c.close-s.ensures ∙ closed-ended a.a, omega (arith, c.if-out-lt-LINES.false), ap (λ (s : Stepped). length s.auction.board.places) c.close-s.ensures ∙ closed-kept a.a ∙ len (goal.at.put_results-requires c).Start)
 
 pub returns : goal.returns
 returns c =
