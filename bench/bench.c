@@ -18,7 +18,7 @@
 #include <time.h>
 #include <ucontext.h>
 
-/* The engine: document 01's listing of a tape, as `crates/engine` exports it. */
+/* The engine: document 01's listing of a tape, as `crates/engine_c` exports it. */
 extern size_t cube_listing(const unsigned char *tape, size_t n, unsigned char *out, size_t room);
 
 #define ROOM   131072           /* listing::ROOM */

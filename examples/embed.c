@@ -1,7 +1,7 @@
 /* embed.c: a program of your own around the engine. It lists the tapes that it is given the names of.
  *
- *   (cd crates/engine && rt lib)
- *   cc -Iinclude -o embed examples/embed.c crates/engine/out/libengine.a
+ *   (cd crates/engine_c && rt lib && cp out/libengine_c.a ../../libengine.a)
+ *   cc -Iinclude -o embed examples/embed.c libengine.a
  *   ./embed a.tape b.tape
  *
  * The status is 0 where all were listed (a refused tape is listed), and 1 where something could not be read or written. */

@@ -1,6 +1,6 @@
 /* cube.h: the proved engine in a C program.
  *
- * `rt lib` in crates/engine writes crates/engine/out/libengine.a, for x86-64 Linux; examples/embed.c says how to link it.
+ * `rt lib` in crates/engine_c makes its static library, for x86-64 Linux; examples/embed.c says how to link it, as libengine.a.
  * One function, from a tape's bytes to the bytes of its listing. It keeps nothing between calls, so several threads may call it at once.
  * It takes at most 3,328 bytes of stack, whatever the tape is, and no other memory than what is handed over. */
 #ifndef CUBE_H

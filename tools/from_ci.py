@@ -5,8 +5,8 @@
     tools/from_ci.py MARK       after it: keeps what it built of these sources under target/cube/MARK
 
 From the project's root. `rt ci` leaves each program in its crate's out/, and each library below it; it proves the static library too, but leaves no archive.
-That is made here over these libraries, by the kit's `rattle build`, which proves `engine` itself once more before it compiles it; and where that does
-not serve, by `rt lib` in crates/engine, which may prove all the libraries below again.
+That is made here over these libraries, by the kit's `rattle build`, which proves `engine_c` itself once more before it compiles it; and where that does
+not serve, by `rt lib` in crates/engine_c, which may prove all the libraries below again.
 """
 import os
 import subprocess
@@ -17,7 +17,7 @@ sys.path.insert(0, os.path.dirname(os.path.realpath(__file__)))
 from cube import engine
 from cube.trouble import Trouble
 
-CRATE = "engine"
+CRATE = engine.EXPORTS
 
 
 def lines_of_crates():

@@ -108,3 +108,15 @@ class Writing(Case):
     def test_unwritable(self):
         self.ends(cube("make", "c.txt", "-o", "no/such/folder", cwd=self.folder), 1, b"", "No such file or directory")
         self.ends(cube("list", "--summary", ".", "c.tape", cwd=self.folder), 1, LISTING, "Is a directory")
+
+
+class Evening(Case):
+    def test_a_name_is_answered_before_the_next_is_read(self):
+        process = native().start("evening")
+        given = self.tape.encode() + b"\n"
+        for sent in (given + given[:5], given[5:], given + given):
+            process.stdin.write(sent)
+            process.stdin.flush()
+            want = ("TAPE %s\n%s" % (self.tape, LISTING)).encode() * sent.count(b"\n")
+            self.assertEqual(process.stdout.read(len(want)), want)
+        self.assertIn(b"tapes 4, ", process.communicate()[1])

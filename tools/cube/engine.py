@@ -16,7 +16,7 @@ from .trouble import Trouble, reason, say
 ROOT = os.path.dirname(os.path.dirname(os.path.dirname(os.path.realpath(__file__))))
 # the programs, each with the words that it is given where it is run on empty standard input after it was built
 PROGRAMS = {"runner": [], "evening": [], "desk": ["trace"]}
-ARCHIVE = "libengine.a"
+EXPORTS, ARCHIVE = "engine_c", "libengine.a"     # the crate that exports the engine to C, and the name of its archive as it is kept
 BUILT = os.path.join(ROOT, "target", "cube")
 KEPT = 4
 NOT_CURRENT = "the engine is not built from the present sources, and can't be built: "
@@ -154,16 +154,21 @@ def build(mark):
     return mark
 
 
+def made_archive():
+    """Where `rt lib` leaves the static library, under its crate's name."""
+    return left(EXPORTS, "lib%s.a" % EXPORTS)
+
+
 def archive():
     """The path of the engine's static library, from the present sources: what was kept with the programs, or else what `rt lib` makes, or has made."""
     kept = os.path.join(BUILT, fingerprint(), ARCHIVE)
     if os.path.exists(kept):
         return kept
     with tempfile.TemporaryFile() as log:
-        if run_rt(["lib"], "engine", log) != 0:
+        if run_rt(["lib"], EXPORTS, log) != 0:
             log.seek(0)
             raise Trouble("the engine's static library was not proved:\n" + log.read().decode("utf-8", "replace")[-2000:])
-    return left("engine", ARCHIVE)
+    return made_archive()
 
 
 class Engine:

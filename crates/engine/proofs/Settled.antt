@@ -1,4 +1,4 @@
--- The exported function's contract settles it: the length, and every lent byte. What is cited is made from the code's own clauses, so a clause that says less is refused here.
+-- The public function's contract settles it: the length, and every lent byte. What is cited is made from the code's own clauses, so a clause that says less is refused here.
 use mathlib.Core.Path.{sym, ◌∙◌, ap}
 use Rattle.base.specs.Settled.{Settled}
 use Rattle.engine.specs.contracts as stated

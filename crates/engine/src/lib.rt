@@ -1,4 +1,4 @@
-// The engine for a program in C: one function over a tape's bytes and the bytes lent for its listing.
+// The engine as one function over a tape's bytes and the bytes lent for its listing. `engine_c` exports it for a program in C.
 
 #![tactic(auto)]
 
@@ -6,8 +6,7 @@ ghost use Rattle.std.specs.Prelude.{◌≡◌};
 ghost use Rattle.listing.specs.rules.Listing.{length_in, listed_of, bytes_of};
 
 // The length of the listing, which stands at the start of the lent bytes; 0 where they are fewer than listing::ROOM, and nothing is written then.
-#[unsafe(no_mangle)]
-pub extern "C" fn cube_listing(tape: &[u8], out: &mut [u8]) -> usize
+pub fn cube_listing(tape: &[u8], out: &mut [u8]) -> usize
     ensures value { result ≡ length_in (listed_of tape.now out.old) }
     ensures out_after { out.new ≡ bytes_of tape.now out.old }
 {

@@ -1,0 +1,2 @@
+-- The theorem of `engine_c`.
+pub mod Settled
