@@ -19,5 +19,8 @@ pub mod Unshown
 pub mod Moved
 pub mod MarketTrades
 pub mod InRealPrices
+pub mod Turned
+pub mod Bound
+pub mod Orders
 pub mod Mirrored
 pub mod Promise

@@ -10,6 +10,7 @@ use Rattle.promise.proofs.Tapes.{can-lack, can-mirror}
 use Rattle.promise.proofs.Carried.{accepted, not-accepted}
 use Rattle.promise.proofs.Opening.{opens, some-range, no-range, only-13}
 use Rattle.promise.proofs.InRealPrices.{trades}
+use Rattle.promise.proofs.Orders.{order-number}
 use Rattle.promise.proofs.Mirrored.{mirrors}
 use Rattle.promise.proofs.Firms.{firms}
 use Rattle.promise.proofs.Unshown.{unshown}
@@ -20,6 +21,7 @@ pub promise : Promise
 promise =
     record {
       answered = answered;
+      order-number = order-number;
       roomed = roomed;
       filling = filling;
       numbered = numbered;

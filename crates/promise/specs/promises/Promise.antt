@@ -1,5 +1,5 @@
 -- The promise: what the user is promised of every tape, on one page. A tape is any list of bytes.
-use Rattle.std.specs.Prelude.{◌≡◌, Bool, List, ◌≢◌, ℕ, ◌≤◌, ◌<◌}
+use Rattle.std.specs.Prelude.{◌≡◌, Bool, cond, eqb, List, ◌≢◌, ℕ, ◌≤◌, ◌<◌}
 use Rattle.base.specs.Lists.{Every}
 use Rattle.words.specs.rules.Bytes.{AllBytes}
 use Rattle.tape.specs.declared.order.Order.{Order}
@@ -14,14 +14,17 @@ use Rattle.roundtrip.specs.promises.Demands.{Demands}
 use Rattle.listing.specs.rules.Listing.{listing_of}
 use Rattle.listing.specs.rules.Watch.{watch_lines}
 use Rattle.promise.specs.rules.Tapes.{Carries, SomeTape, end_of, not_refused, not_refused_said, WithResent, mirrored_lines}
-use Rattle.promise.specs.rules.Answers.{Accepts, no, entry_is}
+use Rattle.promise.specs.rules.Answers.{Accepts, no, yes, entry_is}
 use Rattle.promise.specs.rules.Sides.{opening_range}
+use Rattle.promise.specs.rules.Orders.{order_number}
 use Rattle.promise.specs.promises.Parts.{Answered, Roomed, Filling, Numbered, EventNumber, InRealPrices, CountedOnce, Offered, Firms, Unshown, MovedTape}
 use Rattle.promise.specs.promises.Below.{Below}
 
 pub record Promise : Type 0 where
   -- 1. Every tape is answered: `REFUSED` and its number, or an auction's listing; whatever room is lent for it
   pub answered : (s : List ℕ) → Answered s
+  -- an order's number is that of its own fields
+  pub order-number : (o : Order) → entry_is (accept_of o).answer ≡ cond (eqb (order_number o) 0) (yes tt) (no (order_number o))
   pub roomed : (s out : List ℕ) → Roomed s out
   pub filling : (a : Auction) (xs : List ℕ) (start : ℕ) → Filling a xs start
   pub numbered : Numbered
