@@ -21,6 +21,8 @@ pub mod MarketTrades
 pub mod InRealPrices
 pub mod Turned
 pub mod Bound
+pub mod Events
+pub mod InRealTerms
 pub mod Orders
 pub mod Mirrored
 pub mod Promise
