@@ -7,7 +7,6 @@ use native.Mathlib.Omega.{arith}
 use borrow.Author.Tests.{ne_eqb, eqb-true, ltb-true, ltb-false, lt-leb, le-leb}
 use lib.Dec.{leb, ltb, eqb}
 use Rattle.base.specs.Price.{mirrored}
-use Rattle.base.proofs.Bools.{by}
 use Rattle.tape.specs.declared.order.Order.{Order}
 use Rattle.tape.specs.declared.event.Event.{Event}
 use Rattle.tape.specs.rules.Fields.{price_of, nbb_of, nbo_of, bb_of, bo_of}
@@ -29,7 +28,7 @@ use Rattle.run.proofs.MarketFrom.{buy-form}
 use Rattle.promise.specs.rules.Sides.{is_sell, initiating_price}
 use Rattle.promise.proofs.Sent.{buy-size}
 use Rattle.promise.proofs.Opening.{initiating-formed}
-use Rattle.promise.proofs.RealLaws.{better-shown, same-shown, size_is}
+use Rattle.promise.proofs.RealLaws.{better-shown, same-shown}
 use Rattle.exact.specs.rules.EitherSide.{better, worse_of}
 use Rattle.promise.specs.rules.Events.{Quoted, own_side, first_quoted, brought, outbid, bound_at, passes, marketable, raises}
 

@@ -1,11 +1,11 @@
--- Demand 3 in real prices: the written fills meet the clauses, no other list does, and what follows of any such list. Assumes nothing.
-use mathlib.Core.Path.{◌≡◌, refl, sym, ap, ap₂, subst, ◌∙◌}
+-- In real terms: the answers, the ending and the range by the order's fields and the records; the written fills meet the clauses, no other list does, and what follows of any such list. Assumes nothing.
+use mathlib.Core.Path.{◌≡◌, sym, ap, ap₂, subst, ◌∙◌}
 use mathlib.Core.Bool.{Bool, true, false, cond}
 use mathlib.Core.List.{List, ◌++◌, map}
 use mathlib.Core.Logic.{◌≢◌}
 use Prim.Native.Nat.{ℕ, ◌≤◌, ◌<◌}
 use native.Mathlib.Omega.{arith}
-use borrow.Author.Tests.{ltb-false, le-ltb, ne_eqb}
+use borrow.Author.Tests.{ltb-false, le-ltb}
 use Rattle.base.proofs.ListLaws.{every-with, every_map}
 use Rattle.board.specs.declared.Response.{Response}
 use Rattle.demand.proofs.Order.{all-sequence}
@@ -13,9 +13,8 @@ use Rattle.share.specs.rules.Fills.{Fill}
 use Rattle.tape.specs.declared.order.Order.{Order}
 use Rattle.tape.specs.declared.event.Event.{Event}
 use Rattle.trade.specs.declared.Deal.{Deal}
-use Rattle.trade.specs.rules.Trade.{offers, fills, traded}
+use Rattle.trade.specs.rules.Trade.{offers, traded}
 use Rattle.trade.specs.rules.Write.{reported, reported_price}
-use Rattle.mirror.specs.rules.Mirror.{mirrored_order, buy_order}
 use Rattle.auction.specs.rules.Accept.{accept_of, terms_of}
 use Rattle.auction.specs.declared.Terms.{Terms}
 use Rattle.auction.specs.declared.Entry.TheVariants.{Accepted}

@@ -205,7 +205,7 @@ module _ (o : Order) (es : List Event) where
     -- the fills that are written meet the clauses, and whatever list meets them is the one that is written
     pub holds : RealPrices (written_fills o es)
     pub only : (fs : List Fill) → RealPrices fs → fs ≡ written_fills o es
-    -- demand 3's sentences, of whatever list meets them; nor does the order itself trade beyond its limit
+    -- whatever list meets them is fair, response by response; nor does the order itself trade beyond its limit
     pub fair : (fs : List Fill) → RealPrices fs → FairFills (is_sell o) deal_at_end (lastly o es).standing fs
     pub own-limit : (fs : List Fill) → RealPrices fs → Every (λ f. better (is_sell o) o.limit f.price ≡ false) fs
 

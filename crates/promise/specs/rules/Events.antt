@@ -1,5 +1,4 @@
--- What an event does, in the order's own prices, for buys and sells alike (document 01, "Range and guarantee" and "What
--- an event does"; document 02, W-201). No board and no mirror stand here.
+-- What an event does, in the order's own prices, for buys and sells alike. No board and no mirror stand here.
 use Rattle.std.specs.Prelude.{Bool, cond, not, ◌&&◌, ◌||◌, List, [], ◌∷◌, ◌++◌, ℕ, ◌+◌, ◌-◌, leb, ltb, eqb, length}
 use Rattle.board.specs.declared.Response.{Response}
 use Rattle.tape.specs.declared.order.Order.{Order}

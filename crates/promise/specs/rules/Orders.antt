@@ -1,5 +1,5 @@
--- Which number an order is refused with, by its own fields and in its own prices, for buys and sells alike (document 01,
--- "Numbers for no" and "Range and guarantee"; document 02, W-205). No mirror stands here.
+-- Which number an order is refused with, by its own fields and in its own prices, for buys and sells alike. No mirror
+-- stands here.
 use Rattle.std.specs.Prelude.{cond, not, ◌&&◌, ◌||◌, ℕ, ◌+◌, ◌-◌, leb, ltb, eqb}
 use Rattle.words.specs.rules.Bits.{bit_at}
 use Rattle.tape.specs.declared.order.Order.{Order}
