@@ -1,5 +1,5 @@
 -- What answers are, from what the paper has for them. Assumes nothing.
-use mathlib.Core.Path.{◌≡◌, refl, ap}
+use mathlib.Core.Path.{◌≡◌, refl, ap, ◌∙◌}
 use mathlib.Core.List.{List}
 use Prim.Native.Nat.{ℕ}
 use Prim.Native.Char.{code}
@@ -19,7 +19,7 @@ use Rattle.auction.specs.rules.Accept.{accept_of}
 use Rattle.events.specs.declared.Answer.{Answer}
 use Rattle.events.specs.declared.Answer.TheVariants.{Taken, Ended, Late, Refused}
 use Rattle.promise.specs.rules.Answers.{Paper, no, yes, Accepts, opened_is, order_is, entry_is, answer_is}
-use Rattle.promise.specs.rules.Tapes.{Carries}
+use Rattle.promise.specs.rules.Tapes.{Carries, records_in}
 
 pub opened-is : (x : Opened) (t : Trailer) → opened_is x ≡ yes t → x ≡ Tape t
 opened-is (Tape u) t z = let q : u ≡ t = cc in ap Tape q
@@ -60,6 +60,9 @@ tape-at {s} c = opened-is (open_tape s) c.trailer c.opened
 
 pub order-at : {s : List ℕ} {o : Order} {es : List Event} (c : Carries s o es) → order_in s c.trailer ≡ GotOrder o
 order-at {s} {o} c = order_is_lem (order_in s c.trailer) o c.order
+
+pub records-at : {s : List ℕ} {o : Order} {es : List Event} (c : Carries s o es) → records_in s (open_tape s) ≡ es
+records-at {s} c = ap (records_in s) (tape-at c) ∙ c.records
 
 abbrev pub carry : (s : List ℕ) (o : Order) (es : List Event) (t : Trailer) → open_tape s ≡ Tape t → order_in s t ≡ GotOrder o → records_of s t ≡ es → Carries s o es
 carry s o es t p q r = record { trailer = t; opened = ap opened_is p; order = ap order_is q; records = r }

@@ -19,5 +19,10 @@ pub mod Unshown
 pub mod Moved
 pub mod MarketTrades
 pub mod InRealPrices
+pub mod Turned
+pub mod Bound
+pub mod Events
+pub mod InRealTerms
+pub mod Orders
 pub mod Mirrored
 pub mod Promise

@@ -158,6 +158,15 @@ only-13 o n h l e =
     (λ _. range-by b P (λ _ z. absurd (omega arith)) (λ _ _ z. sym z) (λ r _. absurd (never r)) (λ r _. absurd (never r)) (λ _ _ z. absurd (omega arith))) m.1
 
 -- the initiating price, by the order's own fields
+pub initiating-formed : (o : Order) → order_formed o ≡ true → initiating_price o ≡ reported_price (is_sell o) (initiating_of (buy_order o))
+unfolding range_of opened_by terms_of
+initiating-formed o f = go (is_sell o) (range-formed o f)
+  where
+    go : (s : Bool) → range_of (opened_by s (buy_order o)).head ≡ cond s (sell_range o) (buy_range o) → cond s (sell_range o).low (buy_range o).high ≡ reported_price s (initiating_of (buy_order o))
+    go true z = sym (ap (λ (r : Range). r.low) z)
+    go false z = sym (ap (λ (r : Range). r.high) z)
+
+-- the same of an accepted one's terms
 pub initiating-is : (o : Order) → (accept_of o).answer ≡ Accepted → initiating_price o ≡ reported_price (is_sell o) (accept_of o).auction.head.terms.initiating
 unfolding range_of opened_by terms_of
 initiating-is o h =

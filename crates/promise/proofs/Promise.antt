@@ -10,6 +10,8 @@ use Rattle.promise.proofs.Tapes.{can-lack, can-mirror}
 use Rattle.promise.proofs.Carried.{accepted, not-accepted}
 use Rattle.promise.proofs.Opening.{opens, some-range, no-range, only-13}
 use Rattle.promise.proofs.InRealPrices.{trades}
+use Rattle.promise.proofs.InRealTerms.{terms, printed, watch-printed}
+use Rattle.promise.proofs.Orders.{order-number}
 use Rattle.promise.proofs.Mirrored.{mirrors}
 use Rattle.promise.proofs.Firms.{firms}
 use Rattle.promise.proofs.Unshown.{unshown}
@@ -20,6 +22,7 @@ pub promise : Promise
 promise =
     record {
       answered = answered;
+      order-number = order-number;
       roomed = roomed;
       filling = filling;
       numbered = numbered;
@@ -34,6 +37,9 @@ promise =
       no-range = λ o h. no-range o (not-accepted o 13 h);
       only-13 = λ o n h. only-13 o n (not-accepted o n h);
       trades = λ o es h. trades o es (accepted o h);
+      real-terms = λ o es h. terms o es (accepted o h);
+      printed = λ s o es fs c h e. printed o es (accepted o h) s fs c e;
+      watch-printed = λ s o es fs c h e. watch-printed o es (accepted o h) s fs c e;
       counted = counted;
       same-records = same-records;
       resends = resends;

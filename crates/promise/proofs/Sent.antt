@@ -28,7 +28,7 @@ use Rattle.promise.specs.rules.Sides.{is_sell, sent, sent_by, sent_instead}
 use lib.Dec.{eqb}
 use borrow.Author.Tests.{eq-eqb, ne_eqb}
 
-buy-size : (o : Order) → (buy_order o).size ≡ o.size
+pub buy-size : (o : Order) → (buy_order o).size ≡ o.size
 unfolding buy_order mirrored_order
 buy-size o = by (λ (b : Order). b.size ≡ o.size) (eqb o.side 2) _ _ (λ _. refl) (λ _. refl)
 

@@ -120,7 +120,7 @@ module _ (o : Order) (e : Event) (rs : List Response) where
 -- ---- the board
 
 -- its live responses, as they were sent
-abbrev on_board : Bool → Board → List Response
+abbrev pub on_board : Bool → Board → List Response
 on_board sell b = map (sent sell) (live_of b)
 
 -- the others of one with a sequence of its own are no GTX response of that sequence
@@ -184,9 +184,9 @@ named-is sell b k g d = go (ltb (find_gtx b k) 64) refl
 
 -- the terms of an auction are those of the order
 pub record Ours (o : Order) (t : Terms) : Type 0 where
-  sell : t.sell ≡ is_sell o
-  size : t.size ≡ o.size
-  initiating : initiating_price o ≡ reported_price (is_sell o) t.initiating
+  pub sell : t.sell ≡ is_sell o
+  pub size : t.size ≡ o.size
+  pub initiating : initiating_price o ≡ reported_price (is_sell o) t.initiating
 
 module _ (o : Order) (a : Auction) (e : Event) (s : Sound a) (w : Ours o a.head.terms) (rs : List Response) (now : in_sequence (on_board (is_sell o) a.board) ≡ rs) where
   abbrev terms : Terms
@@ -290,7 +290,7 @@ module _ (o : Order) (a : Auction) (e : Event) (s : Sound a) (w : Ours o a.head.
       stays l = kept (leaves_all ok.ordinary.formed l)
 
   -- a record that is taken
-  stands-step : is_taken (step_of a e).answer ≡ true → Stood (step_of a e).auction.board
+  pub stands-step : is_taken (step_of a e).answer ≡ true → Stood (step_of a e).auction.board
   stands-step = cases a.head e view (λ t. is_taken t.answer ≡ true → Stood (board_after a.board t.change)) (record { refused = λ _ _ z. no (sym z); late = λ _ z. no (sym z); does = does })
 
 -- ---- a run
@@ -309,12 +309,12 @@ stands-run o (e ∷ es) a rs s w now =
     go false z ih = ih rs (ap (λ (c : Board). in_sequence (on_board (is_sell o) c)) (untaken a e z) ∙ now)
 
 -- a board that was just opened has no response
-none-live : (s : Bool) (b : Order) → live_of (opened_by s b).board ≡ []
+pub none-live : (s : Bool) (b : Order) → live_of (opened_by s b).board ≡ []
 unfolding opened_by
 none-live s b = empty-live
 
 -- an order's auction has its terms, at its opening and after any records
-ours : (o : Order) → (accept_of o).answer ≡ Accepted → Ours o (accept_of o).auction.head.terms
+pub ours : (o : Order) → (accept_of o).answer ≡ Accepted → Ours o (accept_of o).auction.head.terms
 ours o h = record { sell = terms-sell o h; size = terms-size o h; initiating = initiating-is o h }
 
 pub ours-after : (o : Order) (es : List Event) → (accept_of o).answer ≡ Accepted → Ours o (auction_after o es).head.terms

@@ -2,3 +2,5 @@
 pub mod Answers
 pub mod Tapes
 pub mod Sides
+pub mod Events
+pub mod Orders

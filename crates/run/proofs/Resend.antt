@@ -180,6 +180,10 @@ closed-stays : (a : Auction) (n : ℕ) → (close_of a).answer ≡ Refused n →
 unfolding close_turn
 closed-stays a n = by (λ (t : Turn). t.answer ≡ Refused n → (seated_on a.board t).auction ≡ a) (is_open a.head.ending) _ _ (λ _ z. no cc) (λ _ z. refl)
 
+closed-late : (a : Auction) → is_open a.head.ending ≡ true → close_of a ≡ gives Late (timed a)
+unfolding close_turn
+closed-late a z = simp z
+
 ended-stays : (a : Auction) → is_open a.head.ending ≡ false → close_of a ≡ gives (Refused 31) a
 unfolding close_turn
 ended-stays a z = simp z
@@ -194,7 +198,7 @@ order-numbers o n =
     (λ h z. let q : order_refusal o ≡ n = cc in let s : order_refusal o ≡ 0 → ⊥ = eqb-false _ _ h in (omega (arith, s), omega (arith, order-most o)))
 
 pub keeps : Keeps
-keeps = record { refused = refused-stays; not-closed = closed-stays; order-numbers = order-numbers; event-numbers = event-numbers; taken = λ s a e z. (taken-in-time s a e z, (taken_is s a e z).2); by_kind = by_kind; formless = formless; old = old-refused; before = before; rises = rises; when-late = when-late; late = late-ends; ended = ended-refuses; ended-close = ended-stays }
+keeps = record { refused = refused-stays; not-closed = closed-stays; order-numbers = order-numbers; event-numbers = event-numbers; taken = λ s a e z. (taken-in-time s a e z, (taken_is s a e z).2); by_kind = by_kind; formless = formless; old = old-refused; before = before; rises = rises; when-late = when-late; late = late-ends; when-closed = closed-late; ended = ended-refuses; ended-close = ended-stays }
 
 -- ---- the sequences of the events taken rise, so no two are the same
 

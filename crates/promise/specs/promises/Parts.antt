@@ -19,6 +19,10 @@ use Rattle.tape.specs.rules.Tape.{open_tape, order_in}
 use Rattle.trade.specs.rules.Trade.{offers, fills, traded}
 use Rattle.trade.specs.rules.Write.{reported}
 use Rattle.demand.specs.promises.Demands.{Absent, Distinct, got, gots}
+use Rattle.trade.specs.declared.Deal.{Deal}
+use Rattle.exact.specs.rules.WhoTrades.{WhoTrades}
+use Rattle.exact.specs.promises.Fair.{FairFills}
+use Rattle.promise.specs.rules.Events.{bound_at, opening, answers_from, taken_from, lastly, last_range, watch_from}
 use Rattle.auction.specs.rules.Accept.{accept_of}
 use Rattle.auction.specs.rules.Range.{is_open}
 use Rattle.auction.specs.rules.Offer.{on_offer}
@@ -34,7 +38,7 @@ use Rattle.fills.specs.rules.Fills.{deal_of, auction_fills, fills_answer, fills_
 use Rattle.run.specs.rules.Run.{Said, said, run, heard, played, is_taken, run_of}
 use Rattle.run.specs.promises.Demands.{Within, Trades, Names, InTime}
 use Rattle.listing.specs.rules.Text.{text, newline}
-use Rattle.listing.specs.rules.Watch.{watch_line}
+use Rattle.listing.specs.rules.Watch.{watch_line, watch_lines}
 use Rattle.listing.specs.rules.Listing.{field, answer_text, event_text, end_text, refused_line, auction_line, event_lines, end_lines, listing_of, room_of, listed_of, length_in, bytes_of}
 use Rattle.promise.specs.rules.Answers.{Accepts, no, yes, opened_is, order_is, event_is, trailer_is, written_is, entry_is, answer_is, ending_is, filled_is, moved_is, firm_is, run_is, listed_is}
 use Rattle.promise.specs.rules.Tapes.{Carries}
@@ -165,6 +169,45 @@ module _ (o : Order) (es : List Event) where
     -- it also has it where one of them trades, from the stop or limit on, and nothing trades at a worse price
     pub guaranteed-last : (r : Response) → In r (live_at_end o es) → r.customer ≡ false → (o.mode ≢ 2 → better (is_sell o) (working_price o es r) o.stop ≡ false)
         → Every (λ f. better (is_sell o) (working_price o es r) f.price ≡ false) (written_fills o es) → 0 < got r.sequence (written_fills o es) → guarantee_at_end o es ≤ got 0 (written_fills o es)
+
+-- and in real terms, by the order's own fields and the records before it
+module _ (o : Order) (es : List Event) where
+  -- the auction at its end, in the order's own prices: the order's fields, and the bound and the market order that the
+  -- records leave
+  abbrev pub deal_at_end : Deal
+  deal_at_end =
+      record {
+        sell = is_sell o;
+        mode = o.mode;
+        size = o.size;
+        initiating = initiating_price o;
+        bound = bound_at o (lastly o es).quoted;
+        stop = o.stop;
+        market = (lastly o es).market.sequence;
+        selling = (lastly o es).market.size;
+      }
+
+  -- the clauses of a list of fills, any list, over the responses that the records leave standing, an amended one once,
+  -- with its latest size and price
+  abbrev pub RealPrices : List Fill → Type 0
+  RealPrices fs = WhoTrades (is_sell o) deal_at_end (lastly o es).standing fs
+
+  pub record InRealTerms : Type 0 where
+    -- the answers, the records taken, the ending, the range and the lines of a watch are those of the order's own fields
+    -- and the records, one after the other
+    pub answers : heard (accept_of o).auction es ≡ answers_from o (opening o) es
+    pub taken : taken_records o es ≡ taken_from o (opening o) es
+    pub ending : (at_end o es).head.ending ≡ (lastly o es).ending
+    pub range : range_at_end o es ≡ last_range o es
+    pub watch : watch_lines (accept_of o).auction es ≡ watch_from o (opening o) es
+    -- the responses that they leave standing are those of parts 4, 5 and 7
+    pub standing : (lastly o es).standing ≡ standing_of o (taken_records o es)
+    -- the fills that are written meet the clauses, and whatever list meets them is the one that is written
+    pub holds : RealPrices (written_fills o es)
+    pub only : (fs : List Fill) → RealPrices fs → fs ≡ written_fills o es
+    -- whatever list meets them is fair, response by response; nor does the order itself trade beyond its limit
+    pub fair : (fs : List Fill) → RealPrices fs → FairFills (is_sell o) deal_at_end (lastly o es).standing fs
+    pub own-limit : (fs : List Fill) → RealPrices fs → Every (λ f. better (is_sell o) o.limit f.price ≡ false) fs
 
 -- ---- 4. a response that stands on the board is never counted twice
 

@@ -1,5 +1,5 @@
 -- The promise: what the user is promised of every tape, on one page. A tape is any list of bytes.
-use Rattle.std.specs.Prelude.{◌≡◌, Bool, List, ◌≢◌, ℕ, ◌≤◌, ◌<◌}
+use Rattle.std.specs.Prelude.{◌≡◌, Bool, cond, eqb, List, ◌≢◌, ℕ, ◌≤◌, ◌<◌}
 use Rattle.base.specs.Lists.{Every}
 use Rattle.words.specs.rules.Bytes.{AllBytes}
 use Rattle.tape.specs.declared.order.Order.{Order}
@@ -13,15 +13,20 @@ use Rattle.run.specs.promises.Demands.{Keeps, mirrored_records}
 use Rattle.roundtrip.specs.promises.Demands.{Demands}
 use Rattle.listing.specs.rules.Listing.{listing_of}
 use Rattle.listing.specs.rules.Watch.{watch_lines}
-use Rattle.promise.specs.rules.Tapes.{Carries, SomeTape, end_of, not_refused, not_refused_said, WithResent, mirrored_lines}
-use Rattle.promise.specs.rules.Answers.{Accepts, no, entry_is}
+use Rattle.promise.specs.rules.Tapes.{Carries, SomeTape, end_of, watch_of, not_refused, not_refused_said, WithResent, mirrored_lines}
+use Rattle.promise.specs.rules.Answers.{Accepts, no, yes, entry_is}
 use Rattle.promise.specs.rules.Sides.{opening_range}
-use Rattle.promise.specs.promises.Parts.{Answered, Roomed, Filling, Numbered, EventNumber, InRealPrices, CountedOnce, Offered, Firms, Unshown, MovedTape}
+use Rattle.promise.specs.rules.Events.{lines_with, watch_with}
+use Rattle.share.specs.rules.Fills.{Fill}
+use Rattle.promise.specs.rules.Orders.{order_number}
+use Rattle.promise.specs.promises.Parts.{Answered, Roomed, Filling, Numbered, EventNumber, InRealPrices, RealPrices, InRealTerms, CountedOnce, Offered, Firms, Unshown, MovedTape}
 use Rattle.promise.specs.promises.Below.{Below}
 
 pub record Promise : Type 0 where
   -- 1. Every tape is answered: `REFUSED` and its number, or an auction's listing; whatever room is lent for it
   pub answered : (s : List ℕ) → Answered s
+  -- an order's number is that of its own fields
+  pub order-number : (o : Order) → entry_is (accept_of o).answer ≡ cond (eqb (order_number o) 0) (yes tt) (no (order_number o))
   pub roomed : (s out : List ℕ) → Roomed s out
   pub filling : (a : Auction) (xs : List ℕ) (start : ℕ) → Filling a xs start
   pub numbered : Numbered
@@ -40,6 +45,11 @@ pub record Promise : Type 0 where
   pub no-range : (o : Order) → entry_is (accept_of o).answer ≡ no 13 → ((opening_range o).high < (opening_range o).low) × (o.size < 50) × (o.displayed ≢ 0)
   pub only-13 : (o : Order) (n : ℕ) → entry_is (accept_of o).answer ≡ no n → 10 < n → (opening_range o).high < (opening_range o).low → n ≡ 13
   pub trades : (o : Order) (es : List Event) → Accepts o → InRealPrices o es
+  -- each record's answer, the ending, the range and the fills, by the order's own fields and the records before it
+  pub real-terms : (o : Order) (es : List Event) → Accepts o → InRealTerms o es
+  -- so the listing and the watch of every tape whose order is accepted are settled by the order's own fields, the records and the clauses
+  pub printed : (s : List ℕ) (o : Order) (es : List Event) (fs : List Fill) → Carries s o es → Accepts o → RealPrices o es fs → listing_of s ≡ lines_with o es fs
+  pub watch-printed : (s : List ℕ) (o : Order) (es : List Event) (fs : List Fill) → Carries s o es → Accepts o → RealPrices o es fs → watch_of s ≡ watch_with o es fs
   -- 4. A response that stands on the board is never counted twice, and an amended one once, with its latest size and price: what stands is a fold of the records taken
   pub counted : (o : Order) → CountedOnce o
   -- a tape with any number of resent records put in, or of any records after the ending, has the same END, FILL and TOTAL lines (a tape has at most 2,045 records, and a new one 1,636)

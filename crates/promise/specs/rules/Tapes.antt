@@ -6,6 +6,8 @@ use Rattle.tape.specs.rules.Tape.{open_tape, order_in, records_of}
 use Rattle.tape.specs.declared.order.Order.{Order}
 use Rattle.tape.specs.declared.event.Event.{Event}
 use Rattle.tape.specs.declared.trailer.Trailer.{Trailer}
+use Rattle.tape.specs.declared.trailer.Opened.{Opened}
+use Rattle.tape.specs.declared.trailer.Opened.TheVariants.{Tape, Refused as NoTape}
 use Rattle.trade.specs.rules.Trade.{traded}
 use Rattle.auction.specs.rules.Range.{is_open, range_of}
 use Rattle.auction.specs.declared.Auction.{Auction}
@@ -15,7 +17,8 @@ use Rattle.fills.specs.rules.Fills.{auction_fills}
 use Rattle.run.specs.rules.Run.{Said, Run, refused, ended, run_of, run, taken_of}
 use Rattle.run.specs.promises.Demands.{mirrored_fills, mirrored_range}
 use Rattle.promise.specs.rules.Answers.{yes, is_no, opened_is, order_is, answer_is}
-use Rattle.listing.specs.rules.Listing.{field, refused_line, range_text, side_text, event_lines, end_text, fill_lines, total_line, end_lines}
+use Rattle.listing.specs.rules.Watch.{watch_lines}
+use Rattle.listing.specs.rules.Listing.{field, refused_line, auction_line, range_text, side_text, event_lines, end_text, fill_lines, total_line, end_lines}
 
 -- the bytes s are a tape that opens: the order that is read of its record, and the events that stand in its records, in form or not
 pub record Carries (s : List ℕ) (o : Order) (es : List Event) : Type 0 where
@@ -38,6 +41,21 @@ end_in (ended first said last) = end_lines last
 
 abbrev pub end_of : List ℕ → List ℕ
 end_of s = end_in (run_of s)
+
+-- ---- a watch
+
+-- the records of a tape that opens
+abbrev pub records_in : List ℕ → Opened → List Event
+records_in s (NoTape number) = []
+records_in s (Tape t) = records_of s t
+
+-- its lines: those of the listing, each EVENT line with the contracts on offer after its event
+abbrev pub watch_in : List Event → Run → List ℕ
+watch_in es (refused number) = refused_line number
+watch_in es (ended first said last) = auction_line first.head ++ (watch_lines first es ++ end_lines last)
+
+abbrev pub watch_of : List ℕ → List ℕ
+watch_of s = watch_in (records_in s (open_tape s)) (run_of s)
 
 -- ---- fewer records, and more
 

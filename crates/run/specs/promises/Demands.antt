@@ -76,6 +76,8 @@ pub record Keeps : Type 0 where
   -- one at L or after it is late, whatever it is: it ends the auction by time, and is not applied
   pub when-late : (s : Sight) (a : Auction) (e : Event) → Ordinary a.head e → a.head.terms.interval ≤ e.time → step_by s a e ≡ gives Late (timed a)
   pub late : (s : Sight) (a : Auction) (e : Event) → (step_by s a e).answer ≡ Late → (step_by s a e).auction ≡ timed a
+  -- closing by hand, while the auction is open, acts as an event at L
+  pub when-closed : (a : Auction) → is_open a.head.ending ≡ true → close_of a ≡ gives Late (timed a)
   -- an ended auction never changes again, and answers 31 to all
   pub ended : (s : Sight) (a : Auction) (e : Event) → is_open a.head.ending ≡ false → step_by s a e ≡ gives (Refused 31) a
   pub ended-close : (a : Auction) → is_open a.head.ending ≡ false → close_of a ≡ gives (Refused 31) a
