@@ -104,8 +104,11 @@ def is_text(names):
 
 
 def link(name, path):
-    """A link to a file, by a name that is seen from the folder in which a program runs."""
-    os.symlink(name if name.startswith(b"/") else b"/proc/self/cwd/" + name, path)
+    """A link to a file, by a name that is seen from the folder in which a program runs; the name itself where it is too long for a link to lead to it."""
+    to = name if name.startswith(b"/") else b"/proc/self/cwd/" + name
+    if len(to) >= PATH_MAX:
+        return name
+    os.symlink(to, path)
     return os.fsencode(path)
 
 
