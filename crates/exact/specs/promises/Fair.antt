@@ -38,7 +38,8 @@ pub record Apart (d : Deal) (rs : List Response) : Type 0 where
   pub distinct : Distinct rs
   pub market-apart : 0 < d.selling → (0 < d.market) × Absent d.market rs
 
--- the engine's fills, of every deal and board that can trade, meet the clauses
+-- the engine's fills, of every deal and board that can trade, meet the clauses: of the buy that the engine works with,
+-- before its prices are reported; promise's `InRealTerms` has the fills as they are written, for a buy or a sell
 abbrev pub Holds : Type 0
 Holds = (d : Deal) (b : Board) → Tradable d b → WhoTrades false d (offers b) (fills d (offers b))
 

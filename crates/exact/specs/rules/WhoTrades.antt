@@ -1,5 +1,6 @@
 -- Who trades: what a list of fills has to be, sentence by sentence, for a buy or a sell in its own prices (document 01,
--- "Who trades"; document 02, W-203). It speaks of any list of fills; no walk stands here.
+-- "Who trades"; document 02, W-203). It speaks of any list of fills, which it is
+-- given: no fill is computed here.
 use Rattle.std.specs.Prelude.{◌≡◌, Bool, false, cond, List, [], ◌++◌, ◌⊎◌, ◌≢◌, ℕ, ◌+◌, ◌-◌, ◌/◌, ◌≤◌, ◌<◌, min, eqb, length}
 use Rattle.base.specs.Lists.{Every, In, filter, sum}
 use Rattle.board.specs.declared.Response.{Response}
@@ -33,7 +34,7 @@ module _ (sell : Bool) (d : Deal) where
   abbrev pub midpoint : ℕ
   midpoint = cond sell ((d.initiating + d.bound) / 2) ((d.initiating + d.bound + 1) / 2)
 
-  -- the responses rs, by sequence, are live at the ending
+  -- the responses rs are live at the ending; they stand by sequence, and ties go to the lower one so
   module _ (rs : List Response) where
     -- ---- the market order that ended the auction
 
@@ -101,7 +102,7 @@ module _ (sell : Bool) (d : Deal) where
     pub record AtPrice (ws : List Fill) (p : ℕ) : Type 0 where
       -- Customers first, by sequence, each as far as the size left goes
       pub customers : gots_at p ws (customers_at p) ≡ in_turn (left_at ws p) (sizes (customers_at p))
-      -- then the Contra Order, what the plan says; at the clean-up price also all that the others leave
+      -- then the Contra Order, what the plan says; at the guarantee price also all that the others leave
       pub contra : got_at 0 p ws ≡ contra_first ws p + cond (plan_at ws p).final (left_to_others ws p - sum (others_shares ws p)) 0
       -- the others pro rata, of what is left to them
       pub others : gots_at p ws (others_at p) ≡ others_shares ws p

@@ -25,7 +25,7 @@ use Rattle.promise.specs.promises.Below.{Below}
 pub record Promise : Type 0 where
   -- 1. Every tape is answered: `REFUSED` and its number, or an auction's listing; whatever room is lent for it
   pub answered : (s : List ℕ) → Answered s
-  -- an order's number is that of its own fields
+  -- an order is accepted, or refused with the first number that its own fields give
   pub order-number : (o : Order) → entry_is (accept_of o).answer ≡ cond (eqb (order_number o) 0) (yes tt) (no (order_number o))
   pub roomed : (s out : List ℕ) → Roomed s out
   pub filling : (a : Auction) (xs : List ℕ) (start : ℕ) → Filling a xs start
@@ -45,7 +45,7 @@ pub record Promise : Type 0 where
   pub no-range : (o : Order) → entry_is (accept_of o).answer ≡ no 13 → ((opening_range o).high < (opening_range o).low) × (o.size < 50) × (o.displayed ≢ 0)
   pub only-13 : (o : Order) (n : ℕ) → entry_is (accept_of o).answer ≡ no n → 10 < n → (opening_range o).high < (opening_range o).low → n ≡ 13
   pub trades : (o : Order) (es : List Event) → Accepts o → InRealPrices o es
-  -- each record's answer, the ending, the range and the fills, by the order's own fields and the records before it
+  -- the same by the order's own fields and the records alone: each record's answer by those before it, the ending, the range and the fills by all
   pub real-terms : (o : Order) (es : List Event) → Accepts o → InRealTerms o es
   -- so the listing and the watch of every tape whose order is accepted are settled by the order's own fields, the records and the clauses
   pub printed : (s : List ℕ) (o : Order) (es : List Event) (fs : List Fill) → Carries s o es → Accepts o → RealPrices o es fs → listing_of s ≡ lines_with o es fs
