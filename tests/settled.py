@@ -40,12 +40,21 @@ def contract(crate, name):
 
 
 def public(crate):
-    """What each public function of a crate is called in the contracts: its file's name before it, but for lib.rt."""
+    """What each public function of a crate is called in the contracts: its file's name before it, but for lib.rt, and a method's type."""
     for path in sorted(glob.glob(crate + "/src/*.rt")):
         file = os.path.basename(path)[:-3]
+        before = "" if file == "lib" else file + "."
+        of = ""
         with open(path) as f:
-            for name in re.findall(r"^\s*pub (?:extern \"C\" )?fn (\w+)", f.read(), re.M):
-                yield name if file == "lib" else file + "." + name
+            for line in f:
+                block = re.match(r"impl(?:<[^>]*>)? (\w+)", line)
+                if block:
+                    of = block.group(1) + "."
+                elif line.startswith("}"):
+                    of = ""
+                name = re.match(r"\s*pub (?:const )?(?:extern \"C\" )?fn (\w+)", line)
+                if name:
+                    yield before + of + name.group(1)
 
 
 # What a theorem cites, by the names that its file gives them: of a crate's contracts their types, and what their clauses say.

@@ -4,4 +4,5 @@ pub mod Numbers
 pub mod ListLaws
 pub mod SetsLaws
 pub mod WriteLaws
+pub mod RefusalLaws
 pub mod Settled

@@ -24,3 +24,6 @@ less κs a = (tt, λ y z v w p q. (p ∙ sym q, refl))
 
 pub mirror : Settled stated.mirror.ended contracts.mirror.Reads.Asked contracts.mirror.Reads.Learnt
 mirror κs a = (tt, λ y z v w p q. (p ∙ sym q, refl))
+
+pub refusal-number : Settled stated.refusal.Refusal.number.ended contracts.refusal.Refusal.number.Reads.Asked contracts.refusal.Refusal.number.Reads.Learnt
+refusal-number κs a = (tt, λ y z v w p q. (p ∙ sym q, refl))

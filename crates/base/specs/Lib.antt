@@ -3,3 +3,4 @@ pub mod Lists
 pub mod Price
 pub mod Writing
 pub mod Settled
+pub mod Refusal

@@ -5,6 +5,10 @@
 ghost use Rattle.std.specs.Prelude.{◌≡◌, ◌-◌, ◌≤◌, min, max};
 ghost use Rattle.base.specs.Price.{mirrored};
 
+mod refusal;
+
+pub use refusal::Refusal;
+
 // The same number in 64 bits, where two of them add up and multiply without loss.
 pub fn wide(x: u32) -> u64
     ensures { (result ≡ x) × (result ≤ 4294967295) }
