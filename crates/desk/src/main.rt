@@ -25,7 +25,6 @@ use moving::Moved;
 use std::env::Env;
 use std::io::Read;
 use tape::{Event, ORDER_BYTES, Opened, Order, ReadOrder, Trailer, event_bytes};
-use trade::Filled;
 
 fn tape_buffer() -> [u8; MOST]
     ensures { 65537 ≡ length result }
@@ -301,15 +300,6 @@ fn print_firms(rt: &(impl Print + Eprint), a: Auction, words: &[u32], n: u32) ->
     true
 }
 
-fn print_filled(rt: &(impl Print + Eprint), a: Auction, words: &[u32], f: Filled) -> bool
-    requires { 390 ≤ length words.now }
-{
-    match f {
-        Filled::Count(n) => print_firms(rt, a, words, n),
-        Filled::Refused(_) => true,
-    }
-}
-
 // The auction after its events, closed by hand where it is open still.
 fn closed(tape: &[u8], t: Trailer, opened: Auction) -> Auction {
     let mut a = opened;
@@ -325,8 +315,10 @@ fn closed(tape: &[u8], t: Trailer, opened: Auction) -> Auction {
 fn firms_auction(rt: &(impl Print + Eprint), tape: &[u8], t: Trailer, opened: Auction) -> bool {
     let a = closed(tape, t, opened);
     let mut words = fills_buffer();
-    let f = fills::write_fills(a, &mut words, 0);
-    print_filled(rt, a, &words, f)
+    match fills::write_fills(a, &mut words, 0) {
+        Ok(n) => print_firms(rt, a, &words, n),
+        Err(_) => true,
+    }
 }
 
 // ---- what is looked at

@@ -6,8 +6,9 @@ ghost use Rattle.std.specs.Prelude.{◌≡◌};
 ghost use Rattle.fills.specs.rules.Fills.{has_ended, deal_of, fills_answer, fills_after};
 
 use auction::{Auction, Head, bound_now, is_open};
+use base::Refusal;
 use board::Board;
-use trade::{Deal, Filled};
+use trade::Deal;
 
 fn has_ended(h: Head) -> bool
     ensures { result ≡ has_ended h }
@@ -34,8 +35,8 @@ fn deal_of(h: Head) -> Deal
     }
 }
 
-// The fills of an ended auction, three words each, into lent words from a start place: 40, then 39.
-pub fn write_fills(a: Auction, out: &mut [u32], start: usize) -> Filled
+// The fills of an ended auction, three words each, into lent words from a start place, and how many they are; else AuctionOpen, then FewWords.
+pub fn write_fills(a: Auction, out: &mut [u32], start: usize) -> Result<u32, Refusal>
     ensures value { result ≡ fills_answer a out.old start }
     ensures out_after { out.new ≡ fills_after a out.old start }
 {
@@ -43,7 +44,7 @@ pub fn write_fills(a: Auction, out: &mut [u32], start: usize) -> Filled
 }
 
 // The same of an auction's head and its board, which is lent, so that none is copied.
-pub fn write_lent(h: Head, b: &Board, out: &mut [u32], start: usize) -> Filled
+pub fn write_lent(h: Head, b: &Board, out: &mut [u32], start: usize) -> Result<u32, Refusal>
     ensures value { result ≡ fills_answer (record { head = h; board = b.now }) out.old start }
     ensures out_after { out.new ≡ fills_after (record { head = h; board = b.now }) out.old start }
 {

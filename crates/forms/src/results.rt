@@ -3,9 +3,8 @@ ghost use Rattle.std.specs.Prelude.{◌*◌, ◌≤◌, length};
 
 use crate::lines::{print, print_fill, print_last};
 use auction::Auction;
-use base::wide;
+use base::{Refusal, wide};
 use fills::write_fills;
-use trade::Filled;
 
 // A line for each of n fills; the sum of their quantities.
 fn print_fills(rt: &impl Print, words: &[u32], n: usize) -> u64
@@ -23,10 +22,10 @@ fn print_fills(rt: &impl Print, words: &[u32], n: usize) -> u64
 }
 
 // The fills that were counted, if there can be so many.
-fn print_counted(rt: &impl Print, words: &[u32], f: Filled) -> bool
+fn print_counted(rt: &impl Print, words: &[u32], f: Result<u32, Refusal>) -> bool
     requires { 390 ≤ length words.now }
 {
-    let Filled::Count(n) = f else {
+    let Ok(n) = f else {
         print(rt, b"WRONG fills refused\n");
         return false;
     };

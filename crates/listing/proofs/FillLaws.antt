@@ -7,12 +7,15 @@ use native.Mathlib.Nat.{sub-zero}
 use native.Mathlib.Omega.{arith}
 use lib.ListN.{length, get_or, drop, length-append, length-drop}
 use lib.Seq.{get_or-drop, drop-drop}
+use Rattle.std.specs.Prelude.{Result, Ok}
+use Rattle.std.specs.Result.{result_unwrap_or}
+use Rattle.base.specs.declared.refusal.Refusal.{Refusal}
 use Rattle.share.specs.rules.Fills.{Fill, fill, words}
 use Rattle.share.proofs.FillsLaws.{length-words}
 use Rattle.trade.proofs.WholeLaws.{fills-few, counted, words-after}
 use Rattle.auction.specs.declared.Auction.{Auction}
 use Rattle.fills.specs.rules.Fills.{has_ended, deal_of, auction_fills, fills_answer, fills_after}
-use Rattle.listing.specs.inside.Code.{count_in, fills_in}
+use Rattle.listing.specs.inside.Code.{fills_in}
 
 -- the fills of the words are the fills
 pub fills-back : (fs : List Fill) (rest : List ℕ) → fills_in (length fs) (words fs ++ rest) ≡ fs
@@ -49,14 +52,18 @@ pub record Reported (a : Auction) (n : ℕ) (ws : List ℕ) : Type 0 where
   pub long : length ws ≡ 390
   pub fills : fills_in n ws ≡ auction_fills a
 
+-- they are written, and not refused
+pub written : (a : Auction) (xs : List ℕ) → has_ended a.head ≡ true → length xs ≡ 390 → fills_answer a xs 0 ≡ Ok (length (auction_fills a))
+written a xs e r = sym (counted (has_ended a.head) (deal_of a.head) a.board xs 0 e (omega arith) (length (auction_fills a)) refl)
+
 pub reported : (a : Auction) (xs : List ℕ) (n : ℕ) (ws : List ℕ) → has_ended a.head ≡ true → length a.board.places ≡ 64 → length xs ≡ 390
-    → n ≡ count_in (fills_answer a xs 0) → ws ≡ fills_after a xs 0 → Reported a n ws
+    → fills_answer a xs 0 ≡ Ok n → ws ≡ fills_after a xs 0 → Reported a n ws
 reported a xs n ws e l r en ew =
     let fs : List Fill = auction_fills a in
     let rest : List ℕ = drop (0 + 3 * length fs) xs in
     let few : length fs ≤ 130 = fills-few (deal_of a.head) a.board l in
-    let count : n ≡ length fs = en ∙ ap count_in (sym (counted (has_ended a.head) (deal_of a.head) a.board xs 0 e (omega arith) (omega arith) (length fs) refl)) in
-    let are : ws ≡ words fs ++ rest = ew ∙ sym (words-after (has_ended a.head) (deal_of a.head) a.board xs 0 e (omega arith) (omega arith)) in
+    let count : n ≡ length fs = ap (λ (r : Result ℕ Refusal). result_unwrap_or r 0) (sym en ∙ written a xs e r) in
+    let are : ws ≡ words fs ++ rest = ew ∙ sym (words-after (has_ended a.head) (deal_of a.head) a.board xs 0 e (omega arith)) in
     record {
       few = omega arith;
       long = ap length are ∙ length-append (words fs) rest ∙ omega (arith, length-words fs, length-drop (0 + 3 * length fs) xs);

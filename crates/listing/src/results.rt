@@ -4,7 +4,7 @@ ghost use Rattle.share.specs.rules.Fills.{words};
 ghost use Rattle.trade.specs.rules.Trade.{traded};
 ghost use Rattle.fills.specs.rules.Fills.{has_ended, auction_fills};
 ghost use Rattle.listing.specs.rules.Listing.{fill_lines, end_lines};
-ghost use Rattle.listing.specs.inside.Code.{count_in, fills_in};
+ghost use Rattle.listing.specs.inside.Code.{fills_in};
 ghost use Rattle.words.specs.inside.Writing.{WroteBytes};
 
 use crate::lines::{put_end, put_fill, put_total};
@@ -12,17 +12,6 @@ use auction::Head;
 use base::wide;
 use board::Board;
 use fills::write_lent;
-use trade::Filled;
-
-// How many fills were written; none where they were refused.
-fn count_of(f: Filled) -> usize
-    ensures { result ≡ count_in f }
-{
-    match f {
-        Filled::Count(n) => n as usize,
-        Filled::Refused(_) => 0,
-    }
-}
 
 // A line for each of n fills, three words each.
 fn put_fills(out: &mut [u8], at: usize, words: &[u32], n: usize) -> usize
@@ -60,7 +49,7 @@ pub(crate) fn put_results(out: &mut [u8], at: usize, h: Head, b: &Board) -> usiz
     ensures { WroteBytes out.old at (end_lines (record { head = h; board = b.now })) result out.new }
 {
     let mut words = [0u32; 390];
-    let n = count_of(write_lent(h, b, &mut words, 0));
+    let n = write_lent(h, b, &mut words, 0).unwrap() as usize;
     let end = put_end(out, at, h);
     let w = put_fills(out, end, &words, n);
     put_total(out, w, sum_of(&words, n))

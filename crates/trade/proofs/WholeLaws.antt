@@ -1,13 +1,13 @@
 -- The market order, all the fills together, and the lent part.
 use mathlib.Core.Path.{◌≡◌, refl, sym, ap, ap₂, ◌∙◌}
-use mathlib.Core.Bool.{Bool, true, false, cond}
+use mathlib.Core.Bool.{Bool, true, false, cond, ◌&&◌}
 use mathlib.Core.List.{List, ◌++◌}
 use mathlib.Core.Logic.{◌≢◌, ⊎_elim}
 use Prim.Native.Nat.{ℕ, ◌+◌, ◌-◌, ◌*◌, ◌/◌, ◌^◌, ◌≤◌, ◌<◌, min, max}
 use native.Mathlib.Nat.{zero-add}
 use native.Mathlib.Omega.{arith}
 use borrow.Author.Tests.{eq-eqb, ne_eqb, eqb-true, eqb-false, le-leb, lt-leb}
-use lib.Dec.{eqb}
+use lib.Dec.{eqb, leb}
 use borrow.Rule.Slice.PartMut.{put_mid}
 use lib.ListN.{length, take, drop, length-drop}
 use lib.Seq.{drop-drop}
@@ -24,7 +24,8 @@ use Rattle.share.specs.rules.Fills.{Fill, fill_of, words}
 use Rattle.share.specs.inside.Fills.{written}
 use Rattle.share.proofs.FillsLaws.{written-words}
 use Rattle.trade.specs.declared.Deal.{Deal}
-use Rattle.trade.specs.declared.Filled.TheVariants.{Count, Refused}
+use Rattle.base.specs.declared.refusal.Refusal.TheVariants.{FewWords, AuctionOpen}
+use Rattle.std.specs.Prelude.{Ok, Err}
 use Rattle.trade.specs.rules.Trade.{offers, Level, flat, working_stop, top, next, guarantee_of, guarantee, market_price, market_takes, market_fill, levels, fills}
 use Rattle.trade.specs.rules.Write.{reported_price, reported, fills_of, roomy, fill_answer, fill_words}
 use Rattle.trade.specs.inside.Code.{least_of, market_by, walk_from}
@@ -112,24 +113,34 @@ words_back a xs ys fs h e =
 
 -- ---- the answers
 
+not-roomy : (xs : List ℕ) (start : ℕ) → length xs - start < 390 → roomy xs start ≡ false
+unfolding roomy
+not-roomy xs start h = go (leb start (length xs))
+  where
+    go : (a : Bool) → a && leb 390 (length xs - start) ≡ false
+    go true = lt-leb 390 (length xs - start) h
+    go false = refl
+
+is-roomy : (xs : List ℕ) (start : ℕ) → 390 ≤ length xs - start → roomy xs start ≡ true
+unfolding roomy
+is-roomy xs start h =
+    let s : start ≤ length xs = omega arith in
+    rw (le-leb start (length xs) s, le-leb 390 (length xs - start) h) refl
+
 module _ (ended : Bool) (d : Deal) (b : Board) (xs : List ℕ) (start : ℕ) where
-  pub not-ended : ended ≡ false → (Refused 40 ≡ fill_answer ended d b xs start) × (xs ≡ fill_words ended d b xs start)
+  pub not-ended : ended ≡ false → (Err AuctionOpen ≡ fill_answer ended d b xs start) × (xs ≡ fill_words ended d b xs start)
   unfolding fill_answer fill_words
   not-ended e = rw e (refl, refl)
 
-  pub start-past : ended ≡ true → length xs < start → (Refused 39 ≡ fill_answer ended d b xs start) × (xs ≡ fill_words ended d b xs start)
-  unfolding fill_answer fill_words roomy
-  start-past e h = rw (e, lt-leb start (length xs) h) (refl, refl)
+  pub too-short : ended ≡ true → length xs - start < 390 → (Err FewWords ≡ fill_answer ended d b xs start) × (xs ≡ fill_words ended d b xs start)
+  unfolding fill_answer fill_words
+  too-short e h = rw (e, not-roomy xs start h) (refl, refl)
 
-  pub too_short : ended ≡ true → start ≤ length xs → length xs - start < 390 → (Refused 39 ≡ fill_answer ended d b xs start) × (xs ≡ fill_words ended d b xs start)
-  unfolding fill_answer fill_words roomy
-  too_short e h k = rw (e, le-leb start (length xs) h, lt-leb 390 (length xs - start) k) (refl, refl)
+  pub counted : ended ≡ true → 390 ≤ length xs - start → (n : ℕ) → n ≡ length (fills_of d b) → Ok n ≡ fill_answer ended d b xs start
+  unfolding fill_answer
+  counted e h n f = rw (e, is-roomy xs start h, f)
 
-  pub counted : ended ≡ true → start ≤ length xs → 390 ≤ length xs - start → (n : ℕ) → n ≡ length (fills_of d b) → Count n ≡ fill_answer ended d b xs start
-  unfolding fill_answer roomy
-  counted e h k n f = rw (e, le-leb start (length xs) h, le-leb 390 (length xs - start) k, f)
-
-  pub words-after : ended ≡ true → start ≤ length xs → 390 ≤ length xs - start
+  pub words-after : ended ≡ true → 390 ≤ length xs - start
       → take start xs ++ (words (fills_of d b) ++ drop (start + 3 * length (fills_of d b)) xs) ≡ fill_words ended d b xs start
-  unfolding fill_words roomy
-  words-after e h k = rw (e, le-leb start (length xs) h, le-leb 390 (length xs - start) k)
+  unfolding fill_words
+  words-after e h = rw (e, is-roomy xs start h)

@@ -8,6 +8,7 @@ ghost use Rattle.share.specs.inside.Fills.{WroteFills};
 ghost use Rattle.trade.specs.rules.Write.{reported_price, fills_of, fill_answer, fill_words};
 ghost use Rattle.trade.specs.inside.Code.{market_by, priced_of, passed_of};
 
+use base::Refusal;
 use board::Board;
 use words::bits;
 
@@ -30,13 +31,6 @@ pub struct Deal {
     // the market order that ended the auction: its sequence, and its size (0 where none did)
     pub market: u32,
     pub selling: u32,
-}
-
-// How many fills were written, or the number of a refusal.
-#[derive(Clone, Copy)]
-pub enum Filled {
-    Count(u32),
-    Refused(u32),
 }
 
 // What stands at a price: the words of its Customers and of the others, their sizes, and the sequence of the last of each: 4,294,967,295 where their places do not stand in rising order of sequence.
@@ -305,8 +299,14 @@ fn live_of(b: Board) -> u64
 }
 
 // Writes the fills of an ended auction into the part of the lent words from `start` on, and counts them.
-// 40: it has not ended; 39: fewer than 390 words from the start place, or a start past the end. A refusal changes nothing.
-pub fn write_fills(ended: bool, d: Deal, b: Board, out: &mut [u32], start: usize) -> Filled
+// AuctionOpen: it has not ended; FewWords: fewer than 390 words from the start place, or a start past the end. A refusal changes nothing.
+pub fn write_fills(
+    ended: bool,
+    d: Deal,
+    b: Board,
+    out: &mut [u32],
+    start: usize,
+) -> Result<u32, Refusal>
     ensures value { result ≡ fill_answer ended d b out.old start }
     ensures out_after { out.new ≡ fill_words ended d b out.old start }
 {
@@ -314,21 +314,23 @@ pub fn write_fills(ended: bool, d: Deal, b: Board, out: &mut [u32], start: usize
 }
 
 // The same of a board that is lent, so that none is copied.
-pub fn write_lent(ended: bool, d: Deal, b: &Board, out: &mut [u32], start: usize) -> Filled
+pub fn write_lent(
+    ended: bool,
+    d: Deal,
+    b: &Board,
+    out: &mut [u32],
+    start: usize,
+) -> Result<u32, Refusal>
     ensures value { result ≡ fill_answer ended d b.now out.old start }
     ensures out_after { out.new ≡ fill_words ended d b.now out.old start }
 {
     if !ended {
-        return Filled::Refused(40);
+        return Err(Refusal::AuctionOpen);
     }
-    let n = out.len();
-    if n < start {
-        return Filled::Refused(39);
-    }
-    if n - start < 390 {
-        return Filled::Refused(39);
+    if out.len().saturating_sub(start) < 390 {
+        return Err(Refusal::FewWords);
     }
     let _live = live_of(*b);
     let words = write_all(d, b, &mut out[start..]);
-    Filled::Count((words / 3) as u32)
+    Ok((words / 3) as u32)
 }

@@ -1,8 +1,8 @@
 -- The fills of an auction that has ended.
-use Rattle.std.specs.Prelude.{Bool, not, List, ℕ}
+use Rattle.std.specs.Prelude.{Bool, not, List, ℕ, Result}
 use Rattle.share.specs.rules.Fills.{Fill}
 use Rattle.trade.specs.declared.Deal.{Deal}
-use Rattle.trade.specs.declared.Filled.{Filled}
+use Rattle.base.specs.declared.refusal.Refusal.{Refusal}
 use Rattle.trade.specs.rules.Write.{fills_of, fill_answer, fill_words}
 use Rattle.auction.specs.rules.Range.{is_open, bound_now}
 use Rattle.auction.specs.declared.Auction.{Auction}
@@ -29,8 +29,8 @@ deal_of h =
 abbrev pub auction_fills : Auction → List Fill
 auction_fills a = fills_of (deal_of a.head) a.board
 
--- 40 before the ending, then 39, then the number of fills; and the words
-abbrev pub fills_answer : Auction → List ℕ → ℕ → Filled
+-- 40 before the ending, then 39, else the number of fills; and the words
+abbrev pub fills_answer : Auction → List ℕ → ℕ → Result ℕ Refusal
 fills_answer a xs start = fill_answer (has_ended a.head) (deal_of a.head) a.board xs start
 
 abbrev pub fills_after : Auction → List ℕ → ℕ → List ℕ

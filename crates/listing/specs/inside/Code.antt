@@ -2,8 +2,6 @@
 use Rattle.std.specs.Prelude.{◌≡◌, List, [], ◌∷◌, ℕ, zero, suc, length, get_or, drop}
 use Rattle.std.proofs.lemmas.List.Edits.{sets}
 use Rattle.share.specs.rules.Fills.{Fill, fill}
-use Rattle.trade.specs.declared.Filled.{Filled}
-use Rattle.trade.specs.declared.Filled.TheVariants.{Count, Refused as NoFills}
 use Rattle.listing.specs.declared.Listed.{Listed}
 use Rattle.run.specs.rules.Run.{Run}
 use Rattle.listing.specs.rules.Listing.{lines_of, answer_of}
@@ -19,8 +17,3 @@ pub record Lists (run : Run) (xs : List ℕ) (r : Listed) (ys : List ℕ) : Type
 unfoldable pub fills_in : ℕ → List ℕ → List Fill
 fills_in zero ws = []
 fills_in (suc n) ws = fill (get_or ws 0 0) (get_or ws 1 0) (get_or ws 2 0) ∷ fills_in n (drop 3 ws)
-
--- how many were written; none where they were refused
-abbrev pub count_in : Filled → ℕ
-count_in (Count n) = n
-count_in (NoFills n) = 0

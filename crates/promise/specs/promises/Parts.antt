@@ -40,7 +40,7 @@ use Rattle.run.specs.promises.Demands.{Within, Trades, Names, InTime}
 use Rattle.listing.specs.rules.Text.{text, newline}
 use Rattle.listing.specs.rules.Watch.{watch_line, watch_lines}
 use Rattle.listing.specs.rules.Listing.{field, answer_text, event_text, end_text, refused_line, auction_line, event_lines, end_lines, listing_of, room_of, listed_of, length_in, bytes_of}
-use Rattle.promise.specs.rules.Answers.{Accepts, no, yes, opened_is, order_is, event_is, trailer_is, written_is, entry_is, answer_is, ending_is, filled_is, moved_is, firm_is, run_is, listed_is}
+use Rattle.promise.specs.rules.Answers.{Accepts, no, yes, paper_of, opened_is, order_is, event_is, trailer_is, written_is, entry_is, answer_is, ending_is, moved_is, firm_is, run_is, listed_is}
 use Rattle.promise.specs.rules.Tapes.{Carries}
 use Rattle.promise.specs.rules.Sides.{is_sell, other_side, better, got_better, sent, responses, taken_records, at_end, range_at_end, written_fills, live_at_end, market_order, working_price, others_at_price, guarantee_at_end, plan_at_price, left_to_others_at_price, sent_by, sent_instead, initiating_price, takes_place, standing_of, has_named, given_size, given_price}
 
@@ -70,11 +70,11 @@ pub record Roomed (s out : List ℕ) : Type 0 where
 -- the fills of an auction, into words from a start place
 pub record Filling (a : Auction) (xs : List ℕ) (start : ℕ) : Type 0 where
   -- 40 before the ending, then 39 for fewer than 390 words from the start place: every word stays
-  pub early : is_open a.head.ending ≡ true → (filled_is (fills_answer a xs start) ≡ no 40) × (fills_after a xs start ≡ xs)
-  pub small : is_open a.head.ending ≡ false → length xs < start + 390 → (filled_is (fills_answer a xs start) ≡ no 39) × (fills_after a xs start ≡ xs)
+  pub early : is_open a.head.ending ≡ true → (paper_of (fills_answer a xs start) ≡ no 40) × (fills_after a xs start ≡ xs)
+  pub small : is_open a.head.ending ≡ false → length xs < start + 390 → (paper_of (fills_answer a xs start) ≡ no 39) × (fills_after a xs start ≡ xs)
   -- else their number, and their words from the start place on; all other words stay, and there is room for all
   pub counted : is_open a.head.ending ≡ false → start + 390 ≤ length xs
-      → (filled_is (fills_answer a xs start) ≡ yes (length (auction_fills a))) × (fills_after a xs start ≡ take start xs ++ (words (auction_fills a) ++ drop (start + 3 * length (auction_fills a)) xs))
+      → (paper_of (fills_answer a xs start) ≡ yes (length (auction_fills a))) × (fills_after a xs start ≡ take start xs ++ (words (auction_fills a) ++ drop (start + 3 * length (auction_fills a)) xs))
   pub room : Good a.board → 3 * length (auction_fills a) ≤ 390
 
 -- the records' readers and writers: 24 first, or last; and the record's own number

@@ -1,6 +1,8 @@
 -- What documents 01 and 02 have for each case of each answer: a number for "no", or what is answered.
-use Rattle.std.specs.Prelude.{◌≡◌, Bool, true, false, List, [], ◌∷◌, ℕ}
+use Rattle.std.specs.Prelude.{◌≡◌, Bool, true, false, List, [], ◌∷◌, ℕ, Result, Ok, Err}
 use Prim.Native.String.{String}
+use Rattle.base.specs.declared.refusal.Refusal.{Refusal}
+use Rattle.base.specs.Refusal.{number_of}
 use Rattle.tape.specs.declared.Written.{Written}
 use Rattle.tape.specs.declared.Written.TheVariants.{Done, Refused as NotWritten}
 use Rattle.tape.specs.declared.order.Order.{Order}
@@ -25,8 +27,6 @@ use Rattle.moving.specs.declared.Moved.{Moved}
 use Rattle.moving.specs.declared.Moved.TheVariants.{Length, Refused as NotMoved}
 use Rattle.events.specs.declared.Answer.{Answer}
 use Rattle.events.specs.declared.Answer.TheVariants.{Taken, Ended, Late, Refused as NotTaken}
-use Rattle.trade.specs.declared.Filled.{Filled}
-use Rattle.trade.specs.declared.Filled.TheVariants.{Count, Refused as NotFilled}
 use Rattle.run.specs.rules.Run.{Run, refused, ended}
 use Rattle.listing.specs.declared.Listed.{Listed}
 use Rattle.listing.specs.declared.Listed.TheVariants.{Refused as NoAuction, Ended as Auctioned}
@@ -39,6 +39,11 @@ pub data Paper (A : Type 0) : Type 0 where
 abbrev pub is_no : {A : Type 0} → Paper A → Bool
 is_no (no n) = true
 is_no (yes a) = false
+
+-- an answer that is a result: what goes with it, or the refusal's number
+abbrev pub paper_of : {A : Type 0} → Result A Refusal → Paper A
+paper_of (Ok a) = yes a
+paper_of (Err r) = no (number_of r)
 
 -- an opened tape: 21, 22, 23; where the order stands, how many events there are, and of which form
 abbrev pub opened_is : Opened → Paper Trailer
@@ -86,11 +91,6 @@ ending_is Time = "time"
 ending_is Same = "same"
 ending_is Opposite = "opposite"
 ending_is Improve = "improve"
-
--- fills: 40, then 39, or how many there are
-abbrev pub filled_is : Filled → Paper ℕ
-filled_is (Count n) = yes n
-filled_is (NotFilled n) = no n
 
 -- a tape that is moved: 21, 22, 23, 25, 26, then 24, or the length of the moved tape
 abbrev pub moved_is : Moved → Paper ℕ

@@ -2,7 +2,7 @@ use mathlib.Core.Path.{◌∙◌}
 use Prim.Native.Nat.{◌-◌, ◌≤◌}
 use native.Mathlib.Omega.{arith}
 use lib.ListN.{length}
-use Rattle.trade.proofs.WholeLaws.{fills-few, words_back, not-ended, start-past, too_short, counted, words-after}
+use Rattle.trade.proofs.WholeLaws.{fills-few, words_back, not-ended, too-short, counted, words-after}
 use Rattle.trade.specs.rules.Write.{fills_of}
 use Rattle.trade.proofs.write_lent.Goals as goal
 
@@ -11,14 +11,9 @@ returns-then-not-ended c =
     let both = let a = c.args in not-ended a.ended a.d a.b.now a.out.now a.start c.if-not-ended.true in
     record { value = both.0; out_after = both.1 }
 
-pub returns-then-n-start : goal.returns-then-n-start
-returns-then-n-start c =
-    let both = let a = c.args in start-past a.ended a.d a.b.now a.out.now a.start c.if-not-ended.false c.if-n-start.true in
-    record { value = both.0; out_after = both.1 }
-
-pub returns-then-n-start-lt390 : goal.returns-then-n-start-lt390
-returns-then-n-start-lt390 c =
-    let both = let a = c.args in too_short a.ended a.d a.b.now a.out.now a.start c.if-not-ended.false c.if-n-start.false c.if-n-start-lt390.true in
+pub returns-then-saturating_sub-lt390 : goal.returns-then-saturating_sub-lt390
+returns-then-saturating_sub-lt390 c =
+    let both = let a = c.args in too-short a.ended a.d a.b.now a.out.now a.start c.if-not-ended.false (omega arith) in
     record { value = both.0; out_after = both.1 }
 
 pub overflow_cast-result : goal.overflow_cast-result
@@ -31,9 +26,8 @@ returns c =
     let a = c.args in
     let w = c.write_all-words in
     let e = c.if-not-ended.false in
-    let h : a.start ≤ length a.out.now = c.if-n-start.false in
-    let k : 390 ≤ length a.out.now - a.start = c.if-n-start-lt390.false in record {
-      value = counted a.ended a.d a.b.now a.out.now a.start e h k _ (omega (arith, w.ensures.place));
+    let k : 390 ≤ length a.out.now - a.start = omega arith in record {
+      value = counted a.ended a.d a.b.now a.out.now a.start e k _ (omega (arith, w.ensures.place));
       out_after = words_back a.start a.out.now w.new.out (fills_of a.d a.b.now) (omega (arith, fills-few a.d a.b.now c.live_of-live.ensures.1)) w.ensures.words
-          ∙ words-after a.ended a.d a.b.now a.out.now a.start e h k;
+          ∙ words-after a.ended a.d a.b.now a.out.now a.start e k;
     }

@@ -1,11 +1,11 @@
 -- What the fill writer answers, and the words after it.
-use Rattle.std.specs.Prelude.{Bool, cond, ◌&&◌, List, [], ◌∷◌, ◌++◌, ℕ, ◌+◌, ◌-◌, ◌*◌, leb, length, take, drop}
+use Rattle.std.specs.Prelude.{Result, Ok, Err, Bool, cond, ◌&&◌, List, [], ◌∷◌, ◌++◌, ℕ, ◌+◌, ◌-◌, ◌*◌, leb, length, take, drop}
 use Rattle.base.specs.Price.{mirrored}
+use Rattle.base.specs.declared.refusal.Refusal.{Refusal}
+use Rattle.base.specs.declared.refusal.Refusal.TheVariants.{FewWords, AuctionOpen}
 use Rattle.board.specs.declared.Board.{Board}
 use Rattle.share.specs.rules.Fills.{Fill, fill, words}
 use Rattle.trade.specs.declared.Deal.{Deal}
-use Rattle.trade.specs.declared.Filled.{Filled}
-use Rattle.trade.specs.declared.Filled.TheVariants.{Count, Refused}
 use Rattle.trade.specs.rules.Trade.{offers, fills}
 
 -- a sell's prices are mirrored back
@@ -24,8 +24,8 @@ fills_of d b = reported d.sell (fills d (offers b))
 unfoldable pub roomy : List ℕ → ℕ → Bool
 roomy xs start = leb start (length xs) && leb 390 (length xs - start)
 
-unfoldable pub fill_answer : Bool → Deal → Board → List ℕ → ℕ → Filled
-fill_answer ended d b xs start = cond ended (cond (roomy xs start) (Count (length (fills_of d b))) (Refused 39)) (Refused 40)
+unfoldable pub fill_answer : Bool → Deal → Board → List ℕ → ℕ → Result ℕ Refusal
+fill_answer ended d b xs start = cond ended (cond (roomy xs start) (Ok (length (fills_of d b))) (Err FewWords)) (Err AuctionOpen)
 
 -- the fills' words from the start place on; all other words stay
 unfoldable pub fill_words : Bool → Deal → Board → List ℕ → ℕ → List ℕ
