@@ -1,97 +1,92 @@
-// A tape's bytes from an open file, and whether every read went well. What a file holds no contract can say.
+// A tape's bytes from an open file or by its name, and why the system would not give them. What a file holds no contract can say.
 
 #![tactic(auto)]
 
-ghost use Rattle.std.specs.Prelude.{◌≡◌, ◌≤◌, IfErr};
+ghost use Rattle.std.specs.Prelude.{◌≡◌, ◌≤◌, IfOk, MatchResult};
 ghost use Rattle.io.specs.Counts.{IsPrefixLen};
 
 use std::fmt::InlineText;
 use std::io::Read;
 use std::rt::Files;
-use std::{fs, io};
+use std::{fmt, fs, io};
 
 // One byte more than a tape may have, so that a longer input is refused.
 pub const MOST: usize = 65537;
 
-// What was read: `length` bytes, all that there were if `whole`; else a read failed, and `error` is the system's number for why.
-#[derive(Clone, Copy)]
-pub struct Contents {
-    pub whole: bool,
-    pub length: usize,
-    pub error: u64,
-}
-
-// A number of the system's, and 0 for one below it.
-fn number(e: i32) -> u64 {
-    if e > 0 { e as u64 } else { 0 }
-}
-
-// The system's number for why a call failed. Which one no contract can say; the system's are 1 to 4,095, and any other is 0 here.
-pub fn last_error(error: &io::Error) -> u64
-    ensures { result ≤ 4095 }
-{
-    let n = number(error.raw_os_error().unwrap_or(0));
-    if n <= 4095 {
-        return n;
-    }
-    0
-}
-
-// What a read that moved nothing says: the input's end.
-fn ended(n: usize) -> Contents
-    ensures { result.length ≡ n }
-{
-    Contents {
-        whole: true,
-        length: n,
-        error: 0,
-    }
-}
-
-// What a read that failed says.
-fn stopped(error: &io::Error, n: usize) -> Contents
-    ensures { result.length ≡ n }
-{
-    Contents {
-        whole: false,
-        length: n,
-        error: last_error(error),
-    }
-}
-
-// The file's bytes into lent bytes, as far as they go.
-pub fn read_tape<R: Read>(from: &mut R, tape: &mut [u8]) -> Contents
-    ensures { IsPrefixLen result.length tape.new }
-{
-    let mut n = 0;
-    while n < tape.len() {
-        match from.read(&mut tape[n..]) {
-            Ok(more) => {
-                if more == 0 {
-                    return ended(n);
-                }
-                n += more;
-            }
-            Err(error) => return stopped(&error, n),
-        }
-    }
-    ended(n)
+// Why a call failed: the system's number, 1 to 4,095, and 0 for any other. Which one no contract can say. It is printed as the system's words.
+#[derive(Clone, Copy, Debug, PartialEq, Eq)]
+pub struct SystemError {
+    pub number: u16,
+    pub ghost of_the_system: { number ≤ 4095 },
 }
 
 // The system's numbers for a name that no file can have: one with a zero byte, one that is too long, and, since std's names are text, one that is not UTF-8.
-const INVALID: u64 = 22;
+const INVALID: SystemError = SystemError { number: 22 };
 
-const TOO_LONG: u64 = 36;
+const TOO_LONG: SystemError = SystemError { number: 36 };
 
-const NOT_TEXT: u64 = 84;
+const NOT_TEXT: SystemError = SystemError { number: 84 };
+
+impl From<io::Error> for SystemError {
+    fn from(error: io::Error) -> SystemError {
+        let code = error.raw_os_error().unwrap_or(0);
+        match u16::try_from(code) {
+            Ok(number) if number <= 4095 => SystemError { number },
+            _ => SystemError { number: 0 },
+        }
+    }
+}
+
+// Without what std adds to the system's words, as in `Broken pipe (os error 32)`.
+impl fmt::Display for SystemError {
+    fn fmt<W: fmt::Write>(&self, f: &mut fmt::Formatter<W>) -> fmt::Result {
+        let error = io::Error::from_raw_os_error(i32::from(self.number));
+        let text = InlineText::<256>::of(error);
+        match text.as_str().split_once(" (os error ") {
+            Some((words, _)) => f.write_str(words),
+            None => f.write_str(text.as_str()),
+        }
+    }
+}
+
+// A read that failed: how many bytes came before it, and why.
+#[derive(Clone, Copy, Debug, PartialEq, Eq)]
+pub struct Stopped {
+    pub length: usize,
+    pub error: SystemError,
+}
+
+impl From<Stopped> for SystemError {
+    ghost from_gives = { λ stopped error. error ≡ stopped.error };
+
+    fn from(stopped: Stopped) -> SystemError {
+        stopped.error
+    }
+}
+
+// The file's bytes into lent bytes, as far as they go; how many came, on a failure too.
+pub fn read_tape<R: Read>(from: &mut R, tape: &mut [u8]) -> Result<usize, Stopped>
+    ensures { MatchResult result (λ n. IsPrefixLen n tape.new) (λ stopped. IsPrefixLen stopped.length tape.new) }
+{
+    let mut length = 0;
+    while length < tape.len() {
+        match from.read(&mut tape[length..]) {
+            Ok(0) => break,
+            Ok(more) => length += more,
+            Err(error) => {
+                let error = SystemError::from(error);
+                return Err(Stopped { length, error });
+            }
+        }
+    }
+    Ok(length)
+}
 
 // A name of so many bytes, or more, is too long.
 const PATH_MAX: usize = 4096;
 
-// Opens the file of a name for reading, or says the system's number for why it can't be opened.
-pub fn open<R: Files>(rt: &R, name: &[u8]) -> Result<R::File, u64>
-    ensures { IfErr result (λ error. error ≤ 4095) }
-{
+// Opens the file of a name for reading, or says why it can't be opened.
+pub fn open<R: Files>(rt: &R, name: &[u8]) -> Result<R::File, SystemError> {
     if name.len() >= PATH_MAX {
         return Err(TOO_LONG);
     }
@@ -101,24 +96,18 @@ pub fn open<R: Files>(rt: &R, name: &[u8]) -> Result<R::File, u64>
     let Ok(text) = str::from_utf8(name) else {
         return Err(NOT_TEXT);
     };
-    match fs::open(rt, text) {
-        Ok(file) => Ok(file),
-        Err(error) => Err(last_error(&error)),
-    }
+    Ok(fs::open(rt, text)?)
 }
 
-// The system's words for a number, out of the text in which std names it.
-fn words(text: &str) -> &str {
-    match text.split_once(" (os error ") {
-        Some((words, _)) => words,
-        None => text,
-    }
+// The bytes of the file of a name into lent bytes, as far as they go; how many came.
+pub fn read_file<R: Files>(rt: &R, name: &[u8], tape: &mut [u8]) -> Result<usize, SystemError>
+    ensures { IfOk result (λ n. IsPrefixLen n tape.new) }
+{
+    let mut file = open(rt, name)?;
+    Ok(read_tape(&mut file, tape)?)
 }
 
-// A line on standard error: what failed, and the system's words for its number. Where that line can't be written, nothing says so.
-pub fn fail<R: Eprint>(rt: &R, what: &str, error: u64) {
-    let code = i32::try_from(error).unwrap_or(0);
-    let text = InlineText::<256>::of(io::Error::from_raw_os_error(code));
-    let words = words(text.as_str());
-    let _ = eprintln!(rt; "{what}: {words}");
+// A line on standard error: what failed, and why. Where that line can't be written, nothing says so.
+pub fn fail<R: Eprint>(rt: &R, what: &str, error: SystemError) {
+    let _ = eprintln!(rt; "{what}: {error}");
 }

@@ -2,24 +2,12 @@
 
 #![tactic(auto)]
 
-ghost use Rattle.std.specs.Prelude.{◌≡◌, length};
+ghost use Rattle.std.specs.Prelude.{◌≡◌};
 ghost use Rattle.io.specs.Counts.{IsPrefixLen};
 ghost use Rattle.listing.specs.rules.Listing.{length_in, listed_of, bytes_of};
 
-use input::MOST;
+use input::{MOST, SystemError};
 use listing::ROOM;
-
-fn tape_buffer() -> [u8; MOST]
-    ensures { 65537 ≡ length result }
-{
-    [0; MOST]
-}
-
-fn listing_buffer() -> [u8; ROOM]
-    ensures { 131072 ≡ length result }
-{
-    [0; ROOM]
-}
 
 // What stands between reading and writing: the tape's listing at the start of the lent bytes, and its length.
 fn answer(tape: &[u8], out: &mut [u8]) -> usize
@@ -30,21 +18,15 @@ fn answer(tape: &[u8], out: &mut [u8]) -> usize
     listing::length_of(listing::listing(tape, out))
 }
 
-fn show<R: Print + Eprint>(rt: &R, tape: &[u8], out: &mut [u8]) {
-    let n = answer(tape, out);
-    if let Err(error) = rt.write_all(&out[..n]) {
-        input::fail(rt, "runner: standard output", input::last_error(&error));
-    }
-}
-
 fn main(rt: HostRuntime) {
-    let mut tape = tape_buffer();
-    let mut out = listing_buffer();
-    let c = input::read_tape(&mut rt.stdin(), &mut tape);
-    if !c.whole {
-        input::fail(&rt, "runner: standard input", c.error);
-        return;
+    let mut tape = [0u8; MOST];
+    let mut out = [0u8; ROOM];
+    let tape = match input::read_tape(&mut rt.stdin(), &mut tape) {
+        Ok(n) => &tape[..n],
+        Err(stopped) => return input::fail(&rt, "runner: standard input", stopped.error),
+    };
+    let n = answer(tape, &mut out);
+    if let Err(error) = rt.write_all(&out[..n]) {
+        input::fail(&rt, "runner: standard output", SystemError::from(error));
     }
-    let n = c.length;
-    show(&rt, &tape[..n], &mut out);
 }
