@@ -9,7 +9,7 @@ use lib.ListN.{length, drop}
 use borrow.Author.Tests.{ltb-false, le-ltb, eqb-true, eq-eqb}
 use Rattle.std.specs.Prelude.{Result, Ok, Err}
 use Rattle.base.specs.declared.refusal.Refusal.{Refusal}
-use Rattle.base.specs.declared.refusal.Refusal.TheVariants.{TapeLength, LengthsDisagree, RoomTooShort, EventOutOfForm}
+use Rattle.base.specs.declared.refusal.Refusal.TheVariants.{TapeLength, LengthsDisagree, EventOutOfForm}
 use Rattle.words.specs.rules.Bytes.{word_at}
 use Rattle.tape.specs.declared.event.Event.{Event}
 use Rattle.tape.specs.declared.trailer.Trailer.{Trailer}
@@ -20,18 +20,21 @@ use Rattle.tape.specs.promises.Holds.{Holds, Recorded}
 use Rattle.base.proofs.Bools.{and_left, and_right, and_both, or_right}
 use Rattle.tape.proofs.RecordLaws.{next_place}
 
--- ---- an event that is read
+-- ---- a value that is read
 
-took : (a b : Bool) (x e : Event) → cond a (Err RoomTooShort) (cond b (Ok x) (Err EventOutOfForm)) ≡ Ok e → (a ≡ false) × (b ≡ true) × (x ≡ e)
-took true b x e h = (cc, cc, cc)
-took false true x e h = (refl, refl, cc)
-took false false x e h = (cc, cc, cc)
+-- the tests that led to it
+pub took : {A : Type 0} (r q : Refusal) (a b : Bool) (x y : A) → cond a (Err r) (cond b (Ok x) (Err q)) ≡ Ok y → (a ≡ false) × (b ≡ true) × (x ≡ y)
+took r q true b x y h = (cc, cc, cc)
+took r q false true x y h = (refl, refl, cc)
+took r q false false x y h = (cc, cc, cc)
+
+-- ---- an event that is read
 
 -- the tests that led to it
 module _ (wide : Bool) (s : List ℕ) (e : Event) where
   pub event-took : read_event wide s ≡ Ok e → (ltb (length s) (width_of wide) ≡ false) × ((event_spare wide s && event_formed (event_of wide s)) ≡ true) × (event_of wide s ≡ e)
   unfolding read_event
-  event-took h = took (ltb (length s) (width_of wide)) (event_spare wide s && event_formed (event_of wide s)) (event_of wide s) e h
+  event-took h = took _ _ (ltb (length s) (width_of wide)) (event_spare wide s && event_formed (event_of wide s)) (event_of wide s) e h
 
   event-formed : read_event wide s ≡ Ok e → event_formed e ≡ true
   event-formed h = let t = event-took h in ap event_formed (sym t.2) ∙ and_right (event_spare wide s) (event_formed (event_of wide s)) t.1
