@@ -21,10 +21,9 @@ use board::{Board, Response};
 use input::{Contents, MOST};
 use listing::watch;
 use listing::watch::LINES;
-use moving::Moved;
 use std::env::Env;
 use std::io::Read;
-use tape::{Event, ORDER_BYTES, Opened, Order, ReadOrder, Trailer, event_bytes};
+use tape::{Event, ORDER_BYTES, Order, Trailer, event_bytes};
 use trade::Filled;
 
 fn tape_buffer() -> [u8; MOST]
@@ -379,15 +378,15 @@ fn serve_opened(
     out: &mut [u8],
 ) -> bool {
     match tape::order_in(tape, t) {
-        ReadOrder::Order(o) => serve_order(rt, look, tape, t, o, out),
-        ReadOrder::Refused(number) => show_refused(rt, number, out),
+        Ok(o) => serve_order(rt, look, tape, t, o, out),
+        Err(refusal) => show_refused(rt, refusal.number(), out),
     }
 }
 
 fn serve_bytes(rt: &(impl Print + Eprint), look: Look, tape: &[u8], out: &mut [u8]) -> bool {
     match tape::open_tape(tape) {
-        Opened::Tape(t) => serve_opened(rt, look, tape, t, out),
-        Opened::Refused(number) => show_refused(rt, number, out),
+        Ok(t) => serve_opened(rt, look, tape, t, out),
+        Err(refusal) => show_refused(rt, refusal.number(), out),
     }
 }
 
@@ -406,10 +405,10 @@ fn serve_tape(rt: &(impl Print + Eprint), stdin: &mut impl Read, look: Look, out
 
 fn move_bytes(rt: &(impl Print + Eprint), wide: bool, tape: &[u8], out: &mut [u8]) {
     match moving::move_tape(wide, tape, out) {
-        Moved::Length(n) => {
+        Ok(n) => {
             print_start(rt, out, n as usize);
         }
-        Moved::Refused(number) => say_refused(rt, number),
+        Err(refusal) => say_refused(rt, refusal.number()),
     }
 }
 
@@ -560,9 +559,9 @@ fn live(rt: &(impl Print + Eprint), stdin: &mut impl Read, wide: bool, out: &mut
         say(rt, "desk: standard input ended inside the order record\n");
     }
     match tape::read_order(&order[..n]) {
-        ReadOrder::Order(o) => live_order(rt, stdin, wide, o, out),
-        ReadOrder::Refused(number) => {
-            show_refused(rt, number, out);
+        Ok(o) => live_order(rt, stdin, wide, o, out),
+        Err(refusal) => {
+            show_refused(rt, refusal.number(), out);
         }
     }
 }
