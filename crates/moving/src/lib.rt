@@ -121,6 +121,7 @@ fn put_tape(wide: bool, t: Trailer, s: &[u8], out: &mut [u8])
     let first = (t.order as usize) + ORDER_BYTES;
     let start = put_bytes(out, 0, &s[..first]);
     let end = put_records(wide, t, s, out, start);
+    // Its 16 bytes are there, so nothing is refused.
     let _ = tape::write_trailer(moved_trailer(wide, t), &mut out[end..]);
 }
 
