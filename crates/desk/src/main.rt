@@ -21,10 +21,10 @@ use board::{Board, Response};
 use input::{Contents, MOST};
 use listing::watch;
 use listing::watch::LINES;
-use moving::Moved;
 use std::env::Env;
 use std::io::Read;
-use tape::{Event, ORDER_BYTES, Opened, Order, ReadOrder, Trailer, event_bytes};
+use tape::{Event, ORDER_BYTES, Order, Trailer, event_bytes};
+use trade::Filled;
 
 fn tape_buffer() -> [u8; MOST]
     ensures { 65537 ≡ length result }
@@ -300,6 +300,15 @@ fn print_firms(rt: &(impl Print + Eprint), a: Auction, words: &[u32], n: u32) ->
     true
 }
 
+fn print_filled(rt: &(impl Print + Eprint), a: Auction, words: &[u32], f: Filled) -> bool
+    requires { 390 ≤ length words.now }
+{
+    match f {
+        Filled::Count(n) => print_firms(rt, a, words, n),
+        Filled::Refused(_) => true,
+    }
+}
+
 // The auction after its events, closed by hand where it is open still.
 fn closed(tape: &[u8], t: Trailer, opened: Auction) -> Auction {
     let mut a = opened;
@@ -315,10 +324,8 @@ fn closed(tape: &[u8], t: Trailer, opened: Auction) -> Auction {
 fn firms_auction(rt: &(impl Print + Eprint), tape: &[u8], t: Trailer, opened: Auction) -> bool {
     let a = closed(tape, t, opened);
     let mut words = fills_buffer();
-    match fills::write_fills(a, &mut words, 0) {
-        Ok(n) => print_firms(rt, a, &words, n),
-        Err(_) => true,
-    }
+    let f = fills::write_fills(a, &mut words, 0);
+    print_filled(rt, a, &words, f)
 }
 
 // ---- what is looked at
@@ -371,15 +378,15 @@ fn serve_opened(
     out: &mut [u8],
 ) -> bool {
     match tape::order_in(tape, t) {
-        ReadOrder::Order(o) => serve_order(rt, look, tape, t, o, out),
-        ReadOrder::Refused(number) => show_refused(rt, number, out),
+        Ok(o) => serve_order(rt, look, tape, t, o, out),
+        Err(refusal) => show_refused(rt, refusal.number(), out),
     }
 }
 
 fn serve_bytes(rt: &(impl Print + Eprint), look: Look, tape: &[u8], out: &mut [u8]) -> bool {
     match tape::open_tape(tape) {
-        Opened::Tape(t) => serve_opened(rt, look, tape, t, out),
-        Opened::Refused(number) => show_refused(rt, number, out),
+        Ok(t) => serve_opened(rt, look, tape, t, out),
+        Err(refusal) => show_refused(rt, refusal.number(), out),
     }
 }
 
@@ -398,10 +405,10 @@ fn serve_tape(rt: &(impl Print + Eprint), stdin: &mut impl Read, look: Look, out
 
 fn move_bytes(rt: &(impl Print + Eprint), wide: bool, tape: &[u8], out: &mut [u8]) {
     match moving::move_tape(wide, tape, out) {
-        Moved::Length(n) => {
+        Ok(n) => {
             print_start(rt, out, n as usize);
         }
-        Moved::Refused(number) => say_refused(rt, number),
+        Err(refusal) => say_refused(rt, refusal.number()),
     }
 }
 
@@ -552,9 +559,9 @@ fn live(rt: &(impl Print + Eprint), stdin: &mut impl Read, wide: bool, out: &mut
         say(rt, "desk: standard input ended inside the order record\n");
     }
     match tape::read_order(&order[..n]) {
-        ReadOrder::Order(o) => live_order(rt, stdin, wide, o, out),
-        ReadOrder::Refused(number) => {
-            show_refused(rt, number, out);
+        Ok(o) => live_order(rt, stdin, wide, o, out),
+        Err(refusal) => {
+            show_refused(rt, refusal.number(), out);
         }
     }
 }

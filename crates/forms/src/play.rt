@@ -11,8 +11,7 @@ use crate::seen::is_right;
 use auction::{Auction, Entry};
 use base::wide;
 use events::Stepped;
-use reader::Current;
-use tape::{Event, Opened, Order, ReadOrder, Trailer};
+use tape::{Event, Order, Trailer};
 
 // A cancel that its numbers tell whole.
 fn is_cancel(e: Event) -> bool
@@ -65,7 +64,7 @@ fn play_events(rt: &impl Print, bytes: &[u8], t: Trailer, a: Auction) -> Heard {
     let mut place = 0;
     let mut current = reader::tape_event(bytes, t, place);
     loop {
-        let Current::Event(e) = current else {
+        let Some(e) = current else {
             return Heard {
                 right: true,
                 auction: last,
@@ -111,15 +110,15 @@ fn play_order(rt: &impl Print, bytes: &[u8], t: Trailer, o: Order) -> bool {
 
 fn play_opened(rt: &impl Print, bytes: &[u8], t: Trailer) -> bool {
     match reader::tape_order(bytes, t) {
-        ReadOrder::Order(o) => play_order(rt, bytes, t, o),
-        ReadOrder::Refused(number) => play_refused(rt, number),
+        Ok(o) => play_order(rt, bytes, t, o),
+        Err(refusal) => play_refused(rt, refusal.number()),
     }
 }
 
 // The listing of a tape; whether nothing was wrong.
 pub(crate) fn play_tape(rt: &impl Print, bytes: &[u8]) -> bool {
     match tape::open_tape(bytes) {
-        Opened::Tape(t) => play_opened(rt, bytes, t),
-        Opened::Refused(number) => play_refused(rt, number),
+        Ok(t) => play_opened(rt, bytes, t),
+        Err(refusal) => play_refused(rt, refusal.number()),
     }
 }

@@ -7,15 +7,15 @@ use Prim.Native.String.{String}
 use native.Mathlib.Omega.{arith}
 use lib.Dec.{eqb, ltb}
 use lib.ListN.{length, length-append, length-set}
+use Rattle.std.specs.Prelude.{Result, Ok, Err}
+use Rattle.base.specs.Refusal.{number_of}
+use Rattle.base.specs.declared.refusal.Refusal.{Refusal}
 use Rattle.board.specs.declared.Board.{Board}
 use Rattle.board.specs.rules.Board.{empty_board, seated_at}
 use Rattle.share.specs.rules.Fills.{Fill}
 use Rattle.tape.specs.declared.event.Event.{Event}
 use Rattle.tape.specs.declared.order.Order.{Order}
-use Rattle.tape.specs.declared.trailer.Opened.{Opened}
-use Rattle.tape.specs.declared.trailer.Opened.TheVariants.{Tape, Refused as NoTape}
-use Rattle.tape.specs.declared.order.ReadOrder.{ReadOrder}
-use Rattle.tape.specs.declared.order.ReadOrder.TheVariants.{Order as GotOrder, Refused as NoOrder}
+use Rattle.tape.specs.declared.trailer.Trailer.{Trailer}
 use Rattle.tape.specs.rules.Tape.{open_tape, order_in, records_of}
 use Rattle.tape.proofs.HoldsLaws.{records-length}
 use Rattle.trade.specs.rules.Trade.{traded}
@@ -189,13 +189,13 @@ entry-short es a Accepted h p =
       end-lines-short last (closed-kept (run a es) ∙ run-kept es a ∙ p),
     )
 
-order-short : (es : List Event) (r : ReadOrder) → length es ≤ 2045 → length (lines_of (run_order es r)) ≤ room_of
-order-short es (NoOrder number) h = omega (arith, refused-short number)
-order-short es (GotOrder o) h = entry-short es (accept_of o).auction (accept_of o).answer h (accept-places o)
+order-short : (es : List Event) (r : Result Order Refusal) → length es ≤ 2045 → length (lines_of (run_order es r)) ≤ room_of
+order-short es (Err r) h = omega (arith, refused-short (number_of r))
+order-short es (Ok o) h = entry-short es (accept_of o).auction (accept_of o).answer h (accept-places o)
 
-tape-short : (s : List ℕ) (r : Opened) → open_tape s ≡ r → length (lines_of (run_tape s r)) ≤ room_of
-tape-short s (NoTape number) e = omega (arith, refused-short number)
-tape-short s (Tape t) e = order-short (records_of s t) (order_in s t) (omega (arith, records-length s t, tape-fits s t e))
+tape-short : (s : List ℕ) (r : Result Trailer Refusal) → open_tape s ≡ r → length (lines_of (run_tape s r)) ≤ room_of
+tape-short s (Err r) e = omega (arith, refused-short (number_of r))
+tape-short s (Ok t) e = order-short (records_of s t) (order_in s t) (omega (arith, records-length s t, tape-fits s t e))
 
 -- every listing fits the room
 pub listing-fits : (s : List ℕ) → length (listing_of s) ≤ room_of

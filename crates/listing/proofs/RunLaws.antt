@@ -7,6 +7,7 @@ use native.Mathlib.Nat.{sub-zero}
 use native.Mathlib.Omega.{arith}
 use borrow.Author.Tests.{lt-ltb, le-ltb}
 use lib.ListN.{set}
+use Rattle.std.specs.Prelude.{Ok}
 use Rattle.words.specs.rules.Bits.{with_bit, without_bit}
 use Rattle.board.specs.rules.Board.{seated_at}
 use Rattle.board.specs.promises.Board.{Good}
@@ -15,7 +16,6 @@ use Rattle.board.specs.declared.Board.{Board}
 use Rattle.board.specs.declared.Response.{Response}
 use Rattle.tape.specs.declared.event.Event.{Event}
 use Rattle.tape.specs.declared.trailer.Trailer.{Trailer}
-use Rattle.tape.specs.declared.trailer.Opened.TheVariants.{Tape}
 use Rattle.tape.specs.rules.Tape.{open_tape, record_in, records_from, records_of}
 use Rattle.tape.proofs.HoldsLaws.{tape-took, records-none, records-more}
 use Rattle.tape.proofs.RecordLaws.{at_least}
@@ -34,7 +34,7 @@ use Rattle.run.proofs.SoundLaws as Runs
 use Rattle.listing.specs.rules.Listing.{event_line, event_lines}
 
 -- a tape that opens has no more events than its listing has room for
-pub tape-fits : (s : List ℕ) (t : Trailer) → open_tape s ≡ Tape t → t.events ≤ 2045
+pub tape-fits : (s : List ℕ) (t : Trailer) → open_tape s ≡ Ok t → t.events ≤ 2045
 tape-fits s t e = let k = tape-took s t e in omega (arith, k.0, k.1, at_least t.wide t.events)
 
 -- an auction that was closed by hand has ended

@@ -2,7 +2,7 @@
 
 #![tactic(auto)]
 
-ghost use Rattle.std.specs.Prelude.{◌≡◌, cond, ◌+◌, ◌*◌, ◌%◌, ◌≤◌, ◌<◌, eqb, length};
+ghost use Rattle.std.specs.Prelude.{◌≡◌, cond, ◌+◌, ◌*◌, ◌%◌, ◌≤◌, ◌<◌, eqb, length, Ok};
 ghost use Rattle.board.specs.rules.Board.{empty_board};
 ghost use Rattle.tape.specs.rules.Tape.{order_in, records_of};
 ghost use Rattle.run.specs.rules.Run.{run, heard, closed, refused, run_entry, run_order};
@@ -17,7 +17,7 @@ use decision::Change;
 use events::turns;
 use lines::{put_auction, put_event, put_refused};
 use results::put_results;
-use tape::{Opened, Order, ReadOrder, Trailer};
+use tape::{Order, Trailer};
 use words::bits;
 
 mod lines;
@@ -226,7 +226,7 @@ fn list_auction(tape: &[u8], t: Trailer, a: Auction, out: &mut [u8]) -> Listed
 
 fn list_order(tape: &[u8], t: Trailer, o: Order, out: &mut [u8]) -> Listed
     requires { (t.events ≤ 2045) × (room_of ≤ length out.old) }
-    ensures { Lists (run_order (records_of tape.now t) (ReadOrder.Order o)) out.old result out.new }
+    ensures { Lists (run_order (records_of tape.now t) (Ok o)) out.old result out.new }
 {
     let opening = auction::accept(o);
     let answer = opening.answer;
@@ -242,8 +242,8 @@ fn list_tape(tape: &[u8], t: Trailer, out: &mut [u8]) -> Listed
     ensures { Lists (run_order (records_of tape.now t) (order_in tape.now t)) out.old result out.new }
 {
     match tape::order_in(tape, t) {
-        ReadOrder::Order(o) => list_order(tape, t, o, out),
-        ReadOrder::Refused(number) => list_refused(out, number),
+        Ok(o) => list_order(tape, t, o, out),
+        Err(refusal) => list_refused(out, refusal.number()),
     }
 }
 
@@ -259,7 +259,7 @@ pub fn listing(tape: &[u8], out: &mut [u8]) -> Listed
         };
     }
     match tape::open_tape(tape) {
-        Opened::Tape(t) => list_tape(tape, t, out),
-        Opened::Refused(number) => list_refused(out, number),
+        Ok(t) => list_tape(tape, t, out),
+        Err(refusal) => list_refused(out, refusal.number()),
     }
 }

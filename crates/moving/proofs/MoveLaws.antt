@@ -8,13 +8,13 @@ use lib.Dec.{eqb}
 use lib.ListN.{length, get_or, take, drop, length-append, length-map, take-append-drop, drop_of_length-le}
 use lib.Seq.{length-take-le, take_all, take_at, get_or-take}
 use borrow.Author.Tests.{le-ltb, eqb-true}
+use Rattle.std.specs.Prelude.{Ok}
 use Rattle.base.specs.Lists.{Every}
 use Rattle.base.proofs.Bools.{and_left, and_right, and_both}
 use Rattle.words.specs.rules.Bytes.{AllBytes, word_bytes, word_at}
 use Rattle.words.proofs.ByteLaws.{word-alone, word-past, row_back}
 use Rattle.tape.specs.declared.event.Event.{Event}
 use Rattle.tape.specs.declared.trailer.Trailer.{Trailer}
-use Rattle.tape.specs.declared.trailer.Opened.TheVariants.{Tape}
 use Rattle.tape.specs.rules.Records.{width_of, new_word, event_of, event_spare, record_at}
 use Rattle.tape.specs.rules.Tape.{length_of, open_tape, order_in, records_of, trailer_for}
 use Rattle.tape.specs.rules.Whole.{tape_with, own_bytes, order_bytes, records_bytes}
@@ -133,7 +133,7 @@ moved-trailer wide s t l =
     let count : length (map (moved_record wide) (records_bytes s t)) ≡ length (records_bytes s t) = length-map (records_bytes s t) (moved_record wide) in
     λ i. record { order = (same i).order; events = (count ∙ ap (λ (x : Trailer). x.events) same) i; wide = wide }
 
-module _ (wide : Bool) (s : List ℕ) (t : Trailer) (h : open_tape s ≡ Tape t) (w : t.wide ≡ not wide) where
+module _ (wide : Bool) (s : List ℕ) (t : Trailer) (h : open_tape s ≡ Ok t) (w : t.wide ≡ not wide) where
   abbrev own : List ℕ
   own = own_bytes s t
 
@@ -179,9 +179,9 @@ module _ (wide : Bool) (s : List ℕ) (t : Trailer) (h : open_tape s ≡ Tape t)
     unfolding moved_tape
     any = any-records wide own order rs (record { order-long = made.fitting.order-long; each_long = long; fits = omega (arith, moved_length) })
 
-    pub moved-opens : open_tape (moved_tape wide s t) ≡ Tape (moved_trailer wide t)
+    pub moved-opens : open_tape (moved_tape wide s t) ≡ Ok (moved_trailer wide t)
     unfolding moved_tape
-    moved-opens = any.opens ∙ ap Tape trailer
+    moved-opens = any.opens ∙ ap Ok trailer
 
     pub same-order : order_in (moved_tape wide s t) (moved_trailer wide t) ≡ order_in s t
     unfolding moved_tape

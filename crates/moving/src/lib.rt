@@ -10,15 +10,9 @@ ghost use Rattle.moving.specs.rules.Moving.{has_form, moved_trailer, is_bare, al
 ghost use Rattle.words.specs.inside.Writing.{WroteBytes};
 ghost use Rattle.moving.specs.inside.Code.{MovesOpened};
 
-use tape::{ORDER_BYTES, ReadTrailer, Trailer, event_bytes};
+use base::Refusal;
+use tape::{ORDER_BYTES, Trailer, event_bytes};
 use words::bytes::read_word;
-
-// The length of the moved tape, or the number of the refusal.
-#[derive(Clone, Copy)]
-pub enum Moved {
-    Length(u64),
-    Refused(u32),
-}
 
 // ---- what the moved tape is
 
@@ -127,43 +121,42 @@ fn put_tape(wide: bool, t: Trailer, s: &[u8], out: &mut [u8])
     let first = (t.order as usize) + ORDER_BYTES;
     let start = put_bytes(out, 0, &s[..first]);
     let end = put_records(wide, t, s, out, start);
-    tape::write_trailer(moved_trailer(wide, t), &mut out[end..]);
+    // Its 16 bytes are there, so nothing is refused.
+    let _ = tape::write_trailer(moved_trailer(wide, t), &mut out[end..]);
 }
 
 // ---- moving
 
-// A tape whose trailer was read: 22 where it has the wanted form already, 23, 25, 26, 24.
-fn move_opened(wide: bool, t: Trailer, s: &[u8], out: &mut [u8]) -> Moved
+// A tape whose trailer was read: `TrailerOutOfForm` where it has the wanted form already, `LengthsDisagree`, `FirmLost`, `MovedTooLong`, `RoomTooShort`.
+fn move_opened(wide: bool, t: Trailer, s: &[u8], out: &mut [u8]) -> Result<u64, Refusal>
     ensures { MovesOpened wide s.now t out.old result out.new }
 {
     if has_form(t, wide) {
-        return Moved::Refused(22);
+        return Err(Refusal::TrailerOutOfForm);
     }
     if tape::length_of(t) != s.len() as u64 {
-        return Moved::Refused(23);
+        return Err(Refusal::LengthsDisagree);
     }
     if !nothing_lost(wide, s, t) {
-        return Moved::Refused(25);
+        return Err(Refusal::FirmLost);
     }
     let n = tape::length_of(moved_trailer(wide, t));
     let room = out.len() as u64;
     if 65536 < n {
-        return Moved::Refused(26);
+        return Err(Refusal::MovedTooLong);
     }
     if room < n {
-        return Moved::Refused(24);
+        return Err(Refusal::RoomTooShort);
     }
     put_tape(wide, t, s, out);
-    Moved::Length(n)
+    Ok(n)
 }
 
-// The tape in the other form at the start of lent bytes: `wide` is the form that is wanted. 21, 22, 23, 25, 26, then 24; a refusal changes no byte.
-pub fn move_tape(wide: bool, s: &[u8], out: &mut [u8]) -> Moved
+// The tape in the other form at the start of lent bytes, and its length: `wide` is the form that is wanted. `TapeLength`, `TrailerOutOfForm`, `LengthsDisagree`, `FirmLost`, `MovedTooLong`, then `RoomTooShort`; a refusal changes no byte.
+pub fn move_tape(wide: bool, s: &[u8], out: &mut [u8]) -> Result<u64, Refusal>
     ensures value { result ≡ move_answer wide s.now out.old }
     ensures out_after { out.new ≡ move_wrote wide s.now out.old }
 {
-    match tape::last_trailer(s) {
-        ReadTrailer::Trailer(t) => move_opened(wide, t, s, out),
-        ReadTrailer::Refused(number) => Moved::Refused(number),
-    }
+    let t = tape::last_trailer(s)?;
+    move_opened(wide, t, s, out)
 }

@@ -9,21 +9,17 @@ use native.Mathlib.Omega.{arith}
 use lib.Dec.{leb, ltb, eqb}
 use lib.ListN.{length, drop, length-drop}
 use borrow.Author.Tests.{lt-ltb, le-ltb, ltb-false, le-leb, lt-leb, leb-true}
+use Rattle.std.specs.Prelude.{Result, Ok, Err, ⊤}
 use Rattle.base.specs.Lists.{In, Every, keep}
+use Rattle.base.specs.Refusal.{number_of}
+use Rattle.base.specs.declared.refusal.Refusal.{Refusal}
+use Rattle.base.specs.declared.refusal.Refusal.TheVariants.{OrderOutOfForm, TapeLength, TrailerOutOfForm, LengthsDisagree, RoomTooShort, EventOutOfForm}
 use Rattle.base.proofs.Bools.{by, no as never, and_both, and_right, or_left}
 use Rattle.base.proofs.Numbers.{eq-or}
 use Rattle.words.specs.rules.Bytes.{word_at}
 use Rattle.tape.specs.declared.order.Order.{Order}
-use Rattle.tape.specs.declared.Written.TheVariants.{Done, Refused as NotWritten}
 use Rattle.tape.specs.declared.event.Event.{Event}
-use Rattle.tape.specs.declared.event.ReadEvent.TheVariants.{Event as GotEvent, Refused as NoEvent}
-use Rattle.tape.specs.declared.order.ReadOrder.{ReadOrder}
-use Rattle.tape.specs.declared.order.ReadOrder.TheVariants.{Order as GotOrder, Refused as NoOrder}
 use Rattle.tape.specs.declared.trailer.Trailer.{Trailer}
-use Rattle.tape.specs.declared.trailer.ReadTrailer.{ReadTrailer}
-use Rattle.tape.specs.declared.trailer.ReadTrailer.TheVariants.{Trailer as GotTrailer, Refused as NoTrailer}
-use Rattle.tape.specs.declared.trailer.Opened.{Opened}
-use Rattle.tape.specs.declared.trailer.Opened.TheVariants.{Tape, Refused as NotOpened}
 use Rattle.tape.specs.rules.Form.{order_formed, event_formed}
 use Rattle.tape.specs.rules.Records.{cubt, cub2, order_words, order_of, order_spare, read_order, order_answer, width_of, event_of, event_spare, read_event, event_held, event_answer, trailer_words, trailer_of, read_trailer, trailer_answer}
 use Rattle.tape.proofs.RecordLaws.{words_long}
@@ -52,7 +48,7 @@ use Rattle.listing.specs.rules.Listing.{field, answer_text, end_text, end_lines,
 use Rattle.listing.specs.declared.Listed.{Listed}
 use Rattle.listing.specs.declared.Listed.TheVariants.{Refused as NoAuction}
 use Rattle.listing.proofs.Theorems.{length-answer, demands}
-use Rattle.promise.specs.rules.Answers.{no, yes, opened_is, order_is, event_is, trailer_is, written_is, entry_is, answer_is, ending_is, run_is, listed_is}
+use Rattle.promise.specs.rules.Answers.{no, yes, paper_of, entry_is, answer_is, ending_is, run_is, listed_is}
 use Rattle.promise.specs.rules.Tapes.{Carries, end_in, end_of, is_refused, not_refused}
 use Rattle.promise.proofs.Carried.{tape-at, order-at, carry}
 use Rattle.promise.specs.promises.Parts.{Answered, Roomed, Filling, Numbered, EventNumber}
@@ -70,37 +66,38 @@ numbers-in n low (suc k) h l = ⊎_elim (λ e. inl e) (λ d. inr (numbers-in n (
 
 -- ---- a tape
 
--- the trailer of a tape of 16 bytes or more is read, or 22
-trailer-number : (s : List ℕ) (n : ℕ) → 16 ≤ length s → read_trailer s ≡ NoTrailer n → n ≡ 22
+-- the trailer of a tape of 16 bytes or more is read, or out of form
+trailer-refused : (s : List ℕ) (q : Refusal) → 16 ≤ length s → read_trailer s ≡ Err q → q ≡ TrailerOutOfForm
 unfolding read_trailer
-trailer-number s n h = rw (le-ltb (length s) 16 h) (by (λ (r : ReadTrailer). r ≡ NoTrailer n → n ≡ 22) ((eqb (word_at s 0) cubt || eqb (word_at s 0) cub2) && eqb (word_at s 12) 0) (GotTrailer (trailer_of s)) (NoTrailer 22) (λ _ z. cc) (λ _ z. cc))
+trailer-refused s q h =
+    rw (le-ltb (length s) 16 h) (by (λ (r : Result Trailer Refusal). r ≡ Err q → q ≡ TrailerOutOfForm) ((eqb (word_at s 0) cubt || eqb (word_at s 0) cub2) && eqb (word_at s 12) 0) (Ok (trailer_of s)) (Err TrailerOutOfForm) (λ _ z. cc) (λ _ z. cc))
 
 -- 21, 22 or 23
-tape-number : (s : List ℕ) (n : ℕ) → open_tape s ≡ NotOpened n → In n (21 ∷ 22 ∷ 23 ∷ [])
+tape-number : (s : List ℕ) (q : Refusal) → open_tape s ≡ Err q → In (number_of q) (21 ∷ 22 ∷ 23 ∷ [])
 unfolding open_tape last_trailer
-tape-number s n =
-    by (λ (r : ReadTrailer). opened_with (length s) r ≡ NotOpened n → In n (21 ∷ 22 ∷ 23 ∷ [])) (ltb (length s) 16 || ltb 65536 (length s)) (NoTrailer 21) (read_trailer (drop (length s - 16) s))
-    (λ _ z. let q : n ≡ 21 = cc in inl q)
+tape-number s q =
+    by (λ (r : Result Trailer Refusal). opened_with (length s) r ≡ Err q → In (number_of q) (21 ∷ 22 ∷ 23 ∷ [])) (ltb (length s) 16 || ltb 65536 (length s)) (Err TapeLength) (read_trailer (drop (length s - 16) s))
+    (λ _ z. let e : q ≡ TapeLength = cc in inl (ap number_of e))
     (λ h. go (read_trailer (drop (length s - 16) s)) refl (ltb-false (length s) 16 (or_left (ltb (length s) 16) (ltb 65536 (length s)) h)))
   where
-    go : (r : ReadTrailer) → read_trailer (drop (length s - 16) s) ≡ r → 16 ≤ length s → opened_with (length s) r ≡ NotOpened n → In n (21 ∷ 22 ∷ 23 ∷ [])
-    go (NoTrailer k) e l = λ z.
-        let q : k ≡ n = cc in
+    go : (r : Result Trailer Refusal) → read_trailer (drop (length s - 16) s) ≡ r → 16 ≤ length s → opened_with (length s) r ≡ Err q → In (number_of q) (21 ∷ 22 ∷ 23 ∷ [])
+    go (Err k) e l = λ z.
+        let same : k ≡ q = cc in
         let m : 16 ≤ length (drop (length s - 16) s) = omega (arith, length-drop (length s - 16) s) in
-        inr (inl (sym q ∙ trailer-number (drop (length s - 16) s) k m e))
-    go (GotTrailer t) e l =
-        by (λ (p : Opened). p ≡ NotOpened n → In n (21 ∷ 22 ∷ 23 ∷ [])) (eqb (length_of t) (length s)) (Tape t) (NotOpened 23) (λ _ z. let q : n ≡ 21 = cc in inl q) (λ _ z. let q : n ≡ 23 = cc in inr (inr (inl q)))
+        inr (inl (ap number_of (sym same ∙ trailer-refused (drop (length s - 16) s) k m e)))
+    go (Ok t) e l =
+        by (λ (p : Result Trailer Refusal). p ≡ Err q → In (number_of q) (21 ∷ 22 ∷ 23 ∷ [])) (eqb (length_of t) (length s)) (Ok t) (Err LengthsDisagree) (λ _ z. cc) (λ _ z. let e : q ≡ LengthsDisagree = cc in inr (inr (inl (ap number_of e))))
 
--- the order of a tape that opens is read where it is in form, else 1
-read-order : (s : List ℕ) → 64 ≤ length s → (r : ReadOrder) → read_order s ≡ r → (r ≡ NoOrder 1) ⊎ ((r ≡ GotOrder (order_of s)) × (order_formed (order_of s) ≡ true))
+-- the order of a tape that opens is read where it is in form, and else it is out of form
+read-order : (s : List ℕ) → 64 ≤ length s → (r : Result Order Refusal) → read_order s ≡ r → (r ≡ Err OrderOutOfForm) ⊎ ((r ≡ Ok (order_of s)) × (order_formed (order_of s) ≡ true))
 unfolding read_order
 read-order s h r =
     rw (le-ltb (length s) 64 h)
-    (by (λ (x : ReadOrder). x ≡ r → (r ≡ NoOrder 1) ⊎ ((r ≡ GotOrder (order_of s)) × (order_formed (order_of s) ≡ true))) (order_spare s && order_formed (order_of s)) (GotOrder (order_of s)) (NoOrder 1)
+    (by (λ (x : Result Order Refusal). x ≡ r → (r ≡ Err OrderOutOfForm) ⊎ ((r ≡ Ok (order_of s)) × (order_formed (order_of s) ≡ true))) (order_spare s && order_formed (order_of s)) (Ok (order_of s)) (Err OrderOutOfForm)
     (λ f z. inr (sym z, and_right (order_spare s) (order_formed (order_of s)) f))
     (λ _ z. inl (sym z)))
 
-order-read : (s : List ℕ) (t : Trailer) → open_tape s ≡ Tape t → (r : ReadOrder) → order_in s t ≡ r → (r ≡ NoOrder 1) ⊎ ((r ≡ GotOrder (order_of (drop t.order s))) × (order_formed (order_of (drop t.order s)) ≡ true))
+order-read : (s : List ℕ) (t : Trailer) → open_tape s ≡ Ok t → (r : Result Order Refusal) → order_in s t ≡ r → (r ≡ Err OrderOutOfForm) ⊎ ((r ≡ Ok (order_of (drop t.order s))) × (order_formed (order_of (drop t.order s)) ≡ true))
 unfolding order_in
 order-read s t h r = read-order (drop t.order s) (omega (arith, length-drop t.order s, (holds s t h).order)) r
 
@@ -124,15 +121,15 @@ order-number o n f h = let b = keeps.order-numbers o n h in numbers-in n 2 12 (o
 
 -- ---- its run
 
-opened-run : (s : List ℕ) (p : Opened) → open_tape s ≡ p → run_of s ≡ run_tape s p
+opened-run : (s : List ℕ) (p : Result Trailer Refusal) → open_tape s ≡ p → run_of s ≡ run_tape s p
 unfolding run_of
 opened-run s p e = ap (run_tape s) e
 
-ordered-run : (s : List ℕ) (t : Trailer) (r : ReadOrder) → open_tape s ≡ Tape t → order_in s t ≡ r → run_of s ≡ run_order (records_of s t) r
-ordered-run s t r h e = opened-run s (Tape t) h ∙ ap (run_order (records_of s t)) e
+ordered-run : (s : List ℕ) (t : Trailer) (r : Result Order Refusal) → open_tape s ≡ Ok t → order_in s t ≡ r → run_of s ≡ run_order (records_of s t) r
+ordered-run s t r h e = opened-run s (Ok t) h ∙ ap (run_order (records_of s t)) e
 
 pub run-carries : (s : List ℕ) (o : Order) (es : List Event) → Carries s o es → run_of s ≡ run_entry es (accept_of o).auction (accept_of o).answer
-run-carries s o es c = ordered-run s c.trailer (GotOrder o) (tape-at c) (order-at c) ∙ ap (λ (fs : List Event). run_entry fs (accept_of o).auction (accept_of o).answer) c.records
+run-carries s o es c = ordered-run s c.trailer (Ok o) (tape-at c) (order-at c) ∙ ap (λ (fs : List Event). run_entry fs (accept_of o).auction (accept_of o).answer) c.records
 
 lines-run : (s : List ℕ) → listing_of s ≡ lines_of (run_of s)
 unfolding listing_of
@@ -141,7 +138,7 @@ lines-run s = refl
 pub answered : (s : List ℕ) → Answered s
 answered s = open_by (open_tape s) refl
   where
-    entry-by : (t : Trailer) (o : Order) → open_tape s ≡ Tape t → order_in s t ≡ GotOrder o → order_formed o ≡ true → (x : Entry) → (accept_of o).answer ≡ x → Answered s
+    entry-by : (t : Trailer) (o : Order) → open_tape s ≡ Ok t → order_in s t ≡ Ok o → order_formed o ≡ true → (x : Entry) → (accept_of o).answer ≡ x → Answered s
     entry-by t o h e f Accepted z =
         let c : Carries s o (records_of s t) = carry s o (records_of s t) t h e refl in
         auction o (records_of s t) c (ap entry_is z) (lines-run s ∙ ap lines_of (run-carries s o (records_of s t) c ∙ ap (run_entry (records_of s t) (accept_of o).auction) z))
@@ -149,13 +146,13 @@ answered s = open_by (open_tape s) refl
         let c : Carries s o (records_of s t) = carry s o (records_of s t) t h e refl in
         not-accepted o (records_of s t) n c (ap entry_is z) (order-number o n f z) (lines-run s ∙ ap lines_of (run-carries s o (records_of s t) c ∙ ap (run_entry (records_of s t) (accept_of o).auction) z))
 
-    order-by : (t : Trailer) → open_tape s ≡ Tape t → (r : ReadOrder) → order_in s t ≡ r → (r ≡ NoOrder 1) ⊎ ((r ≡ GotOrder (order_of (drop t.order s))) × (order_formed (order_of (drop t.order s)) ≡ true)) → Answered s
-    order-by t h r e (inl z) = no-order t (ap opened_is h) (ap order_is (e ∙ z)) (lines-run s ∙ ap lines_of (ordered-run s t (NoOrder 1) h (e ∙ z)))
+    order-by : (t : Trailer) → open_tape s ≡ Ok t → (r : Result Order Refusal) → order_in s t ≡ r → (r ≡ Err OrderOutOfForm) ⊎ ((r ≡ Ok (order_of (drop t.order s))) × (order_formed (order_of (drop t.order s)) ≡ true)) → Answered s
+    order-by t h r e (inl z) = no-order t (ap paper_of h) (ap paper_of (e ∙ z)) (lines-run s ∙ ap lines_of (ordered-run s t (Err OrderOutOfForm) h (e ∙ z)))
     order-by t h r e (inr (z, f)) = entry-by t (order_of (drop t.order s)) h (e ∙ z) f (accept_of (order_of (drop t.order s))).answer refl
 
-    open_by : (p : Opened) → open_tape s ≡ p → Answered s
-    open_by (NotOpened n) e = no-tape n (ap opened_is e) (tape-number s n e) (lines-run s ∙ ap lines_of (opened-run s (NotOpened n) e))
-    open_by (Tape t) e = order-by t e (order_in s t) refl (order-read s t e (order_in s t) refl)
+    open_by : (p : Result Trailer Refusal) → open_tape s ≡ p → Answered s
+    open_by (Err r) e = no-tape (number_of r) (ap paper_of e) (tape-number s r e) (lines-run s ∙ ap lines_of (opened-run s (Err r) e))
+    open_by (Ok t) e = order-by t e (order_in s t) refl (order-read s t e (order_in s t) refl)
 
 -- ---- the room
 
@@ -215,36 +212,26 @@ pub numbered : Numbered
 unfolding read_order read_event read_trailer order_answer event_held event_answer trailer_answer order_words trailer_words answer_text end_text
 numbered =
     record {
-      reads-order = λ s. order-by (ltb (length s) 64) (order_spare s && order_formed (order_of s)) (order_of s);
-      reads-event = λ wide s. event-by (ltb (length s) (width_of wide)) (event_spare wide s && event_formed (event_of wide s)) (event_of wide s);
-      reads-trailer = λ s. trailer-by (ltb (length s) 16) ((eqb (word_at s 0) cubt || eqb (word_at s 0) cub2) && eqb (word_at s 12) 0) (trailer_of s);
-      writes-order = λ o out. written-by (order_formed o) (ltb (length out) 64) 1;
-      writes-event = λ wide e out. rw (words_long wide e) (written-by (event_held wide e) (ltb (length out) (width_of wide)) 32);
-      writes-trailer = λ t out. written-by true (ltb (length out) 16) 24;
+      reads-order = λ s. read-by _ _ (ltb (length s) 64) (order_spare s && order_formed (order_of s)) (order_of s);
+      reads-event = λ wide s. read-by _ _ (ltb (length s) (width_of wide)) (event_spare wide s && event_formed (event_of wide s)) (event_of wide s);
+      reads-trailer = λ s. read-by _ _ (ltb (length s) 16) ((eqb (word_at s 0) cubt || eqb (word_at s 0) cub2) && eqb (word_at s 12) 0) (trailer_of s);
+      writes-order = λ o out. written-by tt (order_formed o) (ltb (length out) 64) OrderOutOfForm;
+      writes-event = λ wide e out. rw (words_long wide e) (written-by tt (event_held wide e) (ltb (length out) (width_of wide)) EventOutOfForm);
+      writes-trailer = λ t out. written-by tt true (ltb (length out) 16) RoomTooShort;
       event-words = said-by;
       event-number = number_by;
       end-words = end_by;
     }
   where
-    order-by : (a b : Bool) (o : Order) → order_is (cond a (NoOrder 24) (cond b (GotOrder o) (NoOrder 1))) ≡ cond a (no 24) (cond b (yes o) (no 1))
-    order-by true b o = refl
-    order-by false true o = refl
-    order-by false false o = refl
+    read-by : {A : Type 0} (short formless : Refusal) (a b : Bool) (x : A) → paper_of (cond a (Err short) (cond b (Ok x) (Err formless))) ≡ cond a (no (number_of short)) (cond b (yes x) (no (number_of formless)))
+    read-by short formless true b x = refl
+    read-by short formless false true x = refl
+    read-by short formless false false x = refl
 
-    event-by : (a b : Bool) (e : Event) → event_is (cond a (NoEvent 24) (cond b (GotEvent e) (NoEvent 32))) ≡ cond a (no 24) (cond b (yes e) (no 32))
-    event-by true b e = refl
-    event-by false true e = refl
-    event-by false false e = refl
-
-    trailer-by : (a b : Bool) (t : Trailer) → trailer_is (cond a (NoTrailer 24) (cond b (GotTrailer t) (NoTrailer 22))) ≡ cond a (no 24) (cond b (yes t) (no 22))
-    trailer-by true b t = refl
-    trailer-by false true t = refl
-    trailer-by false false t = refl
-
-    written-by : (formed short : Bool) (n : ℕ) → written_is (cond formed (cond short (NotWritten 24) Done) (NotWritten n)) ≡ cond formed (cond short (no 24) (yes tt)) (no n)
-    written-by true true n = refl
-    written-by true false n = refl
-    written-by false short n = refl
+    written-by : (done : ⊤) (formed short : Bool) (r : Refusal) → paper_of (cond formed (cond short (Err RoomTooShort) (Ok done)) (Err r)) ≡ cond formed (cond short (no 24) (yes done)) (no (number_of r))
+    written-by done true true r = refl
+    written-by done true false r = refl
+    written-by done false short r = refl
 
     said-by : (a : Answer) (w : String) → answer_is a ≡ yes w → answer_text a ≡ text " " ++ text w
     said-by Taken w z = let q : w ≡ "taken" = cc in ap (λ (v : String). text " " ++ text v) (sym q)

@@ -1,27 +1,22 @@
 -- A tape in the other form has the same listing. Assumes nothing.
-use mathlib.Core.Path.{◌≡◌, ap, sym, ◌∙◌}
+use mathlib.Core.Path.{◌≡◌, refl, ap, sym, subst, ◌∙◌}
 use mathlib.Core.Bool.{Bool}
-use mathlib.Core.List.{List}
+use mathlib.Core.List.{List, [], ◌∷◌}
 use Prim.Native.Nat.{ℕ}
+use Rattle.std.specs.Prelude.{Result, Ok, Err}
+use Rattle.base.specs.Lists.{In}
+use Rattle.base.specs.Refusal.{number_of}
+use Rattle.base.specs.declared.refusal.Refusal.{Refusal}
 use Rattle.tape.specs.declared.event.Event.{Event}
 use Rattle.tape.specs.rules.Tape.{order_in, records_of}
-use Rattle.moving.specs.declared.Moved.{Moved}
-use Rattle.moving.specs.declared.Moved.TheVariants.{Length, Refused}
-use Rattle.moving.specs.rules.Moving.{moved_trailer, move_answer}
+use Rattle.moving.specs.rules.Moving.{moved_trailer, move_answer, move_wrote}
 use Rattle.moving.specs.promises.Moves.{moved_to, HasMoved}
 use Rattle.moving.proofs.Theorems.{all-moves}
 use Rattle.run.specs.rules.Run.{run_of, run_tape, run_order}
 use Rattle.listing.specs.rules.Listing.{lines_of, listing_of}
-use Rattle.promise.specs.rules.Answers.{no, yes, moved_is}
+use Rattle.promise.specs.rules.Answers.{no, yes, paper_of}
 use Rattle.promise.specs.promises.Parts.{MovedTape}
-
-moved-is : (x : Moved) (n : ℕ) → moved_is x ≡ yes n → x ≡ Length n
-moved-is (Length k) n z = let q : k ≡ n = cc in ap Length q
-moved-is (Refused k) n z = cc
-
-not-moved : (x : Moved) (n : ℕ) → moved_is x ≡ no n → x ≡ Refused n
-not-moved (Length k) n z = cc
-not-moved (Refused k) n z = let q : k ≡ n = cc in ap Refused q
+use Rattle.promise.proofs.Carried.{result-is}
 
 -- the run goes by the order and the events
 same-run : (wide : Bool) (s out : List ℕ) (n : ℕ) → HasMoved wide s out n → run_of (moved_to wide s out n) ≡ run_of s
@@ -37,11 +32,17 @@ pub moved : (wide : Bool) (s out : List ℕ) → MovedTape wide s out
 unfolding listing_of
 moved wide s out =
     record {
-      refused = λ n z. let h = not-moved (move_answer wide s out) n z in (all-moves.numbers wide s out n h, all-moves.keeps wide s out n h);
+      refused = λ n. not-moved n (move_answer wide s out) refl;
       stays = λ n z. (done n z).stays;
       listed = λ n z. ap lines_of (same-run wide s out n (done n z));
-      back = λ n z b out' room. let k = (done n z).back b out' room in (ap moved_is k.0, k.1);
+      back = λ n z b out' room. let k = (done n z).back b out' room in (ap paper_of k.0, k.1);
     }
   where
-    done : (n : ℕ) → moved_is (move_answer wide s out) ≡ yes n → HasMoved wide s out n
-    done n z = all-moves.done wide s out n (moved-is (move_answer wide s out) n z)
+    done : (n : ℕ) → paper_of (move_answer wide s out) ≡ yes n → HasMoved wide s out n
+    done n z = all-moves.done wide s out n (result-is (move_answer wide s out) n z)
+
+    not-moved : (n : ℕ) (x : Result ℕ Refusal) → move_answer wide s out ≡ x → paper_of x ≡ no n → In n (21 ∷ 22 ∷ 23 ∷ 25 ∷ 26 ∷ 24 ∷ []) × (move_wrote wide s out ≡ out)
+    not-moved n (Ok k) h z = cc
+    not-moved n (Err r) h z =
+        let q : number_of r ≡ n = cc in
+        (subst (λ (m : ℕ). In m (21 ∷ 22 ∷ 23 ∷ 25 ∷ 26 ∷ 24 ∷ [])) q (all-moves.numbers wide s out r h), all-moves.keeps wide s out r h)

@@ -7,6 +7,7 @@ use native.Mathlib.Nat.{mul-le-mul_right}
 use native.Mathlib.Omega.{arith}
 use lib.ListN.{length, take, drop, length-append, length-drop, take-append-drop}
 use lib.Seq.{length-take-le}
+use Rattle.std.specs.Prelude.{Ok}
 use Rattle.base.specs.Lists.{Every, keep}
 use Rattle.words.specs.rules.Bytes.{AllBytes, word_bytes, word_at}
 use Rattle.words.proofs.ByteLaws.{length-word_bytes, word-alone, bytes_take, bytes-append, bytes-words}
@@ -14,10 +15,8 @@ use Rattle.tape.specs.rules.Form.{order_formed, event_formed}
 use Rattle.tape.specs.rules.Records.{order_words, width_of, event_words, read_order, read_event, record_at, event_held}
 use Rattle.tape.specs.rules.Tape.{open_tape, trailer_for}
 use Rattle.tape.specs.declared.order.Order.{Order}
-use Rattle.tape.specs.declared.order.ReadOrder.TheVariants.{Order as GotOrder}
 use Rattle.tape.specs.declared.event.Event.{Event}
 use Rattle.tape.specs.declared.trailer.Trailer.{Trailer}
-use Rattle.tape.specs.declared.trailer.Opened.TheVariants.{Tape}
 use Rattle.tape.proofs.RecordLaws.{width-ge, words_long}
 use Rattle.tape.proofs.HoldsLaws.{event-stands, event-held, held_by, recorded}
 use Rattle.tape.specs.rules.Whole.{tape_with, own_bytes, order_bytes, records_bytes}
@@ -115,7 +114,7 @@ module _ (wide : Bool) where
 
 -- ---- a tape of other records, after the own bytes of a tape that opens
 
-module _ (s : List ℕ) (t : Trailer) (h : open_tape s ≡ Tape t) (order : List ℕ) (n : length order ≡ 64) {es : List Event} (st : Stand t.wide (records_bytes s t) es) where
+module _ (s : List ℕ) (t : Trailer) (h : open_tape s ≡ Ok t) (order : List ℕ) (n : length order ≡ 64) {es : List Event} (st : Stand t.wide (records_bytes s t) es) where
   abbrev remade : List ℕ
   remade = tape_with t.wide (own_bytes s t) order st.records
 
@@ -130,7 +129,7 @@ module _ (s : List ℕ) (t : Trailer) (h : open_tape s ≡ Tape t) (order : List
   remade-bytes : AllBytes s → AllBytes order → AllBytes remade
   remade-bytes b c = tape-bytes t.wide (own_bytes s t) order st.records (own-bytes s t b) c (st.bytes (records-bytes s t b))
 
-  remake : (o : Order) (fs : List Event) → AllBytes s → AllBytes order → read_order order ≡ GotOrder o → es ≡ fs → SomeTape t.wide o fs
+  remake : (o : Order) (fs : List Event) → AllBytes s → AllBytes order → read_order order ≡ Ok o → es ≡ fs → SomeTape t.wide o fs
   remake o fs b c eo ee =
       record {
         bytes = remade;

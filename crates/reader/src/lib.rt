@@ -6,7 +6,8 @@ ghost use Rattle.std.specs.Prelude.{◌≡◌};
 ghost use Rattle.tape.specs.rules.Tape.{order_in};
 ghost use Rattle.reader.specs.rules.Reader.{current_of, next_place, held, next_of};
 
-use tape::{Event, ReadOrder, Trailer};
+use base::Refusal;
+use tape::{Event, Order, Trailer};
 
 // The bytes of a tape, its trailer, and the place of an event, counted from 0.
 #[derive(Clone, Copy)]
@@ -16,23 +17,16 @@ pub struct Tape<'a> {
     pub place: usize,
 }
 
-// What stands at a place: an event, in form or not, or the end of the events.
-#[derive(Clone, Copy)]
-pub enum Current {
-    Event(Event),
-    End,
-}
-
 // ---- the work, on plain slices and numbers
 
-// What stands at a place of lent bytes.
-fn current_at(s: &[u8], t: Trailer, place: usize) -> Current
+// What stands at a place of lent bytes: an event, in form or not; none from the end of the events on.
+fn current_at(s: &[u8], t: Trailer, place: usize) -> Option<Event>
     ensures { result ≡ current_of s.now t place }
 {
     if t.events as usize <= place {
-        return Current::End;
+        return None;
     }
-    Current::Event(tape::record_in(s, t, place))
+    Some(tape::record_in(s, t, place))
 }
 
 // The place after one; the end is the last.
@@ -60,14 +54,14 @@ pub fn hold<'a>(bytes: &'a [u8], t: Trailer, place: usize) -> Tape<'a>
 }
 
 // The order.
-pub fn held_order<'a>(t: Tape<'a>) -> ReadOrder
+pub fn held_order<'a>(t: Tape<'a>) -> Result<Order, Refusal>
     ensures { result ≡ order_in t.entry.bytes.now t.entry.trailer }
 {
     tape::order_in(t.bytes, t.trailer)
 }
 
-// The event at the place, or that there is none.
-pub fn current_event<'a>(t: Tape<'a>) -> Current
+// The event at the place; none at the end.
+pub fn current_event<'a>(t: Tape<'a>) -> Option<Event>
     ensures { result ≡ current_of t.entry.bytes.now t.entry.trailer t.entry.place }
 {
     current_at(t.bytes, t.trailer, t.place)
@@ -88,21 +82,21 @@ pub fn next<'a>(t: Tape<'a>) -> Tape<'a>
 // ---- with plain parameters: who calls these needs no walk
 
 // The order of lent bytes, by their trailer.
-pub fn tape_order(bytes: &[u8], t: Trailer) -> ReadOrder
+pub fn tape_order(bytes: &[u8], t: Trailer) -> Result<Order, Refusal>
     ensures { result ≡ order_in bytes.now t }
 {
     held_order(hold(bytes, t, 0))
 }
 
-// What stands at a place of lent bytes, by their trailer.
-pub fn tape_event(bytes: &[u8], t: Trailer, place: usize) -> Current
+// The event at a place of lent bytes, by their trailer; none from the end on.
+pub fn tape_event(bytes: &[u8], t: Trailer, place: usize) -> Option<Event>
     ensures { result ≡ current_of bytes.now t place }
 {
     current_event(hold(bytes, t, place))
 }
 
-// What stands after a place.
-pub fn tape_next(bytes: &[u8], t: Trailer, place: usize) -> Current
+// The event after a place; none from the end on.
+pub fn tape_next(bytes: &[u8], t: Trailer, place: usize) -> Option<Event>
     ensures { result ≡ current_of bytes.now t (next_place t place) }
 {
     current_event(next(hold(bytes, t, place)))

@@ -8,23 +8,22 @@ use lib.ListN.{length, get_or, take, drop, length-append, length-drop}
 use lib.Seq.{take_at, drop_at, drop-drop, get_or-drop}
 use lib.Dec.{ltb, eqb}
 use borrow.Author.Tests.{le-ltb, ltb-false, leb-true, eqb-true}
+use Rattle.std.specs.Prelude.{Ok, Err, ⊤}
+use Rattle.base.specs.declared.refusal.Refusal.{Refusal}
+use Rattle.base.specs.declared.refusal.Refusal.TheVariants.{OrderOutOfForm, RoomTooShort, EventOutOfForm}
 use Rattle.words.specs.rules.Bytes.{AllBytes, joined, u32_bytes, word_bytes, word_at}
 use Rattle.words.specs.inside.Row.{words_from}
 use Rattle.words.proofs.ByteLaws.{Fit, bytes-joined, length-word_bytes, row-past, row_read, row_back, word_in, word-alone}
 use Rattle.tape.specs.declared.order.Order.{Order}
 use Rattle.tape.specs.declared.event.Event.{Event}
 use Rattle.tape.specs.declared.trailer.Trailer.{Trailer}
-use Rattle.tape.specs.declared.order.ReadOrder.TheVariants.{Order as GotOrder, Refused as NoOrder}
-use Rattle.tape.specs.declared.event.ReadEvent.TheVariants.{Event as GotEvent}
-use Rattle.tape.specs.declared.trailer.ReadTrailer.TheVariants.{Trailer as GotTrailer, Refused as NoTrailer}
-use Rattle.tape.specs.declared.Written.TheVariants.{Done, Refused}
 use Rattle.tape.specs.rules.Form.{order_formed, shape_of, shape_tests, event_formed}
 use Rattle.tape.specs.rules.Records.{with_record, wrote_bytes, order_words, order_of, order_spare, read_order, order_answer, order_wrote, width_of, new_word, event_words, event_of, event_spare, read_event, event_held, event_answer, event_wrote, cubt, cub2, first_word, trailer_words, trailer_of, read_trailer, trailer_answer, trailer_wrote}
 use Rattle.roundtrip.specs.promises.Demands.{Word, ValuesBack, BytesBack, RefusalsKeep}
 use Rattle.base.proofs.Bools.{and_left, and_right}
 use Rattle.tape.proofs.FormLaws.{each, within-le, OrderBounds, order-bounds, row-bounds}
 use Rattle.tape.proofs.RecordLaws.{width-ge, words_long}
-use Rattle.tape.proofs.HoldsLaws.{event-took, held-formed, event-held}
+use Rattle.tape.proofs.HoldsLaws.{took, event-took, held-formed, event-held}
 
 -- ---- the words of what is in form fit 32 bits
 
@@ -81,30 +80,19 @@ record-back s n b h =
     count s (suc n) at = ap suc (count s n (at + 4))
 
 -- where a writer refuses, the bytes stay
-refused-keeps : (a b : Bool) (n m : ℕ) (x y : List ℕ) → cond a (cond b (Refused 24) Done) (Refused n) ≡ Refused m → cond a (cond b x y) x ≡ x
-refused-keeps true true n m x y h = refl
-refused-keeps true false n m x y h = cc
-refused-keeps false b n m x y h = refl
+refused-keeps : (done : ⊤) (a b : Bool) (r q : Refusal) (x y : List ℕ) → cond a (cond b (Err RoomTooShort) (Ok done)) (Err r) ≡ Err q → cond a (cond b x y) x ≡ x
+refused-keeps done true true r q x y h = refl
+refused-keeps done true false r q x y h = cc
+refused-keeps done false b r q x y h = refl
 
 pub refusals-keep : RefusalsKeep
 unfolding order_answer order_wrote event_answer event_wrote trailer_answer trailer_wrote
 refusals-keep =
     record {
-      order = λ o out n h. refused-keeps (order_formed o) (ltb (length out) (length (order_words o) * 4)) 1 n out (with_record (order_words o) out) h;
-      event = λ wide e out n h. refused-keeps (event_held wide e) (ltb (length out) (length (event_words wide e) * 4)) 32 n out (with_record (event_words wide e) out) h;
-      trailer = λ t out n h. refused-keeps true (ltb (length out) (length (trailer_words t) * 4)) 24 n out (with_record (trailer_words t) out) h;
+      order = λ o out r h. refused-keeps tt (order_formed o) (ltb (length out) (length (order_words o) * 4)) OrderOutOfForm r out (with_record (order_words o) out) h;
+      event = λ wide e out r h. refused-keeps tt (event_held wide e) (ltb (length out) (length (event_words wide e) * 4)) EventOutOfForm r out (with_record (event_words wide e) out) h;
+      trailer = λ t out r h. refused-keeps tt true (ltb (length out) (length (trailer_words t) * 4)) RoomTooShort r out (with_record (trailer_words t) out) h;
     }
-
--- the tests that led to a value
-took-order : (a b : Bool) (x o : Order) → cond a (NoOrder 24) (cond b (GotOrder x) (NoOrder 1)) ≡ GotOrder o → (a ≡ false) × (b ≡ true) × (x ≡ o)
-took-order true b x o h = (cc, cc, cc)
-took-order false true x o h = (refl, refl, cc)
-took-order false false x o h = (cc, cc, cc)
-
-took-trailer : (a b : Bool) (x t : Trailer) → cond a (NoTrailer 24) (cond b (GotTrailer x) (NoTrailer 22)) ≡ GotTrailer t → (a ≡ false) × (b ≡ true) × (x ≡ t)
-took-trailer true b x t h = (cc, cc, cc)
-took-trailer false true x t h = (refl, refl, cc)
-took-trailer false false x t h = (cc, cc, cc)
 
 -- four bytes in front make a word, where the last is zero
 four-word : (s : List ℕ) (at : ℕ) → at + 4 ≤ length s → get_or s (at + 3) 0 ≡ 0 → joined (get_or s at 0) (get_or s (at + 1) 0) (get_or s (at + 2) 0) 0 ≡ word_at s at
@@ -145,7 +133,7 @@ order-spares s o b3 w =
     simp (b3, at 14, at 15)
 
 -- an order that was written is read
-pub order-written : (o : Order) (l : List ℕ) → order_formed o ≡ true → read_order (word_bytes (order_words o) ++ l) ≡ GotOrder o
+pub order-written : (o : Order) (l : List ℕ) → order_formed o ≡ true → read_order (word_bytes (order_words o) ++ l) ≡ Ok o
 unfolding read_order
 order-written o l ok =
     let b : OrderBounds o = order-bounds o ok in
@@ -158,14 +146,14 @@ order-written o l ok =
     simp (le-ltb (length s) 64 n, spare, back, ok)
 
 -- what an order that was read says of its bytes
-order-tests : (s : List ℕ) (o : Order) → read_order s ≡ GotOrder o → (ltb (length s) 64 ≡ false) × ((order_spare s && order_formed (order_of s)) ≡ true) × (order_of s ≡ o)
+order-tests : (s : List ℕ) (o : Order) → read_order s ≡ Ok o → (ltb (length s) 64 ≡ false) × ((order_spare s && order_formed (order_of s)) ≡ true) × (order_of s ≡ o)
 unfolding read_order
-order-tests s o h = took-order (ltb (length s) 64) (order_spare s && order_formed (order_of s)) (order_of s) o h
+order-tests s o h = took _ _ (ltb (length s) 64) (order_spare s && order_formed (order_of s)) (order_of s) o h
 
-pub order-formed : (s : List ℕ) (o : Order) → read_order s ≡ GotOrder o → order_formed o ≡ true
+pub order-formed : (s : List ℕ) (o : Order) → read_order s ≡ Ok o → order_formed o ≡ true
 order-formed s o h = let t = order-tests s o h in ap order_formed (sym t.2) ∙ and_right (order_spare s) (order_formed (order_of s)) t.1
 
-pub order-read : (s : List ℕ) (o : Order) → AllBytes s → read_order s ≡ GotOrder o → word_bytes (order_words o) ≡ take 64 s
+pub order-read : (s : List ℕ) (o : Order) → AllBytes s → read_order s ≡ Ok o → word_bytes (order_words o) ≡ take 64 s
 order-read s o b h =
     let t = order-tests s o h in
     let n : 64 ≤ length s = ltb-false (length s) 64 t.0 in
@@ -235,7 +223,7 @@ event-rest true = refl
 event-rest false = refl
 
 -- an event is read where four bytes that say its sequence stand before the words of its other fields
-pub event-said : (wide : Bool) (e : Event) (said l : List ℕ) → length said ≡ 4 → word_at said 0 ≡ e.sequence → Word e.participant → event_held wide e ≡ true → read_event wide (said ++ (word_bytes (drop 1 (event_words wide e)) ++ l)) ≡ GotEvent e
+pub event-said : (wide : Bool) (e : Event) (said l : List ℕ) → length said ≡ 4 → word_at said 0 ≡ e.sequence → Word e.participant → event_held wide e ≡ true → read_event wide (said ++ (word_bytes (drop 1 (event_words wide e)) ++ l)) ≡ Ok e
 unfolding read_event
 event-said wide e said l n q p ok =
     let formed : event_formed e ≡ true = held-formed wide e ok in
@@ -254,11 +242,11 @@ event-said wide e said l n q p ok =
     simp (le-ltb (length s) (width_of wide) long, spare, back, formed)
 
 -- an event that was written is read
-pub event-written : (wide : Bool) (e : Event) (l : List ℕ) → Word e.sequence → Word e.participant → event_held wide e ≡ true → read_event wide (word_bytes (event_words wide e) ++ l) ≡ GotEvent e
+pub event-written : (wide : Bool) (e : Event) (l : List ℕ) → Word e.sequence → Word e.participant → event_held wide e ≡ true → read_event wide (word_bytes (event_words wide e) ++ l) ≡ Ok e
 unfolding event_words
 event-written wide e l q p ok = event-said wide e (u32_bytes e.sequence) l refl (ap (λ (ws : List ℕ). get_or ws 0 0) (row_read (e.sequence ∷ []) [] (q, tt))) p ok
 
-pub event-read : (wide : Bool) (s : List ℕ) (e : Event) → AllBytes s → read_event wide s ≡ GotEvent e → word_bytes (event_words wide e) ≡ take (width_of wide) s
+pub event-read : (wide : Bool) (s : List ℕ) (e : Event) → AllBytes s → read_event wide s ≡ Ok e → word_bytes (event_words wide e) ≡ take (width_of wide) s
 event-read wide s e b h =
     let t = event-took wide s e h in
     let n : width_of wide ≤ length s = ltb-false (length s) (width_of wide) t.0 in
@@ -268,7 +256,7 @@ event-read wide s e b h =
 
 -- ---- the trailer
 
-trailer-from : (s : List ℕ) (t : Trailer) → 16 ≤ length s → words_from s 0 4 ≡ trailer_words t → read_trailer s ≡ GotTrailer t
+trailer-from : (s : List ℕ) (t : Trailer) → 16 ≤ length s → words_from s 0 4 ≡ trailer_words t → read_trailer s ≡ Ok t
 unfolding read_trailer trailer_of trailer_words
 trailer-from s t n w =
     let at : (k : ℕ) → get_or (words_from s 0 4) k 0 ≡ get_or (trailer_words t) k 0 = λ k. ap (λ (l : List ℕ). get_or l k 0) w in
@@ -285,7 +273,7 @@ pub trailer-length : (t : Trailer) → length (trailer_words t) ≡ 4
 unfolding trailer_words
 trailer-length t = refl
 
-pub trailer-written : (t : Trailer) (l : List ℕ) → Word t.order → Word t.events → read_trailer (word_bytes (trailer_words t) ++ l) ≡ GotTrailer t
+pub trailer-written : (t : Trailer) (l : List ℕ) → Word t.order → Word t.events → read_trailer (word_bytes (trailer_words t) ++ l) ≡ Ok t
 unfolding trailer_words
 trailer-written t l ho he =
     let s : List ℕ = word_bytes (trailer_words t) ++ l in
@@ -305,11 +293,11 @@ name_back w h = go (eqb w cub2) refl h
     go true e h = sym (eqb-true w cub2 e)
     go false e h = sym (eqb-true w cubt (sym (or-false (eqb w cubt)) ∙ h))
 
-pub trailer-read : (s : List ℕ) (t : Trailer) → AllBytes s → read_trailer s ≡ GotTrailer t → word_bytes (trailer_words t) ≡ take 16 s
+pub trailer-read : (s : List ℕ) (t : Trailer) → AllBytes s → read_trailer s ≡ Ok t → word_bytes (trailer_words t) ≡ take 16 s
 unfolding read_trailer trailer_of trailer_words
 trailer-read s t b h =
     let name : Bool = eqb (word_at s 0) cubt || eqb (word_at s 0) cub2 in
-    let k : (ltb (length s) 16 ≡ false) × ((name && eqb (word_at s 12) 0) ≡ true) × (trailer_of s ≡ t) = took-trailer (ltb (length s) 16) (name && eqb (word_at s 12) 0) (trailer_of s) t h in
+    let k : (ltb (length s) 16 ≡ false) × ((name && eqb (word_at s 12) 0) ≡ true) × (trailer_of s ≡ t) = took _ _ (ltb (length s) 16) (name && eqb (word_at s 12) 0) (trailer_of s) t h in
     let n : 16 ≤ length s = ltb-false (length s) 16 k.0 in
     let w0 : first_word (eqb (word_at s 0) cub2) ≡ word_at s 0 = name_back (word_at s 0) (and_left name (eqb (word_at s 12) 0) k.1) in
     let w3 : word_at s 12 ≡ 0 = eqb-true (word_at s 12) 0 (and_right name _ k.1) in

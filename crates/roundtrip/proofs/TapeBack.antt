@@ -9,16 +9,15 @@ use native.Mathlib.Omega.{arith}
 use lib.ListN.{length, get_or, take, drop, length-append, length-drop, length-map, drop_of_length-le}
 use lib.Seq.{take_all, take_at, drop_at, get_or-append_seam}
 use lib.Dec.{ltb}
+use Rattle.std.specs.Prelude.{Ok, Err}
 use Rattle.base.specs.Lists.{Every}
+use Rattle.base.specs.declared.refusal.Refusal.TheVariants.{EventOutOfForm}
 use Rattle.base.proofs.Numbers.{le-or-lt}
 use Rattle.words.specs.rules.Bytes.{AllBytes, word_bytes, word_at}
 use Rattle.words.proofs.ByteLaws.{length-word_bytes, bytes_drop, word_in, word_out}
 use Rattle.tape.specs.declared.order.Order.{Order}
 use Rattle.tape.specs.declared.event.Event.{Event}
 use Rattle.tape.specs.declared.trailer.Trailer.{Trailer}
-use Rattle.tape.specs.declared.order.ReadOrder.TheVariants.{Order as GotOrder}
-use Rattle.tape.specs.declared.event.ReadEvent.TheVariants.{Event as GotEvent, Refused as NoEvent}
-use Rattle.tape.specs.declared.trailer.Opened.TheVariants.{Tape}
 use Rattle.tape.specs.rules.Form.{order_formed, shape_of, shape_tests, event_formed}
 use Rattle.tape.specs.rules.Records.{with_record, width_of, new_word, event_of, event_spare, of_no_kind, order_words, event_words, trailer_words, order_wrote, event_wrote, trailer_wrote, read_order, read_event, record_at}
 use Rattle.tape.specs.rules.Tape.{length_of, open_tape, event_place, order_in, record_in, records_from, records_of, trailer_for, events_bytes, tape_of, wrote_events, wrote_tape}
@@ -42,7 +41,7 @@ each_long wide [] = tt
 each_long wide (e ∷ es) = (length-word_bytes (event_words wide e) ∙ words_long wide e, each_long wide es)
 
 -- an order that was written is read, and an event that was written stands in its record
-pub order-stands : (o : Order) → order_formed o ≡ true → read_order (word_bytes (order_words o)) ≡ GotOrder o
+pub order-stands : (o : Order) → order_formed o ≡ true → read_order (word_bytes (order_words o)) ≡ Ok o
 order-stands o ok = ap read_order (sym (append-nil (word_bytes (order_words o)))) ∙ order-written o [] ok
 
 events-stand : {wide : Bool} {es : List Event} → AllHeld wide es → map (record_at wide) (map (event_bytes wide) es) ≡ es
@@ -122,12 +121,12 @@ record-nth s t k d h = records-nth s t t.events 0 k d h ∙ ap (record_in s t) (
 
 -- an event in form that stands in a record is read there
 record-reads : (s : List ℕ) (t : Trailer) (k : ℕ) (e : Event) → record_in s t k ≡ e → event_formed e ≡ true → width_of t.wide ≤ length (drop (event_place t.wide t.order k) s)
-    → read_event t.wide (drop (event_place t.wide t.order k) s) ≡ GotEvent e
+    → read_event t.wide (drop (event_place t.wide t.order k) s) ≡ Ok e
 unfolding record_in
 record-reads s t k e there ok n =
     (recorded t.wide (drop (event_place t.wide t.order k) s)).reads n
-    ∙ ap (λ (x : Event). cond (event_formed x) (GotEvent x) (NoEvent 32)) there
-    ∙ ap (λ (x : Bool). cond x (GotEvent e) (NoEvent 32)) ok
+    ∙ ap (λ (x : Event). cond (event_formed x) (Ok x) (Err EventOutOfForm)) there
+    ∙ ap (λ (x : Bool). cond x (Ok e) (Err EventOutOfForm)) ok
 
 -- ---- a tape that the writers put together
 
@@ -153,10 +152,10 @@ module _ (wide : Bool) (own : List ℕ) (o : Order) (es : List Event) (fine : Ta
       let n = tape-long wide own (word_bytes (order_words o)) rs (order-64 o) (each_long wide es) ∙ ap length_of (same-trailer wide own es) in
       any-records wide own (word_bytes (order_words o)) rs (record { order-long = order-64 o; each_long = each_long wide es; fits = omega (arith, n, fine.fits) })
 
-  opens : open_tape (tape_of wide own o es) ≡ Tape t
-  opens = ap open_tape (tape-with wide own o es) ∙ made-with.opens ∙ ap Tape (same-trailer wide own es)
+  opens : open_tape (tape_of wide own o es) ≡ Ok t
+  opens = ap open_tape (tape-with wide own o es) ∙ made-with.opens ∙ ap Ok (same-trailer wide own es)
 
-  order-back : order_in (tape_of wide own o es) t ≡ GotOrder o
+  order-back : order_in (tape_of wide own o es) t ≡ Ok o
   order-back =
       ap (λ (s : List ℕ). order_in s t) (tape-with wide own o es)
       ∙ ap (order_in (tape_with wide own (word_bytes (order_words o)) rs)) (sym (same-trailer wide own es))
@@ -170,7 +169,7 @@ module _ (wide : Bool) (own : List ℕ) (o : Order) (es : List Event) (fine : Ta
       ∙ made-with.records
       ∙ events-stand fine.events
 
-  event-back : (before : List Event) (e : Event) (after : List Event) → es ≡ before ++ (e ∷ after) → read_event wide (drop (event_place wide (length own) (length before)) (tape_of wide own o es)) ≡ GotEvent e
+  event-back : (before : List Event) (e : Event) (after : List Event) → es ≡ before ++ (e ∷ after) → read_event wide (drop (event_place wide (length own) (length before)) (tape_of wide own o es)) ≡ Ok e
   event-back before e after h =
       let s : List ℕ = tape_of wide own o es in
       let k : ℕ = length before in
@@ -190,8 +189,8 @@ module _ (wide : Bool) where
   Formed e = event_formed e ≡ true
 
   -- what stands in a record in form is read
-  pub record-got : (r : List ℕ) → length r ≡ width_of wide → Formed (record_at wide r) → read_event wide r ≡ GotEvent (record_at wide r)
-  record-got r n f = (recorded wide r).reads (omega arith) ∙ ap (λ (x : Bool). cond x (GotEvent (record_at wide r)) (NoEvent 32)) f
+  pub record-got : (r : List ℕ) → length r ≡ width_of wide → Formed (record_at wide r) → read_event wide r ≡ Ok (record_at wide r)
+  record-got r n f = (recorded wide r).reads (omega arith) ∙ ap (λ (x : Bool). cond x (Ok (record_at wide r)) (Err EventOutOfForm)) f
 
   records-written : (rs : List (List ℕ)) → Long (width_of wide) rs → Every AllBytes rs → Every Formed (map (record_at wide) rs) → map (event_bytes wide) (map (record_at wide) rs) ≡ rs
   records-written [] n b f = refl
@@ -199,11 +198,11 @@ module _ (wide : Bool) where
       let one : event_bytes wide (record_at wide r) ≡ r = event-read wide r (record_at wide r) b.0 (record-got r n.0 f.0) ∙ take_all (width_of wide) r (omega (arith, n.0)) in
       ap (λ (x : List ℕ). x ∷ map (event_bytes wide) (map (record_at wide) rs)) one ∙ ap (λ (xs : List (List ℕ)). r ∷ xs) (records-written rs n.1 b.1 f.1)
 
-order_same : (s : List ℕ) (t : Trailer) (o : Order) → AllBytes s → order_in s t ≡ GotOrder o → word_bytes (order_words o) ≡ order_bytes s t
+order_same : (s : List ℕ) (t : Trailer) (o : Order) → AllBytes s → order_in s t ≡ Ok o → word_bytes (order_words o) ≡ order_bytes s t
 unfolding order_in order_bytes
 order_same s t o b q = order-read (drop t.order s) o (bytes_drop t.order s b) q
 
-pub whole_back : (s : List ℕ) (t : Trailer) (o : Order) → AllBytes s → open_tape s ≡ Tape t → order_in s t ≡ GotOrder o → Every (λ e. event_formed e ≡ true) (records_of s t) → tape_of t.wide (own_bytes s t) o (records_of s t) ≡ s
+pub whole_back : (s : List ℕ) (t : Trailer) (o : Order) → AllBytes s → open_tape s ≡ Ok t → order_in s t ≡ Ok o → Every (λ e. event_formed e ≡ true) (records_of s t) → tape_of t.wide (own_bytes s t) o (records_of s t) ≡ s
 whole_back s t o b h q f =
     let m : MadeOf s t = made_of s t h in
     let own : List ℕ = own_bytes s t in
@@ -238,7 +237,7 @@ records-held wide [] n b f = none
 records-held wide (r ∷ rs) n b f =
     more (subst Word (sym (recorded wide r).sequence) (word_fits r 0 b.0)) (participant-fits wide r b.0) (event-held wide r (record_at wide r) (record-got wide r n.0 f.0)) (records-held wide rs n.1 b.1 f.1)
 
-pub whole-written : (s room : List ℕ) (t : Trailer) (o : Order) → AllBytes s → open_tape s ≡ Tape t → order_in s t ≡ GotOrder o → Every (λ e. event_formed e ≡ true) (records_of s t) → length (own_bytes s t) + length room ≡ length s
+pub whole-written : (s room : List ℕ) (t : Trailer) (o : Order) → AllBytes s → open_tape s ≡ Ok t → order_in s t ≡ Ok o → Every (λ e. event_formed e ≡ true) (records_of s t) → length (own_bytes s t) + length room ≡ length s
     → wrote_tape t.wide (own_bytes s t) o (records_of s t) room ≡ s
 whole-written s room t o b h q f n =
     let m : MadeOf s t = made_of s t h in

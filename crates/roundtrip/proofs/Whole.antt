@@ -8,13 +8,12 @@ use native.Mathlib.Omega.{arith}
 use lib.ListN.{length, take, drop, length-append, length-drop, take-append-drop}
 use lib.Seq.{length-take-le, take_all, take_at, drop_at, drop-drop}
 use borrow.Author.Tests.{le-ltb, eq-eqb}
+use Rattle.std.specs.Prelude.{Ok}
 use Rattle.base.specs.Lists.{Every}
 use Rattle.words.specs.rules.Bytes.{AllBytes, word_bytes}
 use Rattle.words.proofs.ByteLaws.{length-word_bytes, bytes_take, bytes_drop, bytes-append, bytes-words}
 use Rattle.tape.specs.declared.event.Event.{Event}
 use Rattle.tape.specs.declared.trailer.Trailer.{Trailer}
-use Rattle.tape.specs.declared.trailer.ReadTrailer.TheVariants.{Trailer as GotTrailer}
-use Rattle.tape.specs.declared.trailer.Opened.TheVariants.{Tape}
 use Rattle.tape.specs.rules.Records.{width_of, trailer_words, read_order, record_at, read_trailer}
 use Rattle.tape.specs.rules.Tape.{length_of, last_trailer, open_tape, event_place, order_in, record_in, records_from, records_of, trailer_for}
 use Rattle.tape.specs.rules.Whole.{together, parts, in_place, tape_with, own_bytes, order_bytes, records_bytes}
@@ -167,7 +166,7 @@ module _ (wide : Bool) (own order : List ℕ) (rs : List (List ℕ)) (n : length
   unfolding tape_with
   trailer-with = placed-trailer (width_of wide) own order rs (word_bytes (trailer_words (trailer_for wide own rs))) n e
 
-  tape-opens : length (tape_with wide own order rs) ≤ 65536 → open_tape (tape_with wide own order rs) ≡ Tape (trailer_for wide own rs)
+  tape-opens : length (tape_with wide own order rs) ≤ 65536 → open_tape (tape_with wide own order rs) ≡ Ok (trailer_for wide own rs)
   unfolding open_tape last_trailer
   tape-opens fits =
       let s : List ℕ = tape_with wide own order rs in
@@ -176,7 +175,7 @@ module _ (wide : Bool) (own order : List ℕ) (rs : List (List ℕ)) (n : length
       let many : length rs * 32 ≤ length rs * width_of wide = at_least wide (length rs) in
       let place : length s - 16 ≡ event_place wide (length own) (length rs) = omega arith in
       let last : drop (length s - 16) s ≡ word_bytes (trailer_words t) ++ [] = ap (λ (k : ℕ). drop k s) place ∙ trailer-with ∙ sym (append-nil (word_bytes (trailer_words t))) in
-      let got : read_trailer (drop (length s - 16) s) ≡ GotTrailer t = ap read_trailer last ∙ trailer-written t [] (omega arith) (omega arith) in
+      let got : read_trailer (drop (length s - 16) s) ≡ Ok t = ap read_trailer last ∙ trailer-written t [] (omega arith) (omega arith) in
       simp (le-ltb (length s) 16 (omega arith), le-ltb 65536 (length s) fits, got, eq-eqb (length_of t) (length s) (sym l))
 
 pub any-records : (wide : Bool) (own order : List ℕ) (rs : List (List ℕ)) → Fitting wide own order rs → AnyRecords wide own order rs
@@ -225,7 +224,7 @@ same-trailer s t l =
     let b : length (parts (width_of t.wide) (drop (t.order + 64) s) t.events) ≡ t.events = parts-count (width_of t.wide) (drop (t.order + 64) s) t.events in
     simp (a, b)
 
-module _ (s : List ℕ) (t : Trailer) (h : open_tape s ≡ Tape t) where
+module _ (s : List ℕ) (t : Trailer) (h : open_tape s ≡ Ok t) where
   abbrev wide : Bool
   wide = t.wide
 

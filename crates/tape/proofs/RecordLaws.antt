@@ -6,15 +6,16 @@ use Prim.Native.Nat.{ℕ, ◌+◌, ◌*◌, ◌/◌, ◌-◌, ◌≤◌, ◌<◌
 use native.Mathlib.Omega.{arith}
 use lib.ListN.{length, get_or, take, drop, length-append, length-drop, drop_of_length-le, get_or-append}
 use borrow.Author.Tests.{le-ltb, lt-ltb}
+use Rattle.std.specs.Prelude.{Result, Ok, Err}
+use Rattle.base.specs.declared.refusal.Refusal.{Refusal}
+use Rattle.base.specs.declared.refusal.Refusal.TheVariants.{RoomTooShort}
 use Rattle.words.specs.rules.Bytes.{joined, word_at, with_words}
 use Rattle.words.proofs.ByteLaws.{row-front, word-alone}
 use Rattle.tape.specs.rules.Tape.{event_place, order_in, record_in}
 use Rattle.tape.specs.rules.Records.{wrote_answer, wrote_bytes, width_of, new_word, event_words, order_of, order_spare, read_order, event_of, event_spare, of_no_kind, record_at}
-use Rattle.tape.specs.declared.order.ReadOrder.{ReadOrder}
-use Rattle.tape.specs.declared.order.ReadOrder.TheVariants.{Refused as NoOrder}
+use Rattle.tape.specs.declared.order.Order.{Order}
 use Rattle.tape.specs.declared.event.Event.{Event}
 use Rattle.tape.specs.declared.trailer.Trailer.{Trailer}
-use Rattle.tape.specs.declared.Written.TheVariants.{Done, Refused}
 use Rattle.base.proofs.SetsLaws.{rest-is}
 
 -- ---- records of both lengths
@@ -61,21 +62,21 @@ words-held false e n j = simp (n, j)
 
 -- ---- writers: the answer, and the bytes
 
-pub wrote-formless : {formed : Bool} (number : ℕ) (ws out : List ℕ) → formed ≡ false
-    → (Refused number ≡ wrote_answer formed number ws out) × (out ≡ wrote_bytes formed ws out)
-wrote-formless number ws out e = (simp e, simp e)
+pub wrote-formless : {formed : Bool} (r : Refusal) (ws out : List ℕ) → formed ≡ false
+    → (Err r ≡ wrote_answer formed r ws out) × (out ≡ wrote_bytes formed ws out)
+wrote-formless r ws out e = (simp e, simp e)
 
-pub wrote-short : {formed : Bool} (number : ℕ) (ws out : List ℕ) → formed ≡ true → length out < length ws * 4
-    → (Refused 24 ≡ wrote_answer formed number ws out) × (out ≡ wrote_bytes formed ws out)
-wrote-short number ws out e h = (simp (e, lt-ltb _ _ h), simp (e, lt-ltb _ _ h))
+pub wrote-short : {formed : Bool} (r : Refusal) (ws out : List ℕ) → formed ≡ true → length out < length ws * 4
+    → (Err RoomTooShort ≡ wrote_answer formed r ws out) × (out ≡ wrote_bytes formed ws out)
+wrote-short r ws out e h = (simp (e, lt-ltb _ _ h), simp (e, lt-ltb _ _ h))
 
-pub wrote-done : {formed : Bool} {after : List ℕ} (number : ℕ) (ws out : List ℕ) → formed ≡ true → length ws * 4 ≤ length out → after ≡ with_words out 0 ws
-    → (Done ≡ wrote_answer formed number ws out) × (after ≡ wrote_bytes formed ws out)
-wrote-done number ws out e h w = (simp (e, le-ltb _ _ h), w ∙ row-front out ws h ∙ simp (e, le-ltb _ _ h))
+pub wrote-done : {formed : Bool} {after : List ℕ} (r : Refusal) (ws out : List ℕ) → formed ≡ true → length ws * 4 ≤ length out → after ≡ with_words out 0 ws
+    → (Ok tt ≡ wrote_answer formed r ws out) × (after ≡ wrote_bytes formed ws out)
+wrote-done r ws out e h w = (simp (e, le-ltb _ _ h), w ∙ row-front out ws h ∙ simp (e, le-ltb _ _ h))
 
 -- ---- readers: too few bytes
 
-pub order-short : (s : List ℕ) → length s < 64 → read_order s ≡ NoOrder 24
+pub order-short : (s : List ℕ) → length s < 64 → read_order s ≡ Err RoomTooShort
 unfolding read_order
 order-short s h = simp (lt-ltb _ _ h)
 
@@ -115,11 +116,11 @@ nothing-at false = refl
 -- ---- a tape's records, where its trailer says that they stand
 
 module _ (s : List ℕ) (t : Trailer) where
-  pub order-past : length s < t.order → NoOrder 24 ≡ order_in s t
+  pub order-past : length s < t.order → Err RoomTooShort ≡ order_in s t
   unfolding order_in
   order-past h = sym (order-short (drop t.order s) (few s t.order 64 (omega arith) (omega arith)))
 
-  pub order-there : {r : ReadOrder} → r ≡ read_order (take (length s - t.order) (drop t.order s)) → r ≡ order_in s t
+  pub order-there : {r : Result Order Refusal} → r ≡ read_order (take (length s - t.order) (drop t.order s)) → r ≡ order_in s t
   unfolding order_in
   order-there e = e ∙ ap read_order (rest-is s t.order)
 

@@ -2,8 +2,8 @@
 ghost use Rattle.std.specs.Prelude.{◌≡◌, ◌≤◌, length};
 ghost use Rattle.tape.specs.rules.Records.{width_of, new_word, event_of, event_spare, of_no_kind, record_at, read_event, event_held, event_answer, event_wrote};
 
-use crate::Written;
 use crate::form::event_form;
+use base::Refusal;
 use words::bytes::{join, read_word, write_words};
 
 // An event as it was recorded: what its fields 12, 16, 20 and 24 hold depends on its kind. The participant is the firm behind it; 0 where the record is an old one.
@@ -19,13 +19,6 @@ pub struct Event {
     pub f20: u32,
     pub f24: u32,
     pub participant: u32,
-}
-
-// The event, or the number of the refusal.
-#[derive(Clone, Copy)]
-pub enum ReadEvent {
-    Event(Event),
-    Refused(u32),
 }
 
 // How many bytes the record has.
@@ -100,18 +93,18 @@ pub fn record_at(wide: bool, s: &[u8]) -> Event
     of_no_kind(read_word(s, 0))
 }
 
-// The event at the start of lent bytes: 24, then 32.
-pub fn read_event(wide: bool, s: &[u8]) -> ReadEvent
+// The event at the start of lent bytes: `RoomTooShort`, then `EventOutOfForm`.
+pub fn read_event(wide: bool, s: &[u8]) -> Result<Event, Refusal>
     ensures { result ≡ read_event wide s.now }
 {
     if s.len() < event_bytes(wide) {
-        return ReadEvent::Refused(24);
+        return Err(Refusal::RoomTooShort);
     }
     let e = event_of(wide, s);
     if event_spare(wide, s) & event_form(e) {
-        ReadEvent::Event(e)
+        Ok(e)
     } else {
-        ReadEvent::Refused(32)
+        Err(Refusal::EventOutOfForm)
     }
 }
 
@@ -122,17 +115,17 @@ fn event_held(wide: bool, e: Event) -> bool
     event_form(e) & (wide | (e.participant == 0))
 }
 
-// The event into the start of lent bytes: 32, then 24; a refusal changes no byte.
-pub fn write_event(wide: bool, e: Event, out: &mut [u8]) -> Written
+// The event into the start of lent bytes: `EventOutOfForm`, then `RoomTooShort`; a refusal changes no byte.
+pub fn write_event(wide: bool, e: Event, out: &mut [u8]) -> Result<(), Refusal>
     ensures value { result ≡ event_answer wide e out.old }
     ensures out_after { out.new ≡ event_wrote wide e out.old }
 {
     if !event_held(wide, e) {
-        return Written::Refused(32);
+        return Err(Refusal::EventOutOfForm);
     }
     let n = event_bytes(wide);
     if out.len() < n {
-        return Written::Refused(24);
+        return Err(Refusal::RoomTooShort);
     }
     let words = [
         e.sequence,
@@ -147,5 +140,5 @@ pub fn write_event(wide: bool, e: Event, out: &mut [u8]) -> Written
         0,
     ];
     write_words(out, 0, &words[..n / 4]);
-    Written::Done
+    Ok(())
 }

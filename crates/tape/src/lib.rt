@@ -8,20 +8,11 @@ mod order;
 mod records;
 mod trailer;
 
-pub use event::{Event, ReadEvent, event_bytes, read_event, record_at, write_event};
+pub use event::{Event, event_bytes, read_event, record_at, write_event};
 pub use form::{event_form, order_form};
-pub use order::{Order, ReadOrder, read_order, write_order};
+pub use order::{Order, read_order, write_order};
 pub use records::{order_in, record_in};
-pub use trailer::{
-    Opened, ReadTrailer, Trailer, last_trailer, length_of, open_tape, read_trailer, write_trailer,
-};
+pub use trailer::{Trailer, last_trailer, length_of, open_tape, read_trailer, write_trailer};
 
 // How many bytes an order's record has.
 pub const ORDER_BYTES: usize = 64;
-
-// A writer's answer: done, or the number of the refusal.
-#[derive(Clone, Copy)]
-pub enum Written {
-    Done,
-    Refused(u32),
-}

@@ -2,8 +2,9 @@
 ghost use Rattle.std.specs.Prelude.{◌≡◌, ◌≤◌, length};
 ghost use Rattle.tape.specs.rules.Records.{order_of, order_spare, read_order, order_answer, order_wrote};
 
+use crate::ORDER_BYTES;
 use crate::form::order_form;
-use crate::{ORDER_BYTES, Written};
+use base::Refusal;
 use words::bytes::{join, read_word, write_words};
 
 // An order as it was recorded. `stop` is the stop or the auto-match limit, `interval` is L; `displayed` and `collar` are the displayed price of a collared order on the other side and one Trading Collar, both zero where there is none.
@@ -25,13 +26,6 @@ pub struct Order {
     pub interval: u32,
     pub displayed: u32,
     pub collar: u32,
-}
-
-// The order, or the number of the refusal.
-#[derive(Clone, Copy)]
-pub enum ReadOrder {
-    Order(Order),
-    Refused(u32),
 }
 
 // The bytes that no field has are zero.
@@ -67,31 +61,31 @@ fn order_of(s: &[u8]) -> Order
     }
 }
 
-// The order at the start of lent bytes: 24, then 1.
-pub fn read_order(s: &[u8]) -> ReadOrder
+// The order at the start of lent bytes: `RoomTooShort`, then `OrderOutOfForm`.
+pub fn read_order(s: &[u8]) -> Result<Order, Refusal>
     ensures { result ≡ read_order s.now }
 {
     if s.len() < ORDER_BYTES {
-        return ReadOrder::Refused(24);
+        return Err(Refusal::RoomTooShort);
     }
     let o = order_of(s);
     if order_spare(s) & order_form(o) {
-        ReadOrder::Order(o)
+        Ok(o)
     } else {
-        ReadOrder::Refused(1)
+        Err(Refusal::OrderOutOfForm)
     }
 }
 
-// The order into the start of lent bytes: 1, then 24; a refusal changes no byte.
-pub fn write_order(o: Order, out: &mut [u8]) -> Written
+// The order into the start of lent bytes: `OrderOutOfForm`, then `RoomTooShort`; a refusal changes no byte.
+pub fn write_order(o: Order, out: &mut [u8]) -> Result<(), Refusal>
     ensures value { result ≡ order_answer o out.old }
     ensures out_after { out.new ≡ order_wrote o out.old }
 {
     if !order_form(o) {
-        return Written::Refused(1);
+        return Err(Refusal::OrderOutOfForm);
     }
     if out.len() < ORDER_BYTES {
-        return Written::Refused(24);
+        return Err(Refusal::RoomTooShort);
     }
     let words = [
         join(o.side, o.mode, o.marks, 0),
@@ -112,5 +106,5 @@ pub fn write_order(o: Order, out: &mut [u8]) -> Written
         0,
     ];
     write_words(out, 0, &words);
-    Written::Done
+    Ok(())
 }

@@ -5,16 +5,17 @@ ghost use Rattle.tape.specs.rules.Tape.{order_in, record_in};
 
 use crate::ORDER_BYTES;
 use crate::event::{Event, event_bytes, of_no_kind, record_at};
-use crate::order::{ReadOrder, read_order};
+use crate::order::{Order, read_order};
 use crate::trailer::Trailer;
+use base::Refusal;
 
-// The order; 24 where the bytes end before it does.
-pub fn order_in(s: &[u8], t: Trailer) -> ReadOrder
+// The order; `RoomTooShort` where the bytes end before it does.
+pub fn order_in(s: &[u8], t: Trailer) -> Result<Order, Refusal>
     ensures { result ≡ order_in s.now t }
 {
     let at = t.order as usize;
     if s.len() < at {
-        return ReadOrder::Refused(24);
+        return Err(Refusal::RoomTooShort);
     }
     read_order(&s[at..])
 }

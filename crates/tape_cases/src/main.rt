@@ -5,6 +5,7 @@
 
 #![tactic(auto)]
 
+use base::Refusal;
 use std::io::Read;
 use words::bytes::read_word;
 
@@ -18,9 +19,9 @@ fn number(rt: &impl Print, n: u32) {
     let _ = print!(rt; " {n}");
 }
 
-fn refused(rt: &impl Print, n: u32) {
+fn refused(rt: &impl Print, r: Refusal) {
     text(rt, b"refused");
-    number(rt, n);
+    number(rt, r.number());
 }
 
 fn small(rt: &impl Print, b: u8) {
@@ -59,10 +60,10 @@ fn same(rt: &impl Print, yes: bool) {
     }
 }
 
-fn written(rt: &impl Print, w: tape::Written) {
+fn written(rt: &impl Print, w: Result<(), Refusal>) {
     match w {
-        tape::Written::Done => text(rt, b"done"),
-        tape::Written::Refused(n) => refused(rt, n),
+        Ok(()) => text(rt, b"done"),
+        Err(r) => refused(rt, r),
     }
 }
 
@@ -93,14 +94,14 @@ fn order_rest(rt: &impl Print, o: tape::Order) {
 
 fn order(rt: &impl Print, s: &[u8]) {
     match tape::read_order(s) {
-        tape::ReadOrder::Order(o) => {
+        Ok(o) => {
             order_values(rt, o);
             order_rest(rt, o);
             let mut back = [0u8; 64];
-            tape::write_order(o, &mut back);
+            let _ = tape::write_order(o, &mut back);
             same(rt, starts(s, &back));
         }
-        tape::ReadOrder::Refused(n) => refused(rt, n),
+        Err(r) => refused(rt, r),
     }
 }
 
@@ -124,20 +125,20 @@ fn is_wide(what: u32) -> bool {
 }
 
 fn event_back(rt: &impl Print, wide: bool, e: tape::Event, s: &[u8], back: &mut [u8]) {
-    tape::write_event(wide, e, back);
+    let _ = tape::write_event(wide, e, back);
     same(rt, starts(s, back));
 }
 
 fn event(rt: &impl Print, wide: bool, s: &[u8]) {
     match tape::read_event(wide, s) {
-        tape::ReadEvent::Event(e) => {
+        Ok(e) => {
             event_values(rt, e);
             let mut back = [0u8; 40];
             let start = 0;
             let n = tape::event_bytes(wide);
             event_back(rt, wide, e, s, &mut back[start..n]);
         }
-        tape::ReadEvent::Refused(n) => refused(rt, n),
+        Err(r) => refused(rt, r),
     }
 }
 
@@ -151,28 +152,28 @@ fn form(rt: &impl Print, wide: bool) {
 
 fn trailer(rt: &impl Print, s: &[u8]) {
     match tape::read_trailer(s) {
-        tape::ReadTrailer::Trailer(t) => {
+        Ok(t) => {
             text(rt, b"trailer");
             form(rt, t.wide);
             number(rt, t.order);
             number(rt, t.events);
             let mut back = [0u8; 16];
-            tape::write_trailer(t, &mut back);
+            let _ = tape::write_trailer(t, &mut back);
             same(rt, starts(s, &back));
         }
-        tape::ReadTrailer::Refused(n) => refused(rt, n),
+        Err(r) => refused(rt, r),
     }
 }
 
 fn opened(rt: &impl Print, s: &[u8]) {
     match tape::open_tape(s) {
-        tape::Opened::Tape(t) => {
+        Ok(t) => {
             text(rt, b"tape");
             form(rt, t.wide);
             number(rt, t.order);
             number(rt, t.events);
         }
-        tape::Opened::Refused(n) => refused(rt, n),
+        Err(r) => refused(rt, r),
     }
 }
 
@@ -240,12 +241,12 @@ fn put_trailer(rt: &impl Print, wide: bool, v: &[u8], lent: &mut [u8]) {
 
 // ---- moving the tape that the lent bytes are: the answer, and all bytes of a room of as many bytes as the first value says
 
-fn moved(rt: &impl Print, m: moving::Moved) {
+fn moved(rt: &impl Print, m: Result<u64, Refusal>) {
     match m {
-        moving::Moved::Length(n) => {
+        Ok(n) => {
             let _ = print!(rt; "moved {n}");
         }
-        moving::Moved::Refused(n) => refused(rt, n),
+        Err(r) => refused(rt, r),
     }
 }
 

@@ -5,5 +5,5 @@ use Rattle.desk.proofs.move_bytes.Goals as goal
 
 pub print_start-requires : goal.print_start-requires
 print_start-requires g c =
-    let done = all-moves.done c.args.wide c.args.tape.now c.args.out.now c.in-Length.n (sym c.move_tape.ensures.value ∙ c.in-Length.is) in
+    let done = all-moves.done c.args.wide c.args.tape.now c.args.out.now c.in-Ok.n (sym c.move_tape.ensures.value ∙ c.in-Ok.is) in
     omega (arith, done.room)

@@ -1,16 +1,16 @@
-use Rattle.tape.specs.declared.order.ReadOrder.TheVariants.{Order}
 use mathlib.Core.Path.{sym, ap, ◌∙◌}
+use Rattle.std.specs.Prelude.{Ok}
 use Rattle.tape.specs.rules.Tape.{records_of}
 use Rattle.run.specs.rules.Run.{refused, run_order}
 use Rattle.listing.proofs.ListsLaws.{lists-same}
 use Rattle.listing.proofs.list_tape.Goals as goal
 
-pub returns-in-Order : goal.returns-in-Order
-returns-in-Order c =
+pub returns-in-Ok : goal.returns-in-Ok
+returns-in-Ok c =
     let a = c.args in
-    lists-same (run_order (records_of a.tape.now a.t) (Order c.in-Order.o)) c.list_order.ensures (ap (run_order (records_of a.tape.now a.t)) (sym c.in-Order.is ∙ c.order_in.ensures))
+    lists-same (run_order (records_of a.tape.now a.t) (Ok c.in-Ok.o)) c.list_order.ensures (ap (run_order (records_of a.tape.now a.t)) (sym c.in-Ok.is ∙ c.order_in.ensures))
 
-pub returns-in-Refused : goal.returns-in-Refused
-returns-in-Refused c =
+pub returns-in-Err : goal.returns-in-Err
+returns-in-Err c =
     let a = c.args in
-    lists-same (refused c.in-Refused.number) c.list_refused.ensures (ap (run_order (records_of a.tape.now a.t)) (sym c.in-Refused.is ∙ c.order_in.ensures))
+    lists-same (refused c.number.result) c.list_refused.ensures (ap refused c.number.ensures ∙ ap (run_order (records_of a.tape.now a.t)) (sym c.in-Err.is ∙ c.order_in.ensures))

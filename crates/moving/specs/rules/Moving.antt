@@ -1,13 +1,11 @@
 -- A tape moved from one form to the other (W-206 of document 02). `wide` is the form that is wanted: true for the new one.
-use Rattle.std.specs.Prelude.{Bool, true, cond, not, ◌&&◌, ◌||◌, List, [], ◌∷◌, ◌++◌, map, ℕ, ltb, eqb, length, take, drop}
+use Rattle.std.specs.Prelude.{Bool, true, cond, not, ◌&&◌, ◌||◌, List, [], ◌∷◌, ◌++◌, map, ℕ, ltb, eqb, length, take, drop, Result, Ok, Err}
+use Rattle.base.specs.declared.refusal.Refusal.{Refusal}
+use Rattle.base.specs.declared.refusal.Refusal.TheVariants.{TrailerOutOfForm, LengthsDisagree, RoomTooShort, FirmLost, MovedTooLong}
 use Rattle.words.specs.rules.Bytes.{word_bytes, word_at}
 use Rattle.tape.specs.declared.trailer.Trailer.{Trailer}
-use Rattle.tape.specs.declared.trailer.ReadTrailer.{ReadTrailer}
-use Rattle.tape.specs.declared.trailer.ReadTrailer.TheVariants.{Trailer as GotTrailer, Refused as NoTrailer}
 use Rattle.tape.specs.rules.Tape.{length_of, last_trailer}
 use Rattle.tape.specs.rules.Whole.{tape_with, own_bytes, order_bytes, records_bytes}
-use Rattle.moving.specs.declared.Moved.{Moved}
-use Rattle.moving.specs.declared.Moved.TheVariants.{Length, Refused}
 
 -- the tape has the form already
 abbrev pub has_form : Trailer → Bool → Bool
@@ -42,30 +40,30 @@ unfoldable pub all_bare : List (List ℕ) → Bool
 all_bare [] = true
 all_bare (r ∷ rs) = is_bare r && all_bare rs
 
--- after 21 and 22: 22 for a tape that has the wanted form already; 23, lengths that don't add up; 25, moving back, an event that isn't bare; 26, too long a tape; 24, too short a room
-unfoldable pub move_opened : Bool → List ℕ → Trailer → List ℕ → Moved
+-- after the trailer's refusals (21, 22): 22 for a tape that has the wanted form already; 23, lengths that don't add up; 25, moving back, an event that isn't bare; 26, too long a tape; 24, too short a room
+unfoldable pub move_opened : Bool → List ℕ → Trailer → List ℕ → Result ℕ Refusal
 move_opened wide s t out =
     let long = length_of (moved_trailer wide t) in
-    cond (has_form t wide) (Refused 22)
-    (cond (not (eqb (length_of t) (length s))) (Refused 23)
-    (cond (not (wide || all_bare (records_bytes s t))) (Refused 25)
-    (cond (ltb 65536 long) (Refused 26)
-    (cond (ltb (length out) long) (Refused 24)
-    (Length long)))))
+    cond (has_form t wide) (Err TrailerOutOfForm)
+    (cond (not (eqb (length_of t) (length s))) (Err LengthsDisagree)
+    (cond (not (wide || all_bare (records_bytes s t))) (Err FirmLost)
+    (cond (ltb 65536 long) (Err MovedTooLong)
+    (cond (ltb (length out) long) (Err RoomTooShort)
+    (Ok long)))))
 
-abbrev pub move_with : Bool → List ℕ → List ℕ → ReadTrailer → Moved
-move_with wide s out (GotTrailer t) = move_opened wide s t out
-move_with wide s out (NoTrailer number) = Refused number
+abbrev pub move_with : Bool → List ℕ → List ℕ → Result Trailer Refusal → Result ℕ Refusal
+move_with wide s out (Ok t) = move_opened wide s t out
+move_with wide s out (Err r) = Err r
 
--- the length of the moved tape, or the number
-unfoldable pub move_answer : Bool → List ℕ → List ℕ → Moved
+-- the length of the moved tape, or the refusal
+unfoldable pub move_answer : Bool → List ℕ → List ℕ → Result ℕ Refusal
 move_answer wide s out = move_with wide s out (last_trailer s)
 
 -- the lent bytes then: a refusal changes none
-abbrev pub bytes_with : Bool → List ℕ → List ℕ → ReadTrailer → Moved → List ℕ
-bytes_with wide s out (GotTrailer t) (Length n) = moved_bytes wide s t out
-bytes_with wide s out (GotTrailer t) (Refused number) = out
-bytes_with wide s out (NoTrailer number) m = out
+abbrev pub bytes_with : Bool → List ℕ → List ℕ → Result Trailer Refusal → Result ℕ Refusal → List ℕ
+bytes_with wide s out (Ok t) (Ok n) = moved_bytes wide s t out
+bytes_with wide s out (Ok t) (Err r) = out
+bytes_with wide s out (Err r) m = out
 
 unfoldable pub move_wrote : Bool → List ℕ → List ℕ → List ℕ
 move_wrote wide s out = bytes_with wide s out (last_trailer s) (move_answer wide s out)

@@ -40,7 +40,7 @@ use Rattle.run.specs.promises.Demands.{Within, Trades, Names, InTime}
 use Rattle.listing.specs.rules.Text.{text, newline}
 use Rattle.listing.specs.rules.Watch.{watch_line, watch_lines}
 use Rattle.listing.specs.rules.Listing.{field, answer_text, event_text, end_text, refused_line, auction_line, event_lines, end_lines, listing_of, room_of, listed_of, length_in, bytes_of}
-use Rattle.promise.specs.rules.Answers.{Accepts, no, yes, paper_of, opened_is, order_is, event_is, trailer_is, written_is, entry_is, answer_is, ending_is, moved_is, firm_is, run_is, listed_is}
+use Rattle.promise.specs.rules.Answers.{Accepts, no, yes, paper_of, entry_is, answer_is, ending_is, firm_is, run_is, listed_is}
 use Rattle.promise.specs.rules.Tapes.{Carries}
 use Rattle.promise.specs.rules.Sides.{is_sell, other_side, better, got_better, sent, responses, taken_records, at_end, range_at_end, written_fills, live_at_end, market_order, working_price, others_at_price, guarantee_at_end, plan_at_price, left_to_others_at_price, sent_by, sent_instead, initiating_price, takes_place, standing_of, has_named, given_size, given_price}
 
@@ -49,9 +49,9 @@ use Rattle.promise.specs.rules.Sides.{is_sell, other_side, better, got_better, s
 -- the listing of the bytes s: one of four
 pub data Answered (s : List ℕ) : Type 0 where
   -- 21, 22 or 23: the bytes are no tape
-  no-tape : (n : ℕ) → opened_is (open_tape s) ≡ no n → In n (21 ∷ 22 ∷ 23 ∷ []) → listing_of s ≡ refused_line n → Answered s
+  no-tape : (n : ℕ) → paper_of (open_tape s) ≡ no n → In n (21 ∷ 22 ∷ 23 ∷ []) → listing_of s ≡ refused_line n → Answered s
   -- 1: the order's record is out of form
-  no-order : (t : Trailer) → opened_is (open_tape s) ≡ yes t → order_is (order_in s t) ≡ no 1 → listing_of s ≡ refused_line 1 → Answered s
+  no-order : (t : Trailer) → paper_of (open_tape s) ≡ yes t → paper_of (order_in s t) ≡ no 1 → listing_of s ≡ refused_line 1 → Answered s
   -- 2 to 13: the order is not accepted
   not-accepted : (o : Order) (es : List Event) (n : ℕ) → Carries s o es → entry_is (accept_of o).answer ≡ no n → In n (2 ∷ 3 ∷ 4 ∷ 5 ∷ 6 ∷ 7 ∷ 8 ∷ 9 ∷ 10 ∷ 11 ∷ 12 ∷ 13 ∷ []) → listing_of s ≡ refused_line n → Answered s
   -- the auction: its opening, a line for each record, its end
@@ -70,21 +70,21 @@ pub record Roomed (s out : List ℕ) : Type 0 where
 -- the fills of an auction, into words from a start place
 pub record Filling (a : Auction) (xs : List ℕ) (start : ℕ) : Type 0 where
   -- 40 before the ending, then 39 for fewer than 390 words from the start place: every word stays
-  pub early : is_open a.head.ending ≡ true → (paper_of (fills_answer a xs start) ≡ no 40) × (fills_after a xs start ≡ xs)
-  pub small : is_open a.head.ending ≡ false → length xs < start + 390 → (paper_of (fills_answer a xs start) ≡ no 39) × (fills_after a xs start ≡ xs)
+  pub early : is_open a.head.ending ≡ true → (filled_is (fills_answer a xs start) ≡ no 40) × (fills_after a xs start ≡ xs)
+  pub small : is_open a.head.ending ≡ false → length xs < start + 390 → (filled_is (fills_answer a xs start) ≡ no 39) × (fills_after a xs start ≡ xs)
   -- else their number, and their words from the start place on; all other words stay, and there is room for all
   pub counted : is_open a.head.ending ≡ false → start + 390 ≤ length xs
-      → (paper_of (fills_answer a xs start) ≡ yes (length (auction_fills a))) × (fills_after a xs start ≡ take start xs ++ (words (auction_fills a) ++ drop (start + 3 * length (auction_fills a)) xs))
+      → (filled_is (fills_answer a xs start) ≡ yes (length (auction_fills a))) × (fills_after a xs start ≡ take start xs ++ (words (auction_fills a) ++ drop (start + 3 * length (auction_fills a)) xs))
   pub room : Good a.board → 3 * length (auction_fills a) ≤ 390
 
 -- the records' readers and writers: 24 first, or last; and the record's own number
 pub record Numbered : Type 0 where
-  pub reads-order : (s : List ℕ) → order_is (read_order s) ≡ cond (ltb (length s) 64) (no 24) (cond (order_spare s && order_formed (order_of s)) (yes (order_of s)) (no 1))
-  pub reads-event : (wide : Bool) (s : List ℕ) → event_is (read_event wide s) ≡ cond (ltb (length s) (width_of wide)) (no 24) (cond (event_spare wide s && event_formed (event_of wide s)) (yes (event_of wide s)) (no 32))
-  pub reads-trailer : (s : List ℕ) → trailer_is (read_trailer s) ≡ cond (ltb (length s) 16) (no 24) (cond ((eqb (word_at s 0) cubt || eqb (word_at s 0) cub2) && eqb (word_at s 12) 0) (yes (trailer_of s)) (no 22))
-  pub writes-order : (o : Order) (out : List ℕ) → written_is (order_answer o out) ≡ cond (order_formed o) (cond (ltb (length out) 64) (no 24) (yes tt)) (no 1)
-  pub writes-event : (wide : Bool) (e : Event) (out : List ℕ) → written_is (event_answer wide e out) ≡ cond (event_formed e && (wide || eqb e.participant 0)) (cond (ltb (length out) (width_of wide)) (no 24) (yes tt)) (no 32)
-  pub writes-trailer : (t : Trailer) (out : List ℕ) → written_is (trailer_answer t out) ≡ cond (ltb (length out) 16) (no 24) (yes tt)
+  pub reads-order : (s : List ℕ) → paper_of (read_order s) ≡ cond (ltb (length s) 64) (no 24) (cond (order_spare s && order_formed (order_of s)) (yes (order_of s)) (no 1))
+  pub reads-event : (wide : Bool) (s : List ℕ) → paper_of (read_event wide s) ≡ cond (ltb (length s) (width_of wide)) (no 24) (cond (event_spare wide s && event_formed (event_of wide s)) (yes (event_of wide s)) (no 32))
+  pub reads-trailer : (s : List ℕ) → paper_of (read_trailer s) ≡ cond (ltb (length s) 16) (no 24) (cond ((eqb (word_at s 0) cubt || eqb (word_at s 0) cub2) && eqb (word_at s 12) 0) (yes (trailer_of s)) (no 22))
+  pub writes-order : (o : Order) (out : List ℕ) → paper_of (order_answer o out) ≡ cond (order_formed o) (cond (ltb (length out) 64) (no 24) (yes tt)) (no 1)
+  pub writes-event : (wide : Bool) (e : Event) (out : List ℕ) → paper_of (event_answer wide e out) ≡ cond (event_formed e && (wide || eqb e.participant 0)) (cond (ltb (length out) (width_of wide)) (no 24) (yes tt)) (no 32)
+  pub writes-trailer : (t : Trailer) (out : List ℕ) → paper_of (trailer_answer t out) ≡ cond (ltb (length out) 16) (no 24) (yes tt)
   -- the words of the EVENT and END lines
   pub event-words : (a : Answer) (w : String) → answer_is a ≡ yes w → answer_text a ≡ text " " ++ text w
   pub event-number : (a : Answer) (n : ℕ) → answer_is a ≡ no n → answer_text a ≡ field " refused " n
@@ -302,10 +302,10 @@ pub record Unshown : Type 0 where
 -- the tape s moved into the bytes `out`; `wide` is the form that is wanted
 pub record MovedTape (wide : Bool) (s out : List ℕ) : Type 0 where
   -- a refusal has one of six numbers, and changes no byte
-  pub refused : (n : ℕ) → moved_is (move_answer wide s out) ≡ no n → In n (21 ∷ 22 ∷ 23 ∷ 25 ∷ 26 ∷ 24 ∷ []) × (move_wrote wide s out ≡ out)
+  pub refused : (n : ℕ) → paper_of (move_answer wide s out) ≡ no n → In n (21 ∷ 22 ∷ 23 ∷ 25 ∷ 26 ∷ 24 ∷ []) × (move_wrote wide s out ≡ out)
   -- else the moved tape stands at the start, and every byte past its length stays; it has the same listing
-  pub stays : (n : ℕ) → moved_is (move_answer wide s out) ≡ yes n → drop n (move_wrote wide s out) ≡ drop n out
-  pub listed : (n : ℕ) → moved_is (move_answer wide s out) ≡ yes n → listing_of (moved_to wide s out n) ≡ listing_of s
+  pub stays : (n : ℕ) → paper_of (move_answer wide s out) ≡ yes n → drop n (move_wrote wide s out) ≡ drop n out
+  pub listed : (n : ℕ) → paper_of (move_answer wide s out) ≡ yes n → listing_of (moved_to wide s out n) ≡ listing_of s
   -- and moved back, wherever there is room for it, it is the tape byte for byte
-  pub back : (n : ℕ) → moved_is (move_answer wide s out) ≡ yes n → AllBytes s → (out' : List ℕ) → length s ≤ length out'
-      → (moved_is (move_answer (not wide) (moved_to wide s out n) out') ≡ yes (length s)) × (move_wrote (not wide) (moved_to wide s out n) out' ≡ s ++ drop (length s) out')
+  pub back : (n : ℕ) → paper_of (move_answer wide s out) ≡ yes n → AllBytes s → (out' : List ℕ) → length s ≤ length out'
+      → (paper_of (move_answer (not wide) (moved_to wide s out n) out') ≡ yes (length s)) × (move_wrote (not wide) (moved_to wide s out n) out' ≡ s ++ drop (length s) out')

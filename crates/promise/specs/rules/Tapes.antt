@@ -1,13 +1,12 @@
 -- Tapes beside one another: what a tape carries, and which records another has more, fewer, or mirrored.
-use Rattle.std.specs.Prelude.{◌≡◌, Bool, false, not, List, [], ◌∷◌, ◌++◌, ℕ, ◌≤◌}
+use Rattle.std.specs.Prelude.{◌≡◌, Bool, false, not, List, [], ◌∷◌, ◌++◌, ℕ, ◌≤◌, Result, Ok, Err}
+use Rattle.base.specs.declared.refusal.Refusal.{Refusal}
 use Rattle.base.specs.Lists.{In, keep, filter}
 use Rattle.words.specs.rules.Bytes.{AllBytes}
 use Rattle.tape.specs.rules.Tape.{open_tape, order_in, records_of}
 use Rattle.tape.specs.declared.order.Order.{Order}
 use Rattle.tape.specs.declared.event.Event.{Event}
 use Rattle.tape.specs.declared.trailer.Trailer.{Trailer}
-use Rattle.tape.specs.declared.trailer.Opened.{Opened}
-use Rattle.tape.specs.declared.trailer.Opened.TheVariants.{Tape, Refused as NoTape}
 use Rattle.trade.specs.rules.Trade.{traded}
 use Rattle.auction.specs.rules.Range.{is_open, range_of}
 use Rattle.auction.specs.declared.Auction.{Auction}
@@ -16,15 +15,15 @@ use Rattle.events.specs.declared.Answer.{Answer}
 use Rattle.fills.specs.rules.Fills.{auction_fills}
 use Rattle.run.specs.rules.Run.{Said, Run, refused, ended, run_of, run, taken_of}
 use Rattle.run.specs.promises.Demands.{mirrored_fills, mirrored_range}
-use Rattle.promise.specs.rules.Answers.{yes, is_no, opened_is, order_is, answer_is}
+use Rattle.promise.specs.rules.Answers.{yes, is_no, paper_of, answer_is}
 use Rattle.listing.specs.rules.Watch.{watch_lines}
 use Rattle.listing.specs.rules.Listing.{field, refused_line, auction_line, range_text, side_text, event_lines, end_text, fill_lines, total_line, end_lines}
 
 -- the bytes s are a tape that opens: the order that is read of its record, and the events that stand in its records, in form or not
 pub record Carries (s : List ℕ) (o : Order) (es : List Event) : Type 0 where
   pub trailer : Trailer
-  pub opened : opened_is (open_tape s) ≡ yes trailer
-  pub order : order_is (order_in s trailer) ≡ yes o
+  pub opened : paper_of (open_tape s) ≡ yes trailer
+  pub order : paper_of (order_in s trailer) ≡ yes o
   pub records : records_of s trailer ≡ es
 
 -- there is a tape, of the new form where `wide`, that carries an order and records
@@ -45,9 +44,9 @@ end_of s = end_in (run_of s)
 -- ---- a watch
 
 -- the records of a tape that opens
-abbrev pub records_in : List ℕ → Opened → List Event
-records_in s (NoTape number) = []
-records_in s (Tape t) = records_of s t
+abbrev pub records_in : List ℕ → Result Trailer Refusal → List Event
+records_in s (Err r) = []
+records_in s (Ok t) = records_of s t
 
 -- its lines: those of the listing, each EVENT line with the contracts on offer after its event
 abbrev pub watch_in : List Event → Run → List ℕ

@@ -1,15 +1,14 @@
 -- A tape that is held: what stands at each of its places.
-use Rattle.std.specs.Prelude.{cond, List, ℕ, ◌+◌, leb, ltb}
+use Rattle.std.specs.Prelude.{cond, List, ℕ, ◌+◌, leb, ltb, Option, Some, None}
 use Rattle.std.specs.Borrow.{Bor}
 use Rattle.tape.specs.rules.Tape.{record_in}
 use Rattle.tape.specs.declared.trailer.Trailer.{Trailer}
+use Rattle.tape.specs.declared.event.Event.{Event}
 use Rattle.reader.specs.declared.Tape.{Tape}
-use Rattle.reader.specs.declared.Current.{Current}
-use Rattle.reader.specs.declared.Current.TheVariants.{Event, End}
 
--- record k, and the end from the number of events on
-unfoldable pub current_of : List ℕ → Trailer → ℕ → Current
-current_of s t k = cond (leb t.events k) End (Event (record_in s t k))
+-- record k, and none from the number of events on
+unfoldable pub current_of : List ℕ → Trailer → ℕ → Option Event
+current_of s t k = cond (leb t.events k) None (Some (record_in s t k))
 
 -- the place after one; the end is the last
 unfoldable pub next_place : Trailer → ℕ → ℕ
@@ -24,5 +23,5 @@ abbrev pub next_of : Tape → Tape
 next_of t = held t.bytes t.trailer (next_place t.trailer t.place)
 
 -- what stands at a held tape's place
-abbrev pub standing : Tape → Current
+abbrev pub standing : Tape → Option Event
 standing t = current_of t.bytes.now t.trailer t.place

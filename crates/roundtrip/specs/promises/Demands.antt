@@ -1,5 +1,6 @@
 -- What is promised of the records of a tape, beyond each function's own contract: of both forms at once, `wide` being that of the event records.
-use Rattle.std.specs.Prelude.{◌≡◌, Bool, true, false, List, [], ◌∷◌, ◌++◌, map, ℕ, ◌+◌, ◌≤◌, ◌<◌, ◌^◌, length, take, drop}
+use Rattle.std.specs.Prelude.{◌≡◌, Bool, true, false, List, [], ◌∷◌, ◌++◌, map, ℕ, ◌+◌, ◌≤◌, ◌<◌, ◌^◌, length, take, drop, Ok, Err}
+use Rattle.base.specs.declared.refusal.Refusal.{Refusal}
 use Rattle.base.specs.Lists.{Every}
 use Rattle.words.specs.rules.Bytes.{AllBytes, word_bytes}
 use Rattle.tape.specs.rules.Form.{order_formed, event_formed}
@@ -10,11 +11,6 @@ use Rattle.tape.specs.promises.Holds.{Holds, Recorded}
 use Rattle.tape.specs.declared.order.Order.{Order}
 use Rattle.tape.specs.declared.event.Event.{Event}
 use Rattle.tape.specs.declared.trailer.Trailer.{Trailer}
-use Rattle.tape.specs.declared.order.ReadOrder.TheVariants.{Order as GotOrder}
-use Rattle.tape.specs.declared.event.ReadEvent.TheVariants.{Event as GotEvent}
-use Rattle.tape.specs.declared.trailer.ReadTrailer.TheVariants.{Trailer as GotTrailer}
-use Rattle.tape.specs.declared.Written.TheVariants.{Refused}
-use Rattle.tape.specs.declared.trailer.Opened.TheVariants.{Tape}
 
 -- a word of 32 bits
 abbrev pub Word : ℕ → Type 0
@@ -22,21 +18,21 @@ Word w = w < 2 ^ 32
 
 -- reading what was written gives the same value
 pub record ValuesBack : Type 0 where
-  pub order : (o : Order) (out : List ℕ) → order_formed o ≡ true → 64 ≤ length out → read_order (order_wrote o out) ≡ GotOrder o
-  pub event : (wide : Bool) (e : Event) (out : List ℕ) → Word e.sequence → Word e.participant → event_held wide e ≡ true → width_of wide ≤ length out → read_event wide (event_wrote wide e out) ≡ GotEvent e
-  pub trailer : (t : Trailer) (out : List ℕ) → Word t.order → Word t.events → 16 ≤ length out → read_trailer (trailer_wrote t out) ≡ GotTrailer t
+  pub order : (o : Order) (out : List ℕ) → order_formed o ≡ true → 64 ≤ length out → read_order (order_wrote o out) ≡ Ok o
+  pub event : (wide : Bool) (e : Event) (out : List ℕ) → Word e.sequence → Word e.participant → event_held wide e ≡ true → width_of wide ≤ length out → read_event wide (event_wrote wide e out) ≡ Ok e
+  pub trailer : (t : Trailer) (out : List ℕ) → Word t.order → Word t.events → 16 ≤ length out → read_trailer (trailer_wrote t out) ≡ Ok t
 
 -- writing what was read gives the same bytes, wherever there is room for them, and changes no byte past them
 pub record BytesBack : Type 0 where
-  pub order : (s out : List ℕ) (o : Order) → AllBytes s → read_order s ≡ GotOrder o → 64 ≤ length out → order_wrote o out ≡ take 64 s ++ drop 64 out
-  pub event : (wide : Bool) (s out : List ℕ) (e : Event) → AllBytes s → read_event wide s ≡ GotEvent e → width_of wide ≤ length out → event_wrote wide e out ≡ take (width_of wide) s ++ drop (width_of wide) out
-  pub trailer : (s out : List ℕ) (t : Trailer) → AllBytes s → read_trailer s ≡ GotTrailer t → 16 ≤ length out → trailer_wrote t out ≡ take 16 s ++ drop 16 out
+  pub order : (s out : List ℕ) (o : Order) → AllBytes s → read_order s ≡ Ok o → 64 ≤ length out → order_wrote o out ≡ take 64 s ++ drop 64 out
+  pub event : (wide : Bool) (s out : List ℕ) (e : Event) → AllBytes s → read_event wide s ≡ Ok e → width_of wide ≤ length out → event_wrote wide e out ≡ take (width_of wide) s ++ drop (width_of wide) out
+  pub trailer : (s out : List ℕ) (t : Trailer) → AllBytes s → read_trailer s ≡ Ok t → 16 ≤ length out → trailer_wrote t out ≡ take 16 s ++ drop 16 out
 
 -- a refusal changes no byte
 pub record RefusalsKeep : Type 0 where
-  pub order : (o : Order) (out : List ℕ) (n : ℕ) → order_answer o out ≡ Refused n → order_wrote o out ≡ out
-  pub event : (wide : Bool) (e : Event) (out : List ℕ) (n : ℕ) → event_answer wide e out ≡ Refused n → event_wrote wide e out ≡ out
-  pub trailer : (t : Trailer) (out : List ℕ) (n : ℕ) → trailer_answer t out ≡ Refused n → trailer_wrote t out ≡ out
+  pub order : (o : Order) (out : List ℕ) (r : Refusal) → order_answer o out ≡ Err r → order_wrote o out ≡ out
+  pub event : (wide : Bool) (e : Event) (out : List ℕ) (r : Refusal) → event_answer wide e out ≡ Err r → event_wrote wide e out ≡ out
+  pub trailer : (t : Trailer) (out : List ℕ) (r : Refusal) → trailer_answer t out ≡ Err r → trailer_wrote t out ≡ out
 
 -- the bytes themselves, of one record of each form: a response of sequence 1 at 20 ms, on the sell side, a Customer's, 3 at 105, by participant 77
 abbrev pub example_event : Event
@@ -54,7 +50,7 @@ pub record InBytes : Type 0 where
   -- a new record is the old one, its participant and a zero word
   pub old-record : word_bytes (event_words false example_event) ≡ example_bytes
   pub new-record : word_bytes (event_words true example_event) ≡ example_bytes ++ (77 ∷ 0 ∷ 0 ∷ 0 ∷ 0 ∷ 0 ∷ 0 ∷ 0 ∷ [])
-  pub new-read : read_event true (example_bytes ++ (77 ∷ 0 ∷ 0 ∷ 0 ∷ 0 ∷ 0 ∷ 0 ∷ 0 ∷ [])) ≡ GotEvent example_event
+  pub new-read : read_event true (example_bytes ++ (77 ∷ 0 ∷ 0 ∷ 0 ∷ 0 ∷ 0 ∷ 0 ∷ 0 ∷ [])) ≡ Ok example_event
 
 -- every event can be held by a record of its tape, and its sequence and its participant are words
 pub data AllHeld (wide : Bool) : List Event → Type 0 where
@@ -70,11 +66,11 @@ pub record Tapeable (wide : Bool) (own : List ℕ) (o : Order) (es : List Event)
 -- a tape that the writers put together is that tape, opens, and gives back its order and its events
 pub record TapeBack (wide : Bool) (own : List ℕ) (o : Order) (es : List Event) : Type 0 where
   pub written : (room : List ℕ) → length own + length room ≡ length_of (trailer_for wide own es) → wrote_tape wide own o es room ≡ tape_of wide own o es
-  pub opens : open_tape (tape_of wide own o es) ≡ Tape (trailer_for wide own es)
-  pub order : order_in (tape_of wide own o es) (trailer_for wide own es) ≡ GotOrder o
+  pub opens : open_tape (tape_of wide own o es) ≡ Ok (trailer_for wide own es)
+  pub order : order_in (tape_of wide own o es) (trailer_for wide own es) ≡ Ok o
   pub records : records_of (tape_of wide own o es) (trailer_for wide own es) ≡ es
   -- and each of them reads back where it stands
-  pub event : (before : List Event) (e : Event) (after : List Event) → es ≡ before ++ (e ∷ after) → read_event wide (drop (event_place wide (length own) (length before)) (tape_of wide own o es)) ≡ GotEvent e
+  pub event : (before : List Event) (e : Event) (after : List Event) → es ≡ before ++ (e ∷ after) → read_event wide (drop (event_place wide (length own) (length before)) (tape_of wide own o es)) ≡ Ok e
 
 -- an order's bytes and records' bytes, in form or not, that fit a tape after the recorder's own
 pub record Fitting (wide : Bool) (own order : List ℕ) (rs : List (List ℕ)) : Type 0 where
@@ -84,7 +80,7 @@ pub record Fitting (wide : Bool) (own order : List ℕ) (rs : List (List ℕ)) :
 
 -- a tape of any records opens; its order is what the order's bytes alone are read as, and its records what stands in each
 pub record AnyRecords (wide : Bool) (own order : List ℕ) (rs : List (List ℕ)) : Type 0 where
-  pub opens : open_tape (tape_with wide own order rs) ≡ Tape (trailer_for wide own rs)
+  pub opens : open_tape (tape_with wide own order rs) ≡ Ok (trailer_for wide own rs)
   pub ordered : order_in (tape_with wide own order rs) (trailer_for wide own rs) ≡ read_order order
   pub records : records_of (tape_with wide own order rs) (trailer_for wide own rs) ≡ map (record_at wide) rs
 
@@ -101,12 +97,12 @@ pub record Demands : Type 0 where
   pub bytes_back : BytesBack
   pub refusals-keep : RefusalsKeep
   pub tape-back : (wide : Bool) (own : List ℕ) (o : Order) (es : List Event) → Tapeable wide own o es → TapeBack wide own o es
-  pub holds : (s : List ℕ) (t : Trailer) → open_tape s ≡ Tape t → Holds s t
+  pub holds : (s : List ℕ) (t : Trailer) → open_tape s ≡ Ok t → Holds s t
   pub recorded : (wide : Bool) (s : List ℕ) → Recorded wide s
   pub any-records : (wide : Bool) (own order : List ℕ) (rs : List (List ℕ)) → Fitting wide own order rs → AnyRecords wide own order rs
-  pub made_of : (s : List ℕ) (t : Trailer) → open_tape s ≡ Tape t → MadeOf s t
+  pub made_of : (s : List ℕ) (t : Trailer) → open_tape s ≡ Ok t → MadeOf s t
   -- writing what was read gives the same bytes, the whole tape
-  pub whole_back : (s : List ℕ) (t : Trailer) (o : Order) → AllBytes s → open_tape s ≡ Tape t → order_in s t ≡ GotOrder o → Every (λ e. event_formed e ≡ true) (records_of s t) → tape_of t.wide (own_bytes s t) o (records_of s t) ≡ s
+  pub whole_back : (s : List ℕ) (t : Trailer) (o : Order) → AllBytes s → open_tape s ≡ Ok t → order_in s t ≡ Ok o → Every (λ e. event_formed e ≡ true) (records_of s t) → tape_of t.wide (own_bytes s t) o (records_of s t) ≡ s
   -- and the writers, one record after the other into lent bytes, write back what was read: the whole tape
-  pub whole-written : (s room : List ℕ) (t : Trailer) (o : Order) → AllBytes s → open_tape s ≡ Tape t → order_in s t ≡ GotOrder o → Every (λ e. event_formed e ≡ true) (records_of s t) → length (own_bytes s t) + length room ≡ length s
+  pub whole-written : (s room : List ℕ) (t : Trailer) (o : Order) → AllBytes s → open_tape s ≡ Ok t → order_in s t ≡ Ok o → Every (λ e. event_formed e ≡ true) (records_of s t) → length (own_bytes s t) + length room ≡ length s
       → wrote_tape t.wide (own_bytes s t) o (records_of s t) room ≡ s

@@ -1,13 +1,12 @@
 -- A run: events one after the other, and what a tape comes to.
-use Rattle.std.specs.Prelude.{Bool, true, false, List, [], ◌∷◌, ℕ}
+use Rattle.std.specs.Prelude.{Bool, true, false, List, [], ◌∷◌, ℕ, Result, Ok, Err}
+use Rattle.base.specs.Refusal.{number_of}
+use Rattle.base.specs.declared.refusal.Refusal.{Refusal}
 use Rattle.base.specs.Lists.{keep}
 use Rattle.tape.specs.rules.Tape.{open_tape, order_in, records_of}
 use Rattle.tape.specs.declared.order.Order.{Order}
-use Rattle.tape.specs.declared.order.ReadOrder.{ReadOrder}
-use Rattle.tape.specs.declared.order.ReadOrder.TheVariants.{Order as GotOrder, Refused as NoOrder}
 use Rattle.tape.specs.declared.event.Event.{Event}
-use Rattle.tape.specs.declared.trailer.Opened.{Opened}
-use Rattle.tape.specs.declared.trailer.Opened.TheVariants.{Tape, Refused as NoTape}
+use Rattle.tape.specs.declared.trailer.Trailer.{Trailer}
 use Rattle.auction.specs.rules.Accept.{accept_of}
 use Rattle.auction.specs.declared.Auction.{Auction}
 use Rattle.auction.specs.declared.Entry.{Entry}
@@ -59,7 +58,7 @@ taken_of a (e ∷ es) = keep (is_taken (step_of a e).answer) e (taken_of (step_o
 -- ---- a tape
 
 pub data Run : Type 0 where
-  -- the tape or its order is refused
+  -- the tape or its order is refused, by this number
   refused : ℕ → Run
   -- the auction as it opened, what is said of the events, and the auction as it ended
   ended : Auction → List Said → Auction → Run
@@ -69,13 +68,13 @@ abbrev pub run_entry : List Event → Auction → Entry → Run
 run_entry es a (NoEntry number) = refused number
 run_entry es a Accepted = ended a (heard a es) (closed (run a es))
 
-abbrev pub run_order : List Event → ReadOrder → Run
-run_order es (NoOrder number) = refused number
-run_order es (GotOrder o) = run_entry es (accept_of o).auction (accept_of o).answer
+abbrev pub run_order : List Event → Result Order Refusal → Run
+run_order es (Err r) = refused (number_of r)
+run_order es (Ok o) = run_entry es (accept_of o).auction (accept_of o).answer
 
-abbrev pub run_tape : List ℕ → Opened → Run
-run_tape s (NoTape number) = refused number
-run_tape s (Tape t) = run_order (records_of s t) (order_in s t)
+abbrev pub run_tape : List ℕ → Result Trailer Refusal → Run
+run_tape s (Err r) = refused (number_of r)
+run_tape s (Ok t) = run_order (records_of s t) (order_in s t)
 
 unfoldable pub run_of : List ℕ → Run
 run_of s = run_tape s (open_tape s)

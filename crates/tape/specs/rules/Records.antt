@@ -1,18 +1,12 @@
 -- The records of a tape: which words they are, how they are read and written (document 01, "The tape", and W-206 for those of the new form).
-use Rattle.std.specs.Prelude.{Bool, true, cond, ◌&&◌, ◌||◌, List, [], ◌∷◌, ◌++◌, ℕ, ◌*◌, ltb, eqb, length, get_or, drop}
+use Rattle.std.specs.Prelude.{Bool, true, cond, ◌&&◌, ◌||◌, List, [], ◌∷◌, ◌++◌, ℕ, ◌*◌, ltb, eqb, length, get_or, drop, Result, Ok, Err, ⊤}
+use Rattle.base.specs.declared.refusal.Refusal.{Refusal}
+use Rattle.base.specs.declared.refusal.Refusal.TheVariants.{OrderOutOfForm, TrailerOutOfForm, RoomTooShort, EventOutOfForm}
 use Rattle.words.specs.rules.Bytes.{joined, word_bytes, word_at}
 use Rattle.tape.specs.rules.Form.{order_formed, event_formed}
 use Rattle.tape.specs.declared.order.Order.{Order}
 use Rattle.tape.specs.declared.event.Event.{Event}
 use Rattle.tape.specs.declared.trailer.Trailer.{Trailer}
-use Rattle.tape.specs.declared.order.ReadOrder.{ReadOrder}
-use Rattle.tape.specs.declared.order.ReadOrder.TheVariants.{Order as GotOrder, Refused as NoOrder}
-use Rattle.tape.specs.declared.event.ReadEvent.{ReadEvent}
-use Rattle.tape.specs.declared.event.ReadEvent.TheVariants.{Event as GotEvent, Refused as NoEvent}
-use Rattle.tape.specs.declared.trailer.ReadTrailer.{ReadTrailer}
-use Rattle.tape.specs.declared.trailer.ReadTrailer.TheVariants.{Trailer as GotTrailer, Refused as NoTrailer}
-use Rattle.tape.specs.declared.Written.{Written}
-use Rattle.tape.specs.declared.Written.TheVariants.{Done, Refused}
 
 -- ---- any record: a row of words at the start of lent bytes
 
@@ -20,9 +14,9 @@ use Rattle.tape.specs.declared.Written.TheVariants.{Done, Refused}
 abbrev pub with_record : List ℕ → List ℕ → List ℕ
 with_record ws out = word_bytes ws ++ drop (length ws * 4) out
 
--- a writer: the number of a value out of form, then 24 for bytes too short, then the record
-abbrev pub wrote_answer : Bool → ℕ → List ℕ → List ℕ → Written
-wrote_answer formed number ws out = cond formed (cond (ltb (length out) (length ws * 4)) (Refused 24) Done) (Refused number)
+-- a writer: the refusal of a value out of form, then that of bytes too short, then the record
+abbrev pub wrote_answer : Bool → Refusal → List ℕ → List ℕ → Result ⊤ Refusal
+wrote_answer formed r ws out = cond formed (cond (ltb (length out) (length ws * 4)) (Err RoomTooShort) (Ok tt)) (Err r)
 
 abbrev pub wrote_bytes : Bool → List ℕ → List ℕ → List ℕ
 wrote_bytes formed ws out = cond formed (cond (ltb (length out) (length ws * 4)) out (with_record ws out)) out
@@ -62,14 +56,14 @@ order_of s =
 unfoldable pub order_spare : List ℕ → Bool
 order_spare s = eqb (get_or s 3 0) 0 && eqb (word_at s 56) 0 && eqb (word_at s 60) 0
 
-unfoldable pub read_order : List ℕ → ReadOrder
+unfoldable pub read_order : List ℕ → Result Order Refusal
 read_order s =
-    cond (ltb (length s) 64) (NoOrder 24)
-    (cond (order_spare s && order_formed (order_of s)) (GotOrder (order_of s))
-    (NoOrder 1))
+    cond (ltb (length s) 64) (Err RoomTooShort)
+    (cond (order_spare s && order_formed (order_of s)) (Ok (order_of s))
+    (Err OrderOutOfForm))
 
-unfoldable pub order_answer : Order → List ℕ → Written
-order_answer o out = wrote_answer (order_formed o) 1 (order_words o) out
+unfoldable pub order_answer : Order → List ℕ → Result ⊤ Refusal
+order_answer o out = wrote_answer (order_formed o) OrderOutOfForm (order_words o) out
 
 unfoldable pub order_wrote : Order → List ℕ → List ℕ
 order_wrote o out = wrote_bytes (order_formed o) (order_words o) out
@@ -110,11 +104,11 @@ event_of wide s =
 unfoldable pub event_spare : Bool → List ℕ → Bool
 event_spare wide s = eqb (get_or s 11 0) 0 && eqb (word_at s 28) 0 && eqb (new_word wide s 36) 0
 
-unfoldable pub read_event : Bool → List ℕ → ReadEvent
+unfoldable pub read_event : Bool → List ℕ → Result Event Refusal
 read_event wide s =
-    cond (ltb (length s) (width_of wide)) (NoEvent 24)
-    (cond (event_spare wide s && event_formed (event_of wide s)) (GotEvent (event_of wide s))
-    (NoEvent 32))
+    cond (ltb (length s) (width_of wide)) (Err RoomTooShort)
+    (cond (event_spare wide s && event_formed (event_of wide s)) (Ok (event_of wide s))
+    (Err EventOutOfForm))
 
 -- an event of no kind, which no auction takes
 abbrev pub of_no_kind : ℕ → Event
@@ -131,8 +125,8 @@ record_at wide s =
 unfoldable pub event_held : Bool → Event → Bool
 event_held wide e = event_formed e && (wide || eqb e.participant 0)
 
-unfoldable pub event_answer : Bool → Event → List ℕ → Written
-event_answer wide e out = wrote_answer (event_held wide e) 32 (event_words wide e) out
+unfoldable pub event_answer : Bool → Event → List ℕ → Result ⊤ Refusal
+event_answer wide e out = wrote_answer (event_held wide e) EventOutOfForm (event_words wide e) out
 
 unfoldable pub event_wrote : Bool → Event → List ℕ → List ℕ
 event_wrote wide e out = wrote_bytes (event_held wide e) (event_words wide e) out
@@ -155,15 +149,15 @@ trailer_words t = first_word t.wide ∷ t.order ∷ t.events ∷ 0 ∷ []
 unfoldable pub trailer_of : List ℕ → Trailer
 trailer_of s = record { order = word_at s 4; events = word_at s 8; wide = eqb (word_at s 0) cub2 }
 
-unfoldable pub read_trailer : List ℕ → ReadTrailer
+unfoldable pub read_trailer : List ℕ → Result Trailer Refusal
 read_trailer s =
-    cond (ltb (length s) 16) (NoTrailer 24)
-    (cond ((eqb (word_at s 0) cubt || eqb (word_at s 0) cub2) && eqb (word_at s 12) 0) (GotTrailer (trailer_of s))
-    (NoTrailer 22))
+    cond (ltb (length s) 16) (Err RoomTooShort)
+    (cond ((eqb (word_at s 0) cubt || eqb (word_at s 0) cub2) && eqb (word_at s 12) 0) (Ok (trailer_of s))
+    (Err TrailerOutOfForm))
 
--- any S, n and form will do: only 24 is left
-unfoldable pub trailer_answer : Trailer → List ℕ → Written
-trailer_answer t out = wrote_answer true 24 (trailer_words t) out
+-- any S, n and form will do: only bytes too short are refused
+unfoldable pub trailer_answer : Trailer → List ℕ → Result ⊤ Refusal
+trailer_answer t out = wrote_answer true RoomTooShort (trailer_words t) out
 
 unfoldable pub trailer_wrote : Trailer → List ℕ → List ℕ
 trailer_wrote t out = wrote_bytes true (trailer_words t) out

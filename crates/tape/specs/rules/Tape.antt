@@ -1,32 +1,29 @@
 -- A tape: the recorder's own bytes, the order record, the event records, the trailer. `wide` says that it is of the new form.
-use Rattle.std.specs.Prelude.{Bool, cond, ◌||◌, List, [], ◌∷◌, ◌++◌, ℕ, zero, suc, ◌+◌, ◌*◌, ◌-◌, ltb, eqb, length, take, drop}
+use Rattle.std.specs.Prelude.{Bool, cond, ◌||◌, List, [], ◌∷◌, ◌++◌, ℕ, zero, suc, ◌+◌, ◌*◌, ◌-◌, ltb, eqb, length, take, drop, Result, Ok, Err}
+use Rattle.base.specs.declared.refusal.Refusal.{Refusal}
+use Rattle.base.specs.declared.refusal.Refusal.TheVariants.{TapeLength, LengthsDisagree}
 use Rattle.words.specs.rules.Bytes.{word_bytes}
 use Rattle.tape.specs.rules.Records.{width_of, order_words, event_words, trailer_words, order_wrote, event_wrote, trailer_wrote, read_order, record_at, read_trailer}
 use Rattle.tape.specs.declared.order.Order.{Order}
 use Rattle.tape.specs.declared.event.Event.{Event}
-use Rattle.tape.specs.declared.order.ReadOrder.{ReadOrder}
 use Rattle.tape.specs.declared.trailer.Trailer.{Trailer}
-use Rattle.tape.specs.declared.trailer.ReadTrailer.{ReadTrailer}
-use Rattle.tape.specs.declared.trailer.ReadTrailer.TheVariants.{Trailer as GotTrailer, Refused as NoTrailer}
-use Rattle.tape.specs.declared.trailer.Opened.{Opened}
-use Rattle.tape.specs.declared.trailer.Opened.TheVariants.{Tape, Refused}
 
 -- what the lengths add up to
 abbrev pub length_of : Trailer → ℕ
 length_of t = t.order + 64 + t.events * width_of t.wide + 16
 
-abbrev pub opened_with : ℕ → ReadTrailer → Opened
-opened_with n (GotTrailer t) = cond (eqb (length_of t) n) (Tape t) (Refused 23)
-opened_with n (NoTrailer number) = Refused number
+abbrev pub opened_with : ℕ → Result Trailer Refusal → Result Trailer Refusal
+opened_with n (Ok t) = cond (eqb (length_of t) n) (Ok t) (Err LengthsDisagree)
+opened_with n (Err r) = Err r
 
--- the last 16 bytes are the trailer: 21, 22
-unfoldable pub last_trailer : List ℕ → ReadTrailer
+-- the last 16 bytes are the trailer
+unfoldable pub last_trailer : List ℕ → Result Trailer Refusal
 last_trailer s =
-    cond (ltb (length s) 16 || ltb 65536 (length s)) (NoTrailer 21)
+    cond (ltb (length s) 16 || ltb 65536 (length s)) (Err TapeLength)
     (read_trailer (drop (length s - 16) s))
 
--- and 23
-unfoldable pub open_tape : List ℕ → Opened
+-- and the lengths add up to the tape's
+unfoldable pub open_tape : List ℕ → Result Trailer Refusal
 open_tape s = opened_with (length s) (last_trailer s)
 
 -- where event k stands, after the order at `at`
@@ -35,7 +32,7 @@ event_place wide at k = at + 64 + k * width_of wide
 
 -- ---- a tape's records one by one, where its trailer says that they stand
 
-unfoldable pub order_in : List ℕ → Trailer → ReadOrder
+unfoldable pub order_in : List ℕ → Trailer → Result Order Refusal
 order_in s t = read_order (drop t.order s)
 
 -- the event that stands in record k, counted from 0
