@@ -1,5 +1,5 @@
 -- What is known of an order that was accepted. Assumes nothing.
-use mathlib.Core.Path.{◌≡◌}
+use mathlib.Core.Path.{◌≡◌, ap, ◌∙◌}
 use mathlib.Core.Bool.{true, false, not, ◌&&◌}
 use Prim.Native.Nat.{ℕ, ◌+◌, ◌≤◌, ◌<◌}
 use native.Mathlib.Omega.{arith}
@@ -17,7 +17,7 @@ use Rattle.base.proofs.Bools.{or_left, or_right, by, no}
 use Rattle.tape.proofs.FormLaws.{order-bounds}
 use Rattle.base.specs.Price.{mirrored}
 use Rattle.mirror.specs.rules.Mirror.{mirrored_order, buy_order}
-use Rattle.auction.specs.rules.Accept.{initiating_of, first_bound, guaranteed_of, range_refusal, buy_refusal, order_refusal, auction_of, accept_of}
+use Rattle.auction.specs.rules.Accept.{initiating_of, first_bound, guaranteed_of, range_refusal, buy_refusal, order_refusal, auction_of, accept_of, Accepts}
 use Rattle.auction.specs.declared.Auction.{Auction}
 
 -- what a buy has that none of 2 to 9 refuses
@@ -27,6 +27,11 @@ pub record Early (b : Order) : Type 0 where
   pub size : 1 ≤ b.size
   pub uncrossed : b.nbb < b.nbo
   pub wide : (ltb b.size 50 && eqb b.bo (b.bb + 1)) ≡ false
+
+-- a refusal's number; 0 where there is none
+abbrev pub number_in : Result (Unit {0}) Refusal → ℕ
+number_in (Ok u) = 0
+number_in (Err r) = number_of r
 
 -- which refusals a buy in form can get, and what is known where it gets them
 module _ (b : Order) (P : Result (Unit {0}) Refusal → Type 0) where
@@ -63,9 +68,9 @@ abbrev pub OrderNumber : Refusal → Type 0
 OrderNumber r = (1 ≤ number_of r) × (number_of r ≤ 13)
 
 -- an order is not refused, or by 1 to 13
-pub order-numbers : (o : Order) → IfErr (order_refusal o) OrderNumber
+pub order-numbered : (o : Order) → IfErr (order_refusal o) OrderNumber
 unfolding order_refusal
-order-numbers o =
+order-numbered o =
     by P (not (order_formed o)) _ _ (λ _. (omega arith, omega arith))
     (λ _. refusal-by (buy_order o) P (λ r l m. (omega (arith, l), omega (arith, m)))
     (λ _. range-by (buy_order o) P (λ _. (omega arith, omega arith)) (λ _ _. (omega arith, omega arith)) (λ _. (omega arith, omega arith)) (λ _. (omega arith, omega arith)) (λ _ _. tt)))
@@ -102,15 +107,19 @@ unfolding order_refusal
 refusal-of o x h =
     by (λ (y : Result (Unit {0}) Refusal). y ≡ x → (order_formed o ≡ true) × (buy_refusal (buy_order o) ≡ x)) (not (order_formed o)) _ _ (λ _ z. absurd (h z)) (λ f z. (not-false _ f, z))
 
-pub opened : (o : Order) (a : Auction) → accept_of o ≡ Ok a → Opened o a
+pub opened : (o : Order) {a : Auction} → accept_of o ≡ Ok a → Opened o a
 unfolding accept_of order_refusal
-opened o a =
+opened o {a} =
     by (λ (x : Result (Unit {0}) Refusal). result_and x (Ok (auction_of o)) ≡ Ok a → Opened o a) (not (order_formed o)) _ _ (λ _ z. no cc)
     (λ f. go (not-false _ f) (buy_refusal (buy_order o)) (passed (buy_order o)))
   where
     go : order_formed o ≡ true → (x : Result (Unit {0}) Refusal) → IfOk x (λ _. Passed (buy_order o)) → result_and x (Ok (auction_of o)) ≡ Ok a → Opened o a
     go f (Ok u) p z = record { formed = f; passes = p; auction = cc }
     go f (Err r) p z = no cc
+
+-- what is answered where there is no refusal
+pub accepts : (o : Order) {a : Auction} → accept_of o ≡ Ok a → Accepts o
+accepts o h = h ∙ ap Ok (opened o h).auction
 
 pub refusal_is : (o : Order) (r : Refusal) → accept_of o ≡ Err r → order_refusal o ≡ Err r
 unfolding accept_of

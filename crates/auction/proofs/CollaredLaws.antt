@@ -20,7 +20,7 @@ use Rattle.mirror.specs.rules.Mirror.{mirrored_unless, mirrored_order, buy_order
 use Rattle.auction.specs.rules.Accept.{counted_offer, initiating_of, tick_of, bound_of, bid_mark, first_bound, guaranteed_of, range_refusal, buy_refusal, order_refusal, terms_of, quotes_of, opened_by, accept_of}
 use Rattle.auction.specs.promises.Collared.{recollared, with_initiating, reaches_range, quoted_initiating, quoted_refusal, past_9, Collared}
 use Rattle.auction.specs.declared.Auction.{Auction}
-use Rattle.auction.proofs.Accepted.{Early, range-by, refusal-by, formed-refusal, refusal-of, opened}
+use Rattle.auction.proofs.Accepted.{Early, number_in, range-by, refusal-by, formed-refusal, refusal-of, opened}
 
 -- ---- the form
 
@@ -86,11 +86,6 @@ step : (t : Bool) (k : Refusal) {x y z : Result (Unit {0}) Refusal} → (x ≡ z
 step true k f h = h
 step false k f h = f h
 
--- a refusal's number; 0 where there is none
-abbrev number_in : Result (Unit {0}) Refusal → ℕ
-number_in (Ok u) = 0
-number_in (Err r) = number_of r
-
 -- none of the numbers after 10 is one of 2 to 10
 after-10 : (s t u : Bool) {r : Refusal} {X : Type 0} → 2 ≤ number_of r → number_of r ≤ 10 → cond {A = Result (Unit {0}) Refusal} s (Err NoRange) (cond t (Err StopAboveRange) (cond u (Err NationalCentWide) (Ok tt))) ≡ Err r → X
 after-10 true t u l m z = absurd (omega (arith, ap number_in z))
@@ -126,11 +121,11 @@ opened-is sell b d c = refl
 one-auction : (o : Order) (d c : ℕ) (a b : Auction) → accept_of o ≡ Ok a → accept_of (recollared d c o) ≡ Ok b → b ≡ with_initiating (initiating_of (buy_order (recollared d c o))) a
 one-auction o d c a b h k =
     let s = eqb o.side 2 in
-    (opened (recollared d c o) b k).auction
+    (opened (recollared d c o) k).auction
     ∙ ap (opened_by s) (buy-is o d c)
     ∙ opened-is s (buy_order o) (displayed_for s d) c
     ∙ ap (λ (b : Order). with_initiating (initiating_of b) (opened_by s (buy_order o))) (sym (buy-is o d c))
-    ∙ ap (with_initiating (initiating_of (buy_order (recollared d c o)))) (sym (opened o a h).auction)
+    ∙ ap (with_initiating (initiating_of (buy_order (recollared d c o)))) (sym (opened o h).auction)
 
 -- the same price, the same numbers
 same-refusal : (b : Order) (d c : ℕ) → initiating_of (recollared d c b) ≡ initiating_of b → buy_refusal (recollared d c b) ≡ buy_refusal b
@@ -222,7 +217,7 @@ none_number o z =
 
 none-auction : (o : Order) (a : Auction) → o.displayed ≡ 0 → accept_of o ≡ Ok a → a.head.terms.initiating ≡ quoted_initiating (buy_order o)
 unfolding opened_by terms_of
-none-auction o a z h = ap (λ (x : Auction). x.head.terms.initiating) (opened o a h).auction ∙ none-price (buy_order o) (buy-none o z)
+none-auction o a z h = ap (λ (x : Auction). x.head.terms.initiating) (opened o h).auction ∙ none-price (buy_order o) (buy-none o z)
 
 -- a size of 50 and more, or both fields zero, leaves no 13
 no-13 : (b : Order) → (initiating_of b ≡ quoted_initiating b) → buy_refusal b ≡ Err NoRange → ⊥
@@ -257,5 +252,5 @@ collared =
       from-50 = from-50;
       thirteen = thirteen;
       thirteen-only = thirteen-only;
-      some-range = λ o a h. (opened o a h).passes.ranged;
+      some-range = λ o a h. (opened o h).passes.ranged;
     }

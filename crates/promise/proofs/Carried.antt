@@ -5,6 +5,9 @@ use Prim.Native.Nat.{ℕ}
 use Prim.Native.Char.{code}
 use Prim.Native.String.{String, char_at}
 use native.Mathlib.Omega.{arith}
+use Rattle.std.specs.Prelude.{Result, Ok, Err}
+use Rattle.base.specs.Refusal.{number_of}
+use Rattle.base.specs.declared.refusal.Refusal.{Refusal}
 use Rattle.tape.specs.declared.order.Order.{Order}
 use Rattle.tape.specs.declared.order.ReadOrder.{ReadOrder}
 use Rattle.tape.specs.declared.order.ReadOrder.TheVariants.{Order as GotOrder, Refused as NoOrder}
@@ -13,12 +16,9 @@ use Rattle.tape.specs.declared.trailer.Trailer.{Trailer}
 use Rattle.tape.specs.declared.trailer.Opened.{Opened}
 use Rattle.tape.specs.declared.trailer.Opened.TheVariants.{Tape, Refused as NotOpened}
 use Rattle.tape.specs.rules.Tape.{open_tape, order_in, records_of}
-use Rattle.auction.specs.declared.Entry.{Entry}
-use Rattle.auction.specs.declared.Entry.TheVariants.{Accepted, Refused as NotAccepted}
-use Rattle.auction.specs.rules.Accept.{accept_of}
 use Rattle.events.specs.declared.Answer.{Answer}
 use Rattle.events.specs.declared.Answer.TheVariants.{Taken, Ended, Late, Refused}
-use Rattle.promise.specs.rules.Answers.{Paper, no, yes, Accepts, opened_is, order_is, entry_is, answer_is}
+use Rattle.promise.specs.rules.Answers.{Paper, no, yes, opened_is, order_is, paper_of, answer_is}
 use Rattle.promise.specs.rules.Tapes.{Carries, records_in}
 
 pub opened-is : (x : Opened) (t : Trailer) → opened_is x ≡ yes t → x ≡ Tape t
@@ -29,19 +29,10 @@ order_is_lem : (x : ReadOrder) (o : Order) → order_is x ≡ yes o → x ≡ Go
 order_is_lem (GotOrder p) o z = let q : p ≡ o = cc in ap GotOrder q
 order_is_lem (NoOrder n) o z = cc
 
-pub accepted : (o : Order) → Accepts o → (accept_of o).answer ≡ Accepted
-accepted o = go (accept_of o).answer
-  where
-    go : (x : Entry) → entry_is x ≡ yes tt → x ≡ Accepted
-    go Accepted z = refl
-    go (NotAccepted n) z = cc
-
-pub not-accepted : (o : Order) (n : ℕ) → entry_is (accept_of o).answer ≡ no n → (accept_of o).answer ≡ NotAccepted n
-not-accepted o n = go (accept_of o).answer
-  where
-    go : (x : Entry) → entry_is x ≡ no n → x ≡ NotAccepted n
-    go Accepted z = cc
-    go (NotAccepted m) z = let q : m ≡ n = cc in ap NotAccepted q
+-- a result with a number is a refusal that has it
+pub refused-by : {A : Type 0} (x : Result A Refusal) (n : ℕ) → paper_of x ≡ no n → (r : Refusal) × (x ≡ Err r) × (number_of r ≡ n)
+refused-by (Ok a) n z = absurd cc
+refused-by (Err r) n z = let q : number_of r ≡ n = cc in (r, refl, q)
 
 -- the words are told by their first letters
 abbrev first : Paper String → ℕ

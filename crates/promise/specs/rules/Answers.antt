@@ -1,5 +1,7 @@
 -- What documents 01 and 02 have for each case of each answer: a number for "no", or what is answered.
-use Rattle.std.specs.Prelude.{◌≡◌, Bool, true, false, List, [], ◌∷◌, ℕ}
+use Rattle.std.specs.Prelude.{Bool, true, false, ℕ, Result, Ok, Err}
+use Rattle.base.specs.Refusal.{number_of}
+use Rattle.base.specs.declared.refusal.Refusal.{Refusal}
 use Prim.Native.String.{String}
 use Rattle.tape.specs.declared.Written.{Written}
 use Rattle.tape.specs.declared.Written.TheVariants.{Done, Refused as NotWritten}
@@ -14,13 +16,8 @@ use Rattle.tape.specs.declared.trailer.ReadTrailer.{ReadTrailer}
 use Rattle.tape.specs.declared.trailer.ReadTrailer.TheVariants.{Trailer as GotTrailer, Refused as NoTrailer}
 use Rattle.tape.specs.declared.trailer.Opened.{Opened}
 use Rattle.tape.specs.declared.trailer.Opened.TheVariants.{Tape, Refused as NotOpened}
-use Rattle.auction.specs.rules.Accept.{accept_of}
-use Rattle.auction.specs.declared.Entry.{Entry}
-use Rattle.auction.specs.declared.Entry.TheVariants.{Accepted, Refused as NotAccepted}
 use Rattle.auction.specs.declared.Ending.{Ending}
 use Rattle.auction.specs.declared.Ending.TheVariants.{Open, Time, Same, Opposite, Improve}
-use Rattle.auction.specs.declared.firm.Firm.{Firm}
-use Rattle.auction.specs.declared.firm.Firm.TheVariants.{Participant, Nobody}
 use Rattle.moving.specs.declared.Moved.{Moved}
 use Rattle.moving.specs.declared.Moved.TheVariants.{Length, Refused as NotMoved}
 use Rattle.events.specs.declared.Answer.{Answer}
@@ -39,6 +36,11 @@ pub data Paper (A : Type 0) : Type 0 where
 abbrev pub is_no : {A : Type 0} → Paper A → Bool
 is_no (no n) = true
 is_no (yes a) = false
+
+-- an answer that is a result: what goes with it, or the refusal's number
+abbrev pub paper_of : {A : Type 0} → Result A Refusal → Paper A
+paper_of (Ok a) = yes a
+paper_of (Err r) = no (number_of r)
 
 -- an opened tape: 21, 22, 23; where the order stands, how many events there are, and of which form
 abbrev pub opened_is : Opened → Paper Trailer
@@ -62,15 +64,6 @@ trailer_is (NoTrailer n) = no n
 abbrev pub written_is : Written → Paper (Unit {0})
 written_is Done = yes tt
 written_is (NotWritten n) = no n
-
--- an order: 1 to 13
-abbrev pub entry_is : Entry → Paper (Unit {0})
-entry_is Accepted = yes tt
-entry_is (NotAccepted n) = no n
-
--- the order is accepted
-abbrev pub Accepts : Order → Type 0
-Accepts o = entry_is (accept_of o).answer ≡ yes tt
 
 -- an event: 31 to 38, or the word that its line has
 abbrev pub answer_is : Answer → Paper String
@@ -96,11 +89,6 @@ filled_is (NotFilled n) = no n
 abbrev pub moved_is : Moved → Paper ℕ
 moved_is (Length n) = yes n
 moved_is (NotMoved n) = no n
-
--- the firm behind a response: its participant, or none where no live response has the sequence; neither document has a number for that
-abbrev pub firm_is : Firm → List ℕ
-firm_is (Participant n) = n ∷ []
-firm_is Nobody = []
 
 -- what came of a tape: its number, or why its auction ended
 abbrev pub run_is : Run → Paper Ending

@@ -1,5 +1,7 @@
 -- A run: events one after the other, and what a tape comes to.
-use Rattle.std.specs.Prelude.{Bool, true, false, List, [], ◌∷◌, ℕ}
+use Rattle.std.specs.Prelude.{Bool, true, false, List, [], ◌∷◌, ℕ, Result, Ok, Err}
+use Rattle.base.specs.Refusal.{number_of}
+use Rattle.base.specs.declared.refusal.Refusal.{Refusal}
 use Rattle.base.specs.Lists.{keep}
 use Rattle.tape.specs.rules.Tape.{open_tape, order_in, records_of}
 use Rattle.tape.specs.declared.order.Order.{Order}
@@ -8,10 +10,8 @@ use Rattle.tape.specs.declared.order.ReadOrder.TheVariants.{Order as GotOrder, R
 use Rattle.tape.specs.declared.event.Event.{Event}
 use Rattle.tape.specs.declared.trailer.Opened.{Opened}
 use Rattle.tape.specs.declared.trailer.Opened.TheVariants.{Tape, Refused as NoTape}
-use Rattle.auction.specs.rules.Accept.{accept_of}
+use Rattle.auction.specs.rules.Accept.{auction_of, accept_of}
 use Rattle.auction.specs.declared.Auction.{Auction}
-use Rattle.auction.specs.declared.Entry.{Entry}
-use Rattle.auction.specs.declared.Entry.TheVariants.{Accepted, Refused as NoEntry}
 use Rattle.events.specs.rules.Step.{step_of, close_of}
 use Rattle.events.specs.declared.Answer.{Answer}
 use Rattle.events.specs.declared.Answer.TheVariants.{Taken, Ended, Late, Refused}
@@ -42,7 +42,7 @@ closed a = (close_of a).auction
 
 -- an order's auction after a list of events
 abbrev pub played : Order → List Event → Auction
-played o es = closed (run (accept_of o).auction es)
+played o es = closed (run (auction_of o) es)
 
 -- taken, and those that end it; not late ones
 abbrev pub is_taken : Answer → Bool
@@ -64,14 +64,14 @@ pub data Run : Type 0 where
   -- the auction as it opened, what is said of the events, and the auction as it ended
   ended : Auction → List Said → Auction → Run
 
--- an order's answer, with its events
-abbrev pub run_entry : List Event → Auction → Entry → Run
-run_entry es a (NoEntry number) = refused number
-run_entry es a Accepted = ended a (heard a es) (closed (run a es))
+-- an order's refusal or its auction, with its events
+abbrev pub run_entry : List Event → Result Auction Refusal → Run
+run_entry es (Err r) = refused (number_of r)
+run_entry es (Ok a) = ended a (heard a es) (closed (run a es))
 
 abbrev pub run_order : List Event → ReadOrder → Run
 run_order es (NoOrder number) = refused number
-run_order es (GotOrder o) = run_entry es (accept_of o).auction (accept_of o).answer
+run_order es (GotOrder o) = run_entry es (accept_of o)
 
 abbrev pub run_tape : List ℕ → Opened → Run
 run_tape s (NoTape number) = refused number
