@@ -1,12 +1,16 @@
 -- What a collared order moves, and what it leaves. Assumes nothing.
 use mathlib.Core.Path.{◌≡◌, refl, sym, ap, ◌∙◌}
 use mathlib.Core.Bool.{Bool, true, false, cond, not, ◌&&◌, ◌||◌, and-true}
-use mathlib.Core.Logic.{⊎_elim}
+use mathlib.Core.Logic.{⊎_elim, ◌↔◌}
 use Prim.Native.Nat.{ℕ, ◌+◌, ◌-◌, ◌≤◌, ◌<◌, min, max}
 use native.Mathlib.Omega.{arith}
 use lib.ListN.{take}
 use lib.Dec.{leb, ltb, eqb}
 use borrow.Author.Tests.{lt-ltb, le-ltb, le-leb, lt-leb, eq-eqb, ne_eqb, ltb-false, eqb-false}
+use Rattle.std.specs.Prelude.{Result, Ok, Err}
+use Rattle.base.specs.Refusal.{number_of}
+use Rattle.base.specs.declared.refusal.Refusal.{Refusal}
+use Rattle.base.specs.declared.refusal.Refusal.TheVariants.{OrderOutOfForm, BetterThanNational, NoSize, BeforeOpen, NearClose, Halted, AnotherOpen, NationalCrossed, ExchangeCentWide, LimitBelowRange, StopAboveRange, NationalCentWide, NoRange}
 use Rattle.words.specs.rules.Bits.{bit_at}
 use Rattle.base.proofs.Numbers.{le-or-lt}
 use Rattle.base.proofs.Bools.{and_both, and-no-left, and-no-right, by, no}
@@ -14,10 +18,9 @@ use Rattle.tape.specs.declared.order.Order.{Order}
 use Rattle.tape.specs.rules.Form.{all_from, collar_formed, order_tests, order_formed}
 use Rattle.mirror.specs.rules.Mirror.{mirrored_unless, mirrored_order, buy_order}
 use Rattle.auction.specs.rules.Accept.{counted_offer, initiating_of, tick_of, bound_of, bid_mark, first_bound, guaranteed_of, range_refusal, buy_refusal, order_refusal, terms_of, quotes_of, opened_by, accept_of}
-use Rattle.auction.specs.promises.Collared.{recollared, with_initiating, reaches_range, quoted_initiating, quoted_refusal, Collared}
+use Rattle.auction.specs.promises.Collared.{recollared, with_initiating, reaches_range, quoted_initiating, quoted_refusal, past_9, Collared}
 use Rattle.auction.specs.declared.Auction.{Auction}
-use Rattle.auction.specs.declared.Entry.TheVariants.{Accepted}
-use Rattle.auction.proofs.Accepted.{Early, range-by, refusal-by, formed-refusal, refusal-of, opened}
+use Rattle.auction.proofs.Accepted.{Early, number_in, range-by, refusal-by, formed-refusal, refusal-of, opened}
 
 -- ---- the form
 
@@ -79,35 +82,35 @@ one-bound : (o : Order) (d c : ℕ) → first_bound (buy_order (recollared d c o
 one-bound o d c = ap first_bound (buy-is o d c)
 
 -- a refusal before which two ways are one
-step : (t : Bool) (k : ℕ) {x y n : ℕ} → (x ≡ n → y ≡ n) → cond t k x ≡ n → cond t k y ≡ n
+step : (t : Bool) (k : Refusal) {x y z : Result (Unit {0}) Refusal} → (x ≡ z → y ≡ z) → cond t (Err k) x ≡ z → cond t (Err k) y ≡ z
 step true k f h = h
 step false k f h = f h
 
 -- none of the numbers after 10 is one of 2 to 10
-after-10 : (s t u : Bool) {n : ℕ} {X : Type 0} → 2 ≤ n → n ≤ 10 → cond s 13 (cond t 11 (cond u 12 0)) ≡ n → X
-after-10 true t u l m z = absurd (omega arith)
-after-10 false true u l m z = absurd (omega arith)
-after-10 false false true l m z = absurd (omega arith)
-after-10 false false false l m z = absurd (omega arith)
+after-10 : (s t u : Bool) {r : Refusal} {X : Type 0} → 2 ≤ number_of r → number_of r ≤ 10 → cond {A = Result (Unit {0}) Refusal} s (Err NoRange) (cond t (Err StopAboveRange) (cond u (Err NationalCentWide) (Ok tt))) ≡ Err r → X
+after-10 true t u l m z = absurd (omega (arith, ap number_in z))
+after-10 false true u l m z = absurd (omega (arith, ap number_in z))
+after-10 false false true l m z = absurd (omega (arith, ap number_in z))
+after-10 false false false l m z = absurd (omega (arith, ap number_in z))
 
-module _ (b : Order) (d c n : ℕ) (l : 2 ≤ n) (m : n ≤ 10) where
-  buy-10 : buy_refusal b ≡ n → buy_refusal (recollared d c b) ≡ n
+module _ (b : Order) (d c : ℕ) (r : Refusal) (l : 2 ≤ number_of r) (m : number_of r ≤ 10) where
+  buy-10 : buy_refusal b ≡ Err r → buy_refusal (recollared d c b) ≡ Err r
   unfolding buy_refusal range_refusal
   buy-10 =
-      step (ltb b.nbb b.bb || ltb b.bo b.nbo) 2
-      (step (eqb b.size 0) 3
-      (step (ltb b.time b.opens) 4
-      (step (leb b.closes (b.time + 1000)) 5
-      (step (bit_at b.marks 0) 6
-      (step (bit_at b.marks 1) 7
-      (step (leb b.nbo b.nbb) 8
-      (step (ltb b.size 50 && eqb b.bo (b.bb + 1)) 9
-      (step (ltb b.limit (first_bound b)) 10
+      step (ltb b.nbb b.bb || ltb b.bo b.nbo) BetterThanNational
+      (step (eqb b.size 0) NoSize
+      (step (ltb b.time b.opens) BeforeOpen
+      (step (leb b.closes (b.time + 1000)) NearClose
+      (step (bit_at b.marks 0) Halted
+      (step (bit_at b.marks 1) AnotherOpen
+      (step (leb b.nbo b.nbb) NationalCrossed
+      (step (ltb b.size 50 && eqb b.bo (b.bb + 1)) ExchangeCentWide
+      (step (ltb b.limit (first_bound b)) LimitBelowRange
       (after-10 (ltb (initiating_of b) (first_bound b)) (ltb (initiating_of b) b.stop) (ltb b.size 50 && eqb b.nbo (b.nbb + 1) && not (eqb b.nbo (guaranteed_of b + 1))) l m)))))))))
 
-up-to-10 : (o : Order) (d c n : ℕ) → order_formed o ≡ true → order_formed (recollared d c o) ≡ true → 2 ≤ n → n ≤ 10 → order_refusal o ≡ n → order_refusal (recollared d c o) ≡ n
-up-to-10 o d c n f g l m z =
-    formed-refusal (recollared d c o) g ∙ ap buy_refusal (buy-is o d c) ∙ buy-10 (buy_order o) (displayed_for (eqb o.side 2) d) c n l m (sym (formed-refusal o f) ∙ z)
+up-to-10 : (o : Order) (d c : ℕ) (r : Refusal) → order_formed o ≡ true → order_formed (recollared d c o) ≡ true → 2 ≤ number_of r → number_of r ≤ 10 → order_refusal o ≡ Err r → order_refusal (recollared d c o) ≡ Err r
+up-to-10 o d c r f g l m z =
+    formed-refusal (recollared d c o) g ∙ ap buy_refusal (buy-is o d c) ∙ buy-10 (buy_order o) (displayed_for (eqb o.side 2) d) c r l m (sym (formed-refusal o f) ∙ z)
 
 -- ---- through the initiating price alone
 
@@ -115,9 +118,8 @@ opened-is : (sell : Bool) (b : Order) (d c : ℕ) → opened_by sell (recollared
 unfolding opened_by terms_of quotes_of
 opened-is sell b d c = refl
 
-one-auction : (o : Order) (d c : ℕ) → (accept_of o).answer ≡ Accepted → (accept_of (recollared d c o)).answer ≡ Accepted
-    → (accept_of (recollared d c o)).auction ≡ with_initiating (initiating_of (buy_order (recollared d c o))) (accept_of o).auction
-one-auction o d c h k =
+one-auction : (o : Order) (d c : ℕ) (a b : Auction) → accept_of o ≡ Ok a → accept_of (recollared d c o) ≡ Ok b → b ≡ with_initiating (initiating_of (buy_order (recollared d c o))) a
+one-auction o d c a b h k =
     let s = eqb o.side 2 in
     (opened (recollared d c o) k).auction
     ∙ ap (opened_by s) (buy-is o d c)
@@ -157,10 +159,6 @@ from-50 o d c f g h =
 
 -- ---- 13
 
--- 0, or 10 and above
-abbrev reaches : ℕ → Bool
-reaches k = eqb k 0 || leb 10 k
-
 module _ (b : Order) where
   -- the initiating price is below the bound, and the limit is not
   abbrev below : Bool
@@ -172,32 +170,38 @@ module _ (b : Order) where
   abbrev is_empty : Bool
   is_empty = below && reached
 
-  abbrev Tells : ℕ → Type 0
-  Tells k = eqb k 13 ≡ (reaches k && is_empty)
+  abbrev Tells : Result (Unit {0}) Refusal → Type 0
+  Tells x = x ≡ Err NoRange ↔ ((past_9 x && is_empty) ≡ true)
 
-  early-13 : (n : ℕ) → 2 ≤ n → n ≤ 9 → Tells n
-  early-13 n l m = simp (ne_eqb n 13 (λ z. omega (arith, z)), ne_eqb n 0 (λ z. omega (arith, z)), lt-leb 10 n (omega arith))
+  -- a refusal other than 13, before the range or where it is not empty
+  other : (x : Result (Unit {0}) Refusal) → (number_in x ≡ 13 → ⊥) → (past_9 x && is_empty) ≡ false → Tells x
+  other x n f = (λ z. absurd (n (ap number_in z)), λ z. no (sym z ∙ f))
+
+  early-13 : (r : Refusal) → 2 ≤ number_of r → number_of r ≤ 9 → Tells (Err r)
+  early-13 r l m = other (Err r) (λ z. omega (arith, z, m)) (and-no-left is_empty (lt-leb 10 (number_of r) (omega (arith, m))))
 
   range-13 : Tells (range_refusal b)
   range-13 =
       range-by b Tells
-      (λ h. sym (and-no-right below (lt-leb (first_bound b) b.limit h)))
-      (λ l h. sym (and_both (lt-ltb (initiating_of b) (first_bound b) h) (le-leb (first_bound b) b.limit l)))
-      (λ h. sym (and-no-left reached (le-ltb (initiating_of b) (first_bound b) h)))
-      (λ h. sym (and-no-left reached (le-ltb (initiating_of b) (first_bound b) h)))
-      (λ h _. sym (and-no-left reached (le-ltb (initiating_of b) (first_bound b) h)))
+      (λ h. other (Err LimitBelowRange) (λ z. omega (arith, z)) (and-no-right below (lt-leb (first_bound b) b.limit h)))
+      (λ l h. (λ _. and_both (lt-ltb (initiating_of b) (first_bound b) h) (le-leb (first_bound b) b.limit l), λ _. refl))
+      (λ h. other (Err StopAboveRange) (λ z. omega (arith, z)) (and-no-left reached (le-ltb (initiating_of b) (first_bound b) h)))
+      (λ h. other (Err NationalCentWide) (λ z. omega (arith, z)) (and-no-left reached (le-ltb (initiating_of b) (first_bound b) h)))
+      (λ h _. other (Ok tt) (λ z. omega (arith, z)) (and-no-left reached (le-ltb (initiating_of b) (first_bound b) h)))
 
-thirteen : (o : Order) → eqb (order_refusal o) 13 ≡ (reaches_range o && is_empty (buy_order o))
+thirteen : (o : Order) → order_refusal o ≡ Err NoRange ↔ ((reaches_range o && is_empty (buy_order o)) ≡ true)
 unfolding order_refusal
-thirteen o = by (Tells (buy_order o)) (not (order_formed o)) _ _ (λ _. refl) (λ _. refusal-by (buy_order o) (Tells (buy_order o)) (early-13 (buy_order o)) (λ _. range-13 (buy_order o)))
+thirteen o =
+    by (Tells (buy_order o)) (not (order_formed o)) _ _ (λ _. other (buy_order o) (Err OrderOutOfForm) (λ z. omega (arith, z)) refl)
+    (λ _. refusal-by (buy_order o) (Tells (buy_order o)) (early-13 (buy_order o)) (λ _. range-13 (buy_order o)))
 
 -- ---- both fields zero
 
 -- where none of 2 to 9 refuses a buy
-early : (b : Order) → reaches (buy_refusal b) ≡ true → Early b × (buy_refusal b ≡ range_refusal b)
+early : (b : Order) → past_9 (buy_refusal b) ≡ true → Early b × (buy_refusal b ≡ range_refusal b)
 early b =
-    refusal-by b (λ k. reaches k ≡ true → Early b × (k ≡ range_refusal b))
-    (λ n l m z. no (sym z ∙ simp (ne_eqb n 0 (λ q. omega (arith, q)), lt-leb 10 n (omega arith))))
+    refusal-by b (λ x. past_9 x ≡ true → Early b × (x ≡ range_refusal b))
+    (λ r l m z. no (sym z ∙ lt-leb 10 (number_of r) (omega (arith, m))))
     (λ e _. (e, refl))
 
 buy-none : (o : Order) → o.displayed ≡ 0 → (buy_order o).displayed ≡ 0
@@ -207,23 +211,26 @@ buy-none o z = by (λ (b : Order). b.displayed ≡ 0) (eqb o.side 2) _ _ (λ _. 
 none_number : (o : Order) → o.displayed ≡ 0 → reaches_range o ≡ true → order_refusal o ≡ quoted_refusal (buy_order o)
 unfolding order_refusal
 none_number o z =
-    by (λ (k : ℕ). reaches k ≡ true → k ≡ quoted_refusal (buy_order o)) (not (order_formed o)) _ _
+    by (λ (x : Result (Unit {0}) Refusal). past_9 x ≡ true → x ≡ quoted_refusal (buy_order o)) (not (order_formed o)) _ _
     (λ _ r. no (sym r))
     (λ _ r. let e = early (buy_order o) r in e.1 ∙ none-range (buy_order o) (buy-none o z) e.0)
 
-none-auction : (o : Order) → o.displayed ≡ 0 → (accept_of o).answer ≡ Accepted → (accept_of o).auction.head.terms.initiating ≡ quoted_initiating (buy_order o)
+none-auction : (o : Order) (a : Auction) → o.displayed ≡ 0 → accept_of o ≡ Ok a → a.head.terms.initiating ≡ quoted_initiating (buy_order o)
 unfolding opened_by terms_of
-none-auction o z h = ap (λ (a : Auction). a.head.terms.initiating) (opened o h).auction ∙ none-price (buy_order o) (buy-none o z)
+none-auction o a z h = ap (λ (x : Auction). x.head.terms.initiating) (opened o h).auction ∙ none-price (buy_order o) (buy-none o z)
 
 -- a size of 50 and more, or both fields zero, leaves no 13
-no-13 : (b : Order) → (initiating_of b ≡ quoted_initiating b) → buy_refusal b ≡ 13 → ⊥
+no-13 : (b : Order) → (initiating_of b ≡ quoted_initiating b) → buy_refusal b ≡ Err NoRange → ⊥
 no-13 b e =
-    refusal-by b (λ k. k ≡ 13 → ⊥) (λ n l m z. omega arith)
-    (λ p. range-by b (λ k. k ≡ 13 → ⊥) (λ _ z. omega arith) (λ l h _. omega (arith, e, quoted-fits b p l)) (λ _ z. omega arith) (λ _ z. omega arith) (λ _ _ z. omega arith))
+    refusal-by b P (λ r l m z. omega (arith, m, ap number_in z))
+    (λ p. range-by b P (λ _ z. omega (arith, ap number_in z)) (λ l h _. omega (arith, e, quoted-fits b p l)) (λ _ z. omega (arith, ap number_in z)) (λ _ z. omega (arith, ap number_in z)) (λ _ _ z. omega (arith, ap number_in z)))
+  where
+    P : Result (Unit {0}) Refusal → Type 0
+    P x = x ≡ Err NoRange → ⊥
 
-thirteen-only : (o : Order) → order_refusal o ≡ 13 → (o.size < 50) × (o.displayed ≡ 0 → ⊥)
+thirteen-only : (o : Order) → order_refusal o ≡ Err NoRange → (o.size < 50) × (o.displayed ≡ 0 → ⊥)
 thirteen-only o z =
-    let r : buy_refusal (buy_order o) ≡ 13 = (refusal-of o 13 (λ q. omega (arith, q)) z).1 in
+    let r : buy_refusal (buy_order o) ≡ Err NoRange = (refusal-of o (Err NoRange) (λ q. omega (arith, ap number_in q)) z).1 in
     let large : 50 ≤ o.size → ⊥ = λ h. no-13 (buy_order o) (large-quoted (buy_order o) (omega (arith, buy-size o))) r in
     (small o.size large, λ q. no-13 (buy_order o) (none-price (buy_order o) (buy-none o q)) r)
   where
@@ -245,5 +252,5 @@ collared =
       from-50 = from-50;
       thirteen = thirteen;
       thirteen-only = thirteen-only;
-      some-range = λ o h. (opened o h).passes.ranged;
+      some-range = λ o a h. (opened o h).passes.ranged;
     }

@@ -10,7 +10,7 @@ mod offer;
 mod orders;
 
 pub use bounds::{bound_by, bound_now, is_open, price_range};
-pub use firm::{Firm, participant_of};
+pub use firm::participant_of;
 pub use offer::{moved_offer, on_offer};
 pub use orders::accept;
 
@@ -78,17 +78,4 @@ pub struct Auction {
 pub struct Range {
     pub low: u32,
     pub high: u32,
-}
-
-// What an order is answered.
-#[derive(Clone, Copy)]
-pub enum Entry {
-    Accepted,
-    Refused(u32),
-}
-
-#[derive(Clone, Copy)]
-pub struct Opening {
-    pub answer: Entry,
-    pub auction: Auction,
 }

@@ -1,9 +1,9 @@
 // Acceptance: the numbers 1 to 13, and the auction that an accepted order opens.
 ghost use Rattle.std.specs.Prelude.{◌≡◌, cond, ◌+◌, ◌≤◌, eqb};
-ghost use Rattle.auction.specs.rules.Accept.{counted_offer, initiating_of, tick_of, bound_of, first_bound, guaranteed_of, range_refusal, buy_refusal, order_refusal, terms_of, quotes_of, opened_by, no_auction, accept_of};
+ghost use Rattle.auction.specs.rules.Accept.{counted_offer, initiating_of, tick_of, bound_of, first_bound, guaranteed_of, range_refusal, buy_refusal, order_refusal, terms_of, quotes_of, opened_by, accept_of};
 
-use crate::{Auction, Ending, Entry, Head, Market, Opening, Quotes, Terms};
-use base::{greater, less, lower, wide};
+use crate::{Auction, Ending, Head, Market, Quotes, Terms};
+use base::{Refusal, greater, less, lower, wide};
 use mirror::buy_order;
 use tape::Order;
 use words::bits::mark;
@@ -67,7 +67,7 @@ fn is_next(x: u64, y: u32) -> bool
 }
 
 // 10, 13, 11 and 12.
-fn range_refusal(o: Order) -> u32
+fn range_refusal(o: Order) -> Result<(), Refusal>
     ensures { result ≡ range_refusal o }
 {
     let low = first_bound(o);
@@ -75,57 +75,57 @@ fn range_refusal(o: Order) -> u32
     let limit = wide(o.limit);
     let stop = wide(o.stop);
     if limit < low {
-        return 10;
+        return Err(Refusal::LimitBelowRange);
     }
     if high < low {
-        return 13;
+        return Err(Refusal::NoRange);
     }
     if high < stop {
-        return 11;
+        return Err(Refusal::StopAboveRange);
     }
     if (o.size < 50) & is_next(wide(o.nbb), o.nbo) & !is_next(guaranteed(o), o.nbo) {
-        return 12;
+        return Err(Refusal::NationalCentWide);
     }
-    0
+    Ok(())
 }
 
 // 2 to 13, of a buy in form.
-fn buy_refusal(o: Order) -> u32
+fn buy_refusal(o: Order) -> Result<(), Refusal>
     ensures { result ≡ buy_refusal o }
 {
     if (o.nbb < o.bb) | (o.bo < o.nbo) {
-        return 2;
+        return Err(Refusal::BetterThanNational);
     }
     if o.size == 0 {
-        return 3;
+        return Err(Refusal::NoSize);
     }
     if o.time < o.opens {
-        return 4;
+        return Err(Refusal::BeforeOpen);
     }
     if wide(o.closes) <= wide(o.time) + 1000 {
-        return 5;
+        return Err(Refusal::NearClose);
     }
     if mark(o.marks, 0) {
-        return 6;
+        return Err(Refusal::Halted);
     }
     if mark(o.marks, 1) {
-        return 7;
+        return Err(Refusal::AnotherOpen);
     }
     if o.nbo <= o.nbb {
-        return 8;
+        return Err(Refusal::NationalCrossed);
     }
     if (o.size < 50) & is_next(wide(o.bb), offer(o, false)) {
-        return 9;
+        return Err(Refusal::ExchangeCentWide);
     }
     range_refusal(o)
 }
 
-// The number that refuses an order; 0 where none does.
-fn order_refusal(o: Order) -> u32
+// 1 to 13.
+fn order_refusal(o: Order) -> Result<(), Refusal>
     ensures { result ≡ order_refusal o }
 {
     if !tape::order_form(o) {
-        return 1;
+        return Err(Refusal::OrderOutOfForm);
     }
     buy_refusal(buy_order(o))
 }
@@ -181,58 +181,10 @@ fn opened_by(sell: bool, b: Order) -> Auction
     }
 }
 
-// What stands beside a refusal.
-fn no_auction() -> Auction
-    ensures { result ≡ no_auction }
-{
-    let board = board::empty();
-    Auction {
-        head: Head {
-            terms: Terms {
-                sell: false,
-                mode: 0,
-                size: 0,
-                initiating: 0,
-                floor: 0,
-                stop: 0,
-                interval: 0,
-            },
-            quotes: Quotes {
-                nbb: 0,
-                nbo: 0,
-                bb: 0,
-                bo: 0,
-                bidmark: false,
-                offermark: false,
-            },
-            sequence: 0,
-            clock: 0,
-            ending: Ending::Time,
-            market: Market {
-                sequence: 0,
-                size: 0,
-            },
-            offered: 0,
-        },
-        board,
-    }
-}
-
 // An order's refusal, or the auction that it opens.
-pub fn accept(o: Order) -> Opening
+pub fn accept(o: Order) -> Result<Auction, Refusal>
     ensures { result ≡ accept_of o }
 {
-    let number = order_refusal(o);
-    if number == 0 {
-        let auction = opened_by(o.side == 2, buy_order(o));
-        return Opening {
-            answer: Entry::Accepted,
-            auction,
-        };
-    }
-    let auction = no_auction();
-    Opening {
-        answer: Entry::Refused(number),
-        auction,
-    }
+    order_refusal(o)?;
+    Ok(opened_by(o.side == 2, buy_order(o)))
 }

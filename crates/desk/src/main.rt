@@ -16,7 +16,7 @@
 ghost use Rattle.std.specs.Prelude.{◌≡◌, ◌≤◌, length};
 ghost use Rattle.io.specs.Counts.{IsPrefixLen};
 
-use auction::{Auction, Entry, Firm};
+use auction::Auction;
 use board::{Board, Response};
 use input::{Contents, MOST};
 use listing::watch;
@@ -265,8 +265,8 @@ fn watch_auction(
 // The participant of a response; nothing of a market order, which is none.
 fn print_participant(rt: &(impl Print + Eprint), a: Auction, party: u32) -> bool {
     match auction::participant_of(a, party) {
-        Firm::Participant(n) => print_field(rt, b" ", n),
-        Firm::Nobody => true,
+        Some(n) => print_field(rt, b" ", n),
+        None => true,
     }
 }
 
@@ -361,12 +361,9 @@ fn serve_order(
     o: Order,
     out: &mut [u8],
 ) -> bool {
-    let opening = auction::accept(o);
-    let answer = opening.answer;
-    let a = opening.auction;
-    match answer {
-        Entry::Accepted => serve_auction(rt, look, tape, t, a, out),
-        Entry::Refused(number) => show_refused(rt, number, out),
+    match auction::accept(o) {
+        Ok(a) => serve_auction(rt, look, tape, t, a, out),
+        Err(r) => show_refused(rt, r.number(), out),
     }
 }
 
@@ -536,13 +533,10 @@ fn live_order(
     o: Order,
     out: &mut [u8],
 ) {
-    let opening = auction::accept(o);
-    let answer = opening.answer;
-    let a = opening.auction;
-    match answer {
-        Entry::Accepted => live_auction(rt, stdin, wide, a, out),
-        Entry::Refused(number) => {
-            show_refused(rt, number, out);
+    match auction::accept(o) {
+        Ok(a) => live_auction(rt, stdin, wide, a, out),
+        Err(r) => {
+            show_refused(rt, r.number(), out);
         }
     }
 }

@@ -8,7 +8,7 @@ use crate::lines::{print_auction, print_end, print_event, print_last, print_refu
 use crate::loans::{applied, cancelled};
 use crate::results::print_results;
 use crate::seen::is_right;
-use auction::{Auction, Entry};
+use auction::Auction;
 use base::wide;
 use events::Stepped;
 use tape::{Event, Order, Trailer};
@@ -99,12 +99,9 @@ fn play_refused(rt: &impl Print, number: u32) -> bool {
 }
 
 fn play_order(rt: &impl Print, bytes: &[u8], t: Trailer, o: Order) -> bool {
-    let opening = auction::accept(o);
-    let answer = opening.answer;
-    let a = opening.auction;
-    match answer {
-        Entry::Accepted => play_auction(rt, bytes, t, a),
-        Entry::Refused(number) => play_refused(rt, number),
+    match auction::accept(o) {
+        Ok(a) => play_auction(rt, bytes, t, a),
+        Err(r) => play_refused(rt, r.number()),
     }
 }
 

@@ -6,7 +6,7 @@ use Prim.Native.Nat.{ℕ}
 use Rattle.words.specs.rules.Bytes.{word_at}
 use Rattle.tape.specs.rules.Records.{order_words, order_of, order_spare, read_order, width_of, event_words, event_of, event_spare, record_at, trailer_words, trailer_of, read_trailer}
 use Rattle.tape.specs.rules.Tape.{last_trailer, open_tape, order_in, record_in, records_from, records_of, tape_of}
-use Rattle.auction.specs.rules.Accept.{accept_of}
+use Rattle.auction.specs.rules.Accept.{auction_of}
 use Rattle.run.specs.rules.Run.{run_of}
 use Rattle.run.proofs.Figures.{Computed}
 use Rattle.listing.specs.rules.Text.{text, digits, decimal}
@@ -29,15 +29,15 @@ unfolding Lists
 case-e true = refl
 case-e false = refl
 
-pub watch-c : watch_lines (accept_of example_order).auction (example_response ∷ example_response ∷ []) ≡ watch_c
+pub watch-c : watch_lines (auction_of example_order) (example_response ∷ example_response ∷ []) ≡ watch_c
 unfolding Lists
 watch-c = refl
 
-pub watch-moved : watch_lines (accept_of example_order).auction moved ≡ watch_moved
+pub watch-moved : watch_lines (auction_of example_order) moved ≡ watch_moved
 unfolding Lists
 watch-moved = refl
 
-pub watch-e : watch_lines (accept_of order_e).auction (no_event 1 ∷ market_e ∷ no_event 3 ∷ []) ≡ watch_e
+pub watch-e : watch_lines (auction_of order_e) (no_event 1 ∷ market_e ∷ no_event 3 ∷ []) ≡ watch_e
 unfolding Lists
 watch-e = refl
 

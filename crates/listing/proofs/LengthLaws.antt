@@ -27,13 +27,11 @@ use Rattle.events.specs.declared.Answer.{Answer}
 use Rattle.events.specs.declared.Answer.TheVariants.{Taken, Ended, Late, Refused}
 use Rattle.auction.specs.declared.Ending.{Ending}
 use Rattle.auction.specs.declared.Ending.TheVariants.{Open, Time, Same, Opposite, Improve}
-use Rattle.auction.specs.declared.Entry.{Entry}
-use Rattle.auction.specs.declared.Entry.TheVariants.{Accepted, Refused as NoEntry}
 use Rattle.auction.specs.declared.Range.{Range}
 use Rattle.decision.specs.declared.Change.{Change}
 use Rattle.decision.specs.declared.Change.TheVariants.{Nothing, Seat, Free, Quote, Sell}
-use Rattle.auction.specs.declared.Opening.{Opening}
-use Rattle.auction.specs.rules.Accept.{order_refusal, opened_by, no_auction, accept_of}
+use Rattle.auction.specs.rules.Accept.{opened_by, accept_of}
+use Rattle.auction.proofs.Accepted.{opened}
 use Rattle.events.specs.rules.Step.{sight_of, board_after, turn_of, close_turn, step_of}
 use Rattle.auction.specs.rules.Range.{range_of}
 use Rattle.fills.specs.rules.Fills.{deal_of, auction_fills}
@@ -157,13 +155,13 @@ pub closed-kept : (a : Auction) → places (closed a) ≡ places a
 closed-kept a = board-kept a.board (close_turn a.head).change
 
 -- an auction begins with the empty board
-pub accept-empty : (o : Order) → (accept_of o).auction.board ≡ empty_board
-unfolding accept_of opened_by no_auction
-accept-empty o = by (λ (p : Opening). p.auction.board ≡ empty_board) (eqb (order_refusal o) 0) _ _ (λ _. refl) (λ _. refl)
+pub accept-empty : (o : Order) {a : Auction} → accept_of o ≡ Ok a → a.board ≡ empty_board
+unfolding opened_by
+accept-empty o h = ap (λ (a : Auction). a.board) (opened o h).auction
 
-accept-places : (o : Order) → places (accept_of o).auction ≡ 64
+accept-places : (o : Order) (a : Auction) → accept_of o ≡ Ok a → places a ≡ 64
 unfolding empty_board
-accept-places o = ap (λ (b : Board). length b.places) (accept-empty o)
+accept-places o a h = ap (λ (b : Board). length b.places) (accept-empty o h)
 
 -- ---- the listing
 
@@ -174,9 +172,9 @@ end-lines-short a h =
     then-short 64 8867 (end_line a.head) (fill_lines fs ++ total_line (traded fs)) (end_short a.head)
     (then-short 8840 27 (fill_lines fs) (total_line (traded fs)) (omega (arith, fills-short fs, fills-few (deal_of a.head) a.board h)) (total-short (traded fs)))
 
-entry-short : (es : List Event) (a : Auction) (r : Entry) → length es ≤ 2045 → places a ≡ 64 → length (lines_of (run_entry es a r)) ≤ room_of
-entry-short es a (NoEntry number) h p = omega (arith, refused-short number)
-entry-short es a Accepted h p =
+entry-short : (es : List Event) (x : Result Auction Refusal) → length es ≤ 2045 → ((a : Auction) → x ≡ Ok a → places a ≡ 64) → length (lines_of (run_entry es x)) ≤ room_of
+entry-short es (Err r) h p = omega (arith, refused-short (number_of r))
+entry-short es (Ok a) h p =
     let last : Auction = closed (run a es) in
     let said : List Said = heard a es in
     omega (
@@ -186,12 +184,12 @@ entry-short es a Accepted h p =
       auction-short a.head,
       events-short said,
       heard-length es a,
-      end-lines-short last (closed-kept (run a es) ∙ run-kept es a ∙ p),
+      end-lines-short last (closed-kept (run a es) ∙ run-kept es a ∙ p a refl),
     )
 
 order-short : (es : List Event) (r : Result Order Refusal) → length es ≤ 2045 → length (lines_of (run_order es r)) ≤ room_of
 order-short es (Err r) h = omega (arith, refused-short (number_of r))
-order-short es (Ok o) h = entry-short es (accept_of o).auction (accept_of o).answer h (accept-places o)
+order-short es (Ok o) h = entry-short es (accept_of o) h (accept-places o)
 
 tape-short : (s : List ℕ) (r : Result Trailer Refusal) → open_tape s ≡ r → length (lines_of (run_tape s r)) ≤ room_of
 tape-short s (Err r) e = omega (arith, refused-short (number_of r))

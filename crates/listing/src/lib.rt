@@ -11,7 +11,7 @@ ghost use Rattle.listing.specs.inside.Code.{Lists};
 ghost use Rattle.words.specs.inside.Writing.{WroteBytes};
 ghost use Rattle.words.specs.rules.Bits.{count_trailing_zeros};
 
-use auction::{Auction, Ending, Entry, Head};
+use auction::{Auction, Ending, Head};
 use board::{Board, Found};
 use decision::Change;
 use events::turns;
@@ -212,7 +212,7 @@ fn list_refused(out: &mut [u8], number: u32) -> Listed
 fn list_auction(tape: &[u8], t: Trailer, a: Auction, out: &mut [u8]) -> Listed
     requires events_bound { (t.events ≤ 2045) × (room_of ≤ length out.old) }
     requires board_value { a.board ≡ empty_board }
-    ensures { Lists (run_entry (records_of tape.now t) a Entry.Accepted) out.old result out.new }
+    ensures { Lists (run_entry (records_of tape.now t) (Ok a)) out.old result out.new }
 {
     let opened = a.head;
     let w = put_auction(out, 0, opened);
@@ -228,12 +228,9 @@ fn list_order(tape: &[u8], t: Trailer, o: Order, out: &mut [u8]) -> Listed
     requires { (t.events ≤ 2045) × (room_of ≤ length out.old) }
     ensures { Lists (run_order (records_of tape.now t) (Ok o)) out.old result out.new }
 {
-    let opening = auction::accept(o);
-    let answer = opening.answer;
-    let a = opening.auction;
-    match answer {
-        Entry::Accepted => list_auction(tape, t, a, out),
-        Entry::Refused(number) => list_refused(out, number),
+    match auction::accept(o) {
+        Ok(a) => list_auction(tape, t, a, out),
+        Err(r) => list_refused(out, r.number()),
     }
 }
 

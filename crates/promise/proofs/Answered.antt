@@ -1,5 +1,5 @@
 -- Every tape is answered, whatever room is lent for it, and by which numbers. Assumes nothing.
-use mathlib.Core.Path.{◌≡◌, refl, sym, ap, ◌∙◌}
+use mathlib.Core.Path.{subst, ◌≡◌, refl, sym, ap, ◌∙◌}
 use mathlib.Core.Bool.{Bool, true, false, cond, not, ◌&&◌, ◌||◌}
 use mathlib.Core.List.{List, [], ◌∷◌, ◌++◌}
 use mathlib.Core.Logic.{◌⊎◌, inl, inr, ⊎_elim}
@@ -9,7 +9,7 @@ use native.Mathlib.Omega.{arith}
 use lib.Dec.{leb, ltb, eqb}
 use lib.ListN.{length, drop, length-drop}
 use borrow.Author.Tests.{lt-ltb, le-ltb, ltb-false, le-leb, lt-leb, leb-true}
-use Rattle.std.specs.Prelude.{Result, Ok, Err, ⊤}
+use Rattle.std.specs.Prelude.{IfErr, Result, Ok, Err, ⊤}
 use Rattle.base.specs.Lists.{In, Every, keep}
 use Rattle.base.specs.Refusal.{number_of}
 use Rattle.base.specs.declared.refusal.Refusal.{Refusal}
@@ -33,10 +33,8 @@ use Rattle.demand.proofs.Theorems.{few}
 use Rattle.auction.specs.declared.Auction.{Auction}
 use Rattle.auction.specs.declared.Ending.{Ending}
 use Rattle.auction.specs.declared.Ending.TheVariants.{Open, Time, Same, Opposite, Improve}
-use Rattle.auction.specs.declared.Entry.{Entry}
-use Rattle.auction.specs.declared.Entry.TheVariants.{Accepted, Refused as NotAccepted}
-use Rattle.auction.specs.rules.Accept.{buy_refusal, accept_of}
-use Rattle.auction.proofs.Accepted.{range-by, refusal-by, formed-refusal, refusal_is}
+use Rattle.auction.specs.rules.Accept.{buy_refusal, auction_of, accept_of}
+use Rattle.auction.proofs.Accepted.{accepts, opened, range-by, refusal-by, formed-refusal, refusal_is}
 use Rattle.events.specs.declared.Answer.{Answer}
 use Rattle.events.specs.declared.Answer.TheVariants.{Taken, Ended, Late, Refused}
 use Rattle.events.specs.rules.Step.{sight_of, step_of}
@@ -48,7 +46,7 @@ use Rattle.listing.specs.rules.Listing.{field, answer_text, end_text, end_lines,
 use Rattle.listing.specs.declared.Listed.{Listed}
 use Rattle.listing.specs.declared.Listed.TheVariants.{Refused as NoAuction}
 use Rattle.listing.proofs.Theorems.{length-answer, demands}
-use Rattle.promise.specs.rules.Answers.{no, yes, paper_of, entry_is, answer_is, ending_is, run_is, listed_is}
+use Rattle.promise.specs.rules.Answers.{no, yes, paper_of, answer_is, ending_is, run_is, listed_is}
 use Rattle.promise.specs.rules.Tapes.{Carries, end_in, end_of, is_refused, not_refused}
 use Rattle.promise.proofs.Carried.{tape-at, order-at, carry}
 use Rattle.promise.specs.promises.Parts.{Answered, Roomed, Filling, Numbered, EventNumber}
@@ -102,22 +100,19 @@ unfolding order_in
 order-read s t h r = read-order (drop t.order s) (omega (arith, length-drop t.order s, (holds s t h).order)) r
 
 -- a buy in form is not refused by 1
-abbrev Not1 : ℕ → Type 0
-Not1 n = n ≡ 1 → ⊥
-
-other : (n : ℕ) → 1 < n → Not1 n
-other n h z = omega arith
+abbrev Not1 : Result (Unit {0}) Refusal → Type 0
+Not1 x = IfErr x (λ r. 1 < number_of r)
 
 buy-not : (b : Order) → Not1 (buy_refusal b)
 buy-not b =
-    refusal-by b Not1 (λ n l _. other n l)
-    (λ _. range-by b Not1 (λ _. other 10 (omega arith)) (λ _ _. other 13 (omega arith)) (λ _. other 11 (omega arith)) (λ _. other 12 (omega arith)) (λ _ _ z. omega arith))
+    refusal-by b Not1 (λ r l _. omega (arith, l))
+    (λ _. range-by b Not1 (λ _. omega arith) (λ _ _. omega arith) (λ _. omega arith) (λ _. omega arith) (λ _ _. tt))
 
-formed-not : (o : Order) (n : ℕ) → order_formed o ≡ true → (accept_of o).answer ≡ NotAccepted n → Not1 n
-formed-not o n f h m = buy-not (buy_order o) (sym (formed-refusal o f) ∙ refusal_is o n h ∙ m)
+formed-not : (o : Order) (r : Refusal) → order_formed o ≡ true → accept_of o ≡ Err r → 1 < number_of r
+formed-not o r f h = subst Not1 (sym (formed-refusal o f) ∙ refusal_is o r h) (buy-not (buy_order o))
 
-order-number : (o : Order) (n : ℕ) → order_formed o ≡ true → (accept_of o).answer ≡ NotAccepted n → In n (2 ∷ 3 ∷ 4 ∷ 5 ∷ 6 ∷ 7 ∷ 8 ∷ 9 ∷ 10 ∷ 11 ∷ 12 ∷ 13 ∷ [])
-order-number o n f h = let b = keeps.order-numbers o n h in numbers-in n 2 12 (omega (arith, b.0, formed-not o n f h)) (omega (arith, b.1))
+order-number : (o : Order) (r : Refusal) → order_formed o ≡ true → accept_of o ≡ Err r → In (number_of r) (2 ∷ 3 ∷ 4 ∷ 5 ∷ 6 ∷ 7 ∷ 8 ∷ 9 ∷ 10 ∷ 11 ∷ 12 ∷ 13 ∷ [])
+order-number o r f h = numbers-in (number_of r) 2 12 (omega (arith, formed-not o r f h)) (omega (arith, (keeps.order-numbers o r h).1))
 
 -- ---- its run
 
@@ -128,8 +123,8 @@ opened-run s p e = ap (run_tape s) e
 ordered-run : (s : List ℕ) (t : Trailer) (r : Result Order Refusal) → open_tape s ≡ Ok t → order_in s t ≡ r → run_of s ≡ run_order (records_of s t) r
 ordered-run s t r h e = opened-run s (Ok t) h ∙ ap (run_order (records_of s t)) e
 
-pub run-carries : (s : List ℕ) (o : Order) (es : List Event) → Carries s o es → run_of s ≡ run_entry es (accept_of o).auction (accept_of o).answer
-run-carries s o es c = ordered-run s c.trailer (Ok o) (tape-at c) (order-at c) ∙ ap (λ (fs : List Event). run_entry fs (accept_of o).auction (accept_of o).answer) c.records
+pub run-carries : (s : List ℕ) (o : Order) (es : List Event) → Carries s o es → run_of s ≡ run_entry es (accept_of o)
+run-carries s o es c = ordered-run s c.trailer (Ok o) (tape-at c) (order-at c) ∙ ap (λ (fs : List Event). run_entry fs (accept_of o)) c.records
 
 lines-run : (s : List ℕ) → listing_of s ≡ lines_of (run_of s)
 unfolding listing_of
@@ -138,17 +133,17 @@ lines-run s = refl
 pub answered : (s : List ℕ) → Answered s
 answered s = open_by (open_tape s) refl
   where
-    entry-by : (t : Trailer) (o : Order) → open_tape s ≡ Ok t → order_in s t ≡ Ok o → order_formed o ≡ true → (x : Entry) → (accept_of o).answer ≡ x → Answered s
-    entry-by t o h e f Accepted z =
+    entry-by : (t : Trailer) (o : Order) → open_tape s ≡ Ok t → order_in s t ≡ Ok o → order_formed o ≡ true → (x : Result Auction Refusal) → accept_of o ≡ x → Answered s
+    entry-by t o h e f (Ok a) z =
         let c : Carries s o (records_of s t) = carry s o (records_of s t) t h e refl in
-        auction o (records_of s t) c (ap entry_is z) (lines-run s ∙ ap lines_of (run-carries s o (records_of s t) c ∙ ap (run_entry (records_of s t) (accept_of o).auction) z))
-    entry-by t o h e f (NotAccepted n) z =
+        auction o (records_of s t) c (accepts o z) (lines-run s ∙ ap lines_of (run-carries s o (records_of s t) c ∙ ap (run_entry (records_of s t)) (accepts o z)))
+    entry-by t o h e f (Err r) z =
         let c : Carries s o (records_of s t) = carry s o (records_of s t) t h e refl in
-        not-accepted o (records_of s t) n c (ap entry_is z) (order-number o n f z) (lines-run s ∙ ap lines_of (run-carries s o (records_of s t) c ∙ ap (run_entry (records_of s t) (accept_of o).auction) z))
+        not-accepted o (records_of s t) (number_of r) c (ap paper_of z) (order-number o r f z) (lines-run s ∙ ap lines_of (run-carries s o (records_of s t) c ∙ ap (run_entry (records_of s t)) z))
 
     order-by : (t : Trailer) → open_tape s ≡ Ok t → (r : Result Order Refusal) → order_in s t ≡ r → (r ≡ Err OrderOutOfForm) ⊎ ((r ≡ Ok (order_of (drop t.order s))) × (order_formed (order_of (drop t.order s)) ≡ true)) → Answered s
     order-by t h r e (inl z) = no-order t (ap paper_of h) (ap paper_of (e ∙ z)) (lines-run s ∙ ap lines_of (ordered-run s t (Err OrderOutOfForm) h (e ∙ z)))
-    order-by t h r e (inr (z, f)) = entry-by t (order_of (drop t.order s)) h (e ∙ z) f (accept_of (order_of (drop t.order s))).answer refl
+    order-by t h r e (inr (z, f)) = entry-by t (order_of (drop t.order s)) h (e ∙ z) f (accept_of (order_of (drop t.order s))) refl
 
     open_by : (p : Result Trailer Refusal) → open_tape s ≡ p → Answered s
     open_by (Err r) e = no-tape (number_of r) (ap paper_of e) (tape-number s r e) (lines-run s ∙ ap lines_of (opened-run s (Err r) e))
@@ -287,12 +282,15 @@ without (e ∷ es) a = go (is_refused (step_of a e).answer) refl (without es (st
     go false z ih = ih
 
 -- two tapes of one order, whose records make the same auction, end alike
-pub ends-alike : (s t : List ℕ) (o : Order) (es fs : List Event) → Carries s o es → Carries t o fs → run (accept_of o).auction fs ≡ run (accept_of o).auction es → end_of t ≡ end_of s
-ends-alike s t o es fs c d z = ap end_in (run-carries t o fs d) ∙ go (accept_of o).answer ∙ sym (ap end_in (run-carries s o es c))
+pub ends-alike : (s t : List ℕ) (o : Order) (es fs : List Event) → Carries s o es → Carries t o fs → run (auction_of o) fs ≡ run (auction_of o) es → end_of t ≡ end_of s
+ends-alike s t o es fs c d z = ap end_in (run-carries t o fs d) ∙ go (accept_of o) refl ∙ sym (ap end_in (run-carries s o es c))
   where
-    go : (x : Entry) → end_in (run_entry fs (accept_of o).auction x) ≡ end_in (run_entry es (accept_of o).auction x)
-    go Accepted = ap (λ (a : Auction). end_lines (closed a)) z
-    go (NotAccepted n) = refl
+    go : (x : Result Auction Refusal) → accept_of o ≡ x → end_in (run_entry fs x) ≡ end_in (run_entry es x)
+    go (Ok a) h = subst (λ (b : Auction). end_lines (closed (run b fs)) ≡ end_lines (closed (run b es))) (sym (opened o h).auction) (ap (λ (b : Auction). end_lines (closed b)) z)
+    go (Err r) h = refl
 
-pub without-refused : (s t : List ℕ) (o : Order) (es : List Event) → Carries s o es → Carries t o (not_refused (accept_of o).auction es) → end_of t ≡ end_of s
-without-refused s t o es c d = ends-alike s t o es (not_refused (accept_of o).auction es) c d (without es (accept_of o).auction)
+pub none-refused : (s : List ℕ) (o : Order) (es : List Event) (r : Refusal) → Carries s o es → accept_of o ≡ Err r → end_of s ≡ []
+none-refused s o es r c h = ap end_in (run-carries s o es c ∙ ap (run_entry es) h)
+
+pub without-refused : (s t : List ℕ) (o : Order) (es : List Event) → Carries s o es → Carries t o (not_refused (auction_of o) es) → end_of t ≡ end_of s
+without-refused s t o es c d = ends-alike s t o es (not_refused (auction_of o) es) c d (without es (auction_of o))

@@ -1,6 +1,6 @@
 -- The quotes in real fields, and in the buy that the engine works with: what an event makes of them, and the bound. Assumes nothing.
 use mathlib.Core.Logic.{◌≢◌}
-use mathlib.Core.Path.{◌≡◌, refl, sym, ap, ap₂, subst, ◌∙◌}
+use mathlib.Core.Path.{◌≡◌, refl, sym, ap, ap₂, ◌∙◌}
 use mathlib.Core.Bool.{Bool, true, false, cond, not, ◌&&◌, ◌||◌}
 use Prim.Native.Nat.{ℕ, ◌+◌, ◌-◌, ◌≤◌, min, max}
 use native.Mathlib.Omega.{arith}
@@ -16,12 +16,10 @@ use Rattle.mirror.specs.rules.Mirror.{mirrored_side, mirrored_order, mirrored_ev
 use Rattle.mirror.proofs.EventLaws.{mirror-three, mirror-five}
 use Rattle.mirror.proofs.MirrorForm.{event-bounds, records-mirror}
 use Rattle.trade.specs.rules.Write.{reported_price}
-use Rattle.auction.specs.rules.Accept.{accept_of, tick_of, bound_of, bid_mark, offer_mark, terms_of, quotes_of, opened_by}
+use Rattle.auction.specs.rules.Accept.{tick_of, bound_of, bid_mark, offer_mark, terms_of, quotes_of, opened_by, auction_of, Accepts}
 use Rattle.auction.specs.rules.Range as bound
-use Rattle.auction.specs.declared.Auction.{Auction}
 use Rattle.auction.specs.declared.Terms.{Terms}
 use Rattle.auction.specs.declared.Quotes.{Quotes}
-use Rattle.auction.specs.declared.Entry.TheVariants.{Accepted}
 use Rattle.auction.proofs.Accepted.{opened, price-fits}
 use Rattle.decision.specs.rules.Decide.{is_customer, is_non_routable, moves, bid_quotes, new_quotes}
 use Rattle.run.proofs.MarketFrom.{buy-form}
@@ -326,11 +324,11 @@ buy-stop o n = go (is_sell o)
     go true = simp (ne_eqb o.mode 2 n)
     go false = refl
 
-module _ (o : Order) (h : (accept_of o).answer ≡ Accepted) where
-  pub ours-of : Priced o (accept_of o).auction.head.terms
+module _ (o : Order) (h : Accepts o) where
+  pub ours-of : Priced o (auction_of o).head.terms
   unfolding opened_by
-  ours-of = subst (λ (a : Auction). Priced o a.head.terms) (sym (opened o h).auction) (priced-formed o (opened o h).formed)
+  ours-of = priced-formed o (opened o h).formed
 
-  pub at_first : Reads (is_sell o) (first_quoted o) (accept_of o).auction.head.quotes
+  pub at_first : Reads (is_sell o) (first_quoted o) (auction_of o).head.quotes
   unfolding opened_by
-  at_first = subst (λ (a : Auction). Reads (is_sell o) (first_quoted o) a.head.quotes) (sym (opened o h).auction) (first-formed o (opened o h).formed)
+  at_first = first-formed o (opened o h).formed

@@ -6,36 +6,25 @@ use Prim.Native.Char.{code}
 use Prim.Native.String.{String, char_at}
 use native.Mathlib.Omega.{arith}
 use Rattle.std.specs.Prelude.{Result, Ok, Err}
+use Rattle.base.specs.Refusal.{number_of}
 use Rattle.base.specs.declared.refusal.Refusal.{Refusal}
 use Rattle.tape.specs.declared.order.Order.{Order}
 use Rattle.tape.specs.declared.event.Event.{Event}
 use Rattle.tape.specs.declared.trailer.Trailer.{Trailer}
 use Rattle.tape.specs.rules.Tape.{open_tape, order_in, records_of}
-use Rattle.auction.specs.declared.Entry.{Entry}
-use Rattle.auction.specs.declared.Entry.TheVariants.{Accepted, Refused as NotAccepted}
-use Rattle.auction.specs.rules.Accept.{accept_of}
 use Rattle.events.specs.declared.Answer.{Answer}
 use Rattle.events.specs.declared.Answer.TheVariants.{Taken, Ended, Late, Refused}
-use Rattle.promise.specs.rules.Answers.{Paper, no, yes, Accepts, paper_of, entry_is, answer_is}
+use Rattle.promise.specs.rules.Answers.{Paper, no, yes, paper_of, answer_is}
 use Rattle.promise.specs.rules.Tapes.{Carries, records_in}
 
 pub result-is : {A : Type 0} (x : Result A Refusal) (v : A) → paper_of x ≡ yes v → x ≡ Ok v
 result-is (Ok u) v z = let q : u ≡ v = cc in ap Ok q
 result-is (Err r) v z = cc
 
-pub accepted : (o : Order) → Accepts o → (accept_of o).answer ≡ Accepted
-accepted o = go (accept_of o).answer
-  where
-    go : (x : Entry) → entry_is x ≡ yes tt → x ≡ Accepted
-    go Accepted z = refl
-    go (NotAccepted n) z = cc
-
-pub not-accepted : (o : Order) (n : ℕ) → entry_is (accept_of o).answer ≡ no n → (accept_of o).answer ≡ NotAccepted n
-not-accepted o n = go (accept_of o).answer
-  where
-    go : (x : Entry) → entry_is x ≡ no n → x ≡ NotAccepted n
-    go Accepted z = cc
-    go (NotAccepted m) z = let q : m ≡ n = cc in ap NotAccepted q
+-- a result with a number is a refusal that has it
+pub refused-by : {A : Type 0} (x : Result A Refusal) (n : ℕ) → paper_of x ≡ no n → (r : Refusal) × (x ≡ Err r) × (number_of r ≡ n)
+refused-by (Ok a) n z = absurd cc
+refused-by (Err r) n z = let q : number_of r ≡ n = cc in (r, refl, q)
 
 -- the words are told by their first letters
 abbrev first : Paper String → ℕ

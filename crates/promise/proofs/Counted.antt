@@ -22,8 +22,7 @@ use Rattle.trade.specs.rules.Write.{reported_price}
 use Rattle.demand.specs.promises.Demands.{Absent, Distinct, Party, got}
 use Rattle.auction.specs.declared.Auction.{Auction}
 use Rattle.auction.specs.declared.Terms.{Terms}
-use Rattle.auction.specs.declared.Entry.TheVariants.{Accepted}
-use Rattle.auction.specs.rules.Accept.{accept_of}
+use Rattle.auction.specs.rules.Accept.{auction_of, Accepts}
 use Rattle.events.specs.declared.Answer.TheVariants.{Taken, Refused}
 use Rattle.decision.specs.declared.Sight.{Sight}
 use Rattle.events.specs.declared.Stepped.{Stepped}
@@ -36,7 +35,6 @@ use Rattle.run.proofs.SoundLaws.{sound-opened, sound-step, sound-run}
 use Rattle.promise.specs.rules.Sides.{is_sell, sent, responses, better, initiating_price, taken_records, at_end, written_fills, standing_of, has_named}
 use Rattle.promise.specs.promises.Parts.{auction_after, OneRecord, CountedOnce}
 use Rattle.promise.specs.rules.Answers.{answer_is, no as no_number, Paper, yes}
-use Rattle.promise.proofs.Carried.{accepted}
 use lib.Dec.{ltb, eqb}
 use borrow.Author.Tests.{eqb-false, le-ltb, ne_eqb, eq-eqb}
 use Rattle.decision.specs.rules.Decide.{is_amend}
@@ -211,16 +209,16 @@ once (x ∷ es) a s e g i j n m q = go (is_taken (step_of a x).answer) refl i j 
     go true z (inr i) (inl r) ih = absurd (later z (subst Names r m) e i n (q ∙ ap name_of r))
     go true z (inr i) (inr j) ih = ih i j
 
-module _ (o : Order) (es : List Event) (h : (accept_of o).answer ≡ Accepted) where
+module _ (o : Order) (es : List Event) (h : Accepts o) where
   -- the auction after the records
   abbrev then : Auction
   then = auction_after o es
 
   sound : Sound then
-  sound = sound-run es (accept_of o).auction (sound-opened o h)
+  sound = sound-run es (auction_of o) (sound-opened o h)
 
   gone : (e : Event) → In e (taken_records o es) → Names e → Gone (name_of e) then
-  gone e i = every_in (λ e. Names e → Gone (name_of e) then) (taken_records o es) e (all-gone es (accept_of o).auction (sound-opened o h)) i
+  gone e i = every_in (λ e. Names e → Gone (name_of e) then) (taken_records o es) e (all-gone es (auction_of o) (sound-opened o h)) i
 
   never_back : (e : Event) → In e (taken_records o es) → Names e → Absent (name_of e) (responses then)
   never_back e i n = every-sent (λ r. r.sequence ≢ name_of e) then.head.terms.sell (live_of then.board) (gone e i n).2
@@ -232,7 +230,7 @@ module _ (o : Order) (es : List Event) (h : (accept_of o).answer ≡ Accepted) w
       record {
         record_of = c.record_of;
         sends = c.sends;
-        only = λ g j q. one (accept_of o).auction es g c.record_of j (sender o es c.sends) (q ∙ c.named);
+        only = λ g j q. one (auction_of o) es g c.record_of j (sender o es c.sends) (q ∙ c.named);
         latest = λ g j n q. every_in (λ r. r.sequence ≢ name_of g) (responses then) r (never_back g j n) i (sym q);
       })
 
@@ -240,12 +238,12 @@ module _ (o : Order) (es : List Event) (h : (accept_of o).answer ≡ Accepted) w
   stands-is : (k : ℕ) → ltb (find_gtx then.board k) 64 ≡ has_named k (standing_of o (taken_records o es))
   stands-is k = named-is then.head.terms.sell then.board k sound.board sound.distinct ∙ ap (has_named k) (by-records o es h)
 
-  terms-then : then.head.terms ≡ (accept_of o).auction.head.terms
-  terms-then = run-terms es (accept_of o).auction
+  terms-then : then.head.terms ≡ (auction_of o).head.terms
+  terms-then = run-terms es (auction_of o)
 
   above-is : (g : Event) → event_formed g ≡ true → g.kind ≡ 6 → is_above then g ≡ better (is_sell o) (initiating_price o) (new_price_of g)
   above-is g f k =
-      let t : Terms = (accept_of o).auction.head.terms in
+      let t : Terms = (auction_of o).head.terms in
       let p : ℕ = new_price_of (buy_event (is_sell o) g) in
       ap (λ (t : Terms). ltb t.initiating (new_price_of (buy_event t.sell g))) terms-then
       ∙ ap (λ (s : Bool). ltb t.initiating (new_price_of (buy_event s g))) (terms-sell o h)
@@ -293,21 +291,21 @@ pub distinct-sent : (sell : Bool) (rs : List Response) → Distinct rs → Disti
 distinct-sent sell [] d = tt
 distinct-sent sell (r ∷ rs) d = (every-sent (λ x. x.sequence ≢ r.sequence) sell rs d.0, distinct-sent sell rs d.1)
 
-apart : (o : Order) (es : List Event) → (accept_of o).answer ≡ Accepted → Distinct (responses (auction_after o es))
+apart : (o : Order) (es : List Event) → Accepts o → Distinct (responses (auction_after o es))
 apart o es h = distinct-sent (auction_after o es).head.terms.sell (live_of (auction_after o es).board) (resend.apart o es h)
 
 pub counted : (o : Order) → CountedOnce o
 counted o =
     record {
-      refused = λ before e g i h. (ap (λ (p : Stepped). answer_is p.answer) (refused (accept_of o).auction before e g i h), ap (λ (p : Stepped). p.auction) (refused (accept_of o).auction before e g i h));
-      by-records = λ es h. by-records o es (accepted o h);
-      one-record = λ es h. one-record o es (accepted o h);
-      apart = λ es h. apart o es (accepted o h);
-      named-once = λ es e g h i j n m q. once es (accept_of o).auction (sound-opened o (accepted o h)) e g i j n m q;
-      never_back = λ es e h. never_back o es (accepted o h) e;
-      amend-answers = λ es e h. amend-answers o es (accepted o h) e;
-      cancel-answers = λ es e h. cancel-answers o es (accepted o h) e;
-      named-no-more = λ es e g h. named-no-more o es (accepted o h) e g;
+      refused = λ before e g i h. (ap (λ (p : Stepped). answer_is p.answer) (refused (auction_of o) before e g i h), ap (λ (p : Stepped). p.auction) (refused (auction_of o) before e g i h));
+      by-records = λ es h. by-records o es h;
+      one-record = λ es h. one-record o es h;
+      apart = λ es h. apart o es h;
+      named-once = λ es e g h i j n m q. once es (auction_of o) (sound-opened o h) e g i j n m q;
+      never_back = λ es e h. never_back o es h e;
+      amend-answers = λ es e h. amend-answers o es h e;
+      cancel-answers = λ es e h. cancel-answers o es h e;
+      named-no-more = λ es e g h. named-no-more o es h e g;
     }
 
 -- ---- no fill bears a name that is gone
@@ -316,7 +314,7 @@ closed-sequence : (a : Auction) → (closed a).head.sequence ≡ a.head.sequence
 unfolding close_turn ended_by_time
 closed-sequence a = by (λ (t : Turn). t.head.sequence ≡ a.head.sequence) (is_open a.head.ending) _ _ (λ _. refl) (λ _. refl)
 
-pub gone-none : (o : Order) (es : List Event) → (accept_of o).answer ≡ Accepted → (e : Event) → In e (taken_records o es) → Names e → got (name_of e) (written_fills o es) ≡ 0
+pub gone-none : (o : Order) (es : List Event) → Accepts o → (e : Event) → In e (taken_records o es) → Names e → got (name_of e) (written_fills o es) ≡ 0
 unfolding deal_of
 gone-none o es h e i n = got-is o es h (name_of e) ∙ tally-none (λ f. eqb f.party (name_of e)) (dealt o es h) (every_map (λ f. Party (deal o es h) (at_end o es).board f.party) (λ f. eqb f.party (name_of e) ≡ false) (dealt o es h) (λ f p. ne_eqb _ _ (nobody f p)) (demand o es h).nobody-else)
   where

@@ -25,7 +25,7 @@ use Rattle.tape.proofs.FormLaws.{each, within-ge, within-le}
 use Rattle.mirror.specs.rules.Mirror.{mirrored_order, mirrored_priced, mirrored_market, buy_order, buy_event}
 use Rattle.mirror.proofs.EventLaws.{buy-kind, mirror-one, mirror-four}
 use Rattle.mirror.proofs.MirrorForm.{event-bounds}
-use Rattle.auction.specs.rules.Accept.{accept_of, terms_of, opened_by}
+use Rattle.auction.specs.rules.Accept.{terms_of, opened_by, auction_of, Accepts}
 use Rattle.auction.specs.rules.Range.{is_open, bound_by}
 use Rattle.auction.specs.rules.Offer.{on_offer}
 use Rattle.auction.specs.declared.Auction.{Auction}
@@ -35,8 +35,6 @@ use Rattle.auction.specs.declared.Quotes.{Quotes}
 use Rattle.auction.specs.declared.Market.{Market}
 use Rattle.auction.specs.declared.Ending.{Ending}
 use Rattle.auction.specs.declared.Ending.TheVariants.{Open, Same, Opposite, Improve}
-use Rattle.auction.specs.declared.Entry.TheVariants.{Accepted}
-use Rattle.auction.proofs.Accepted.{opened}
 use Rattle.decision.specs.rules.Decide.{is_customer, is_non_routable, moves, bid_quotes, new_quotes, gtx_outcome, cancel_outcome, amend_outcome, sell_limit_outcome, buy_limit_outcome, limit_outcome, market_outcome, quotes_outcome, outcome_of}
 use Rattle.decision.specs.declared.Sight.{Sight}
 use Rattle.decision.specs.declared.Change.{Change}
@@ -500,31 +498,31 @@ follows-close o a n F = go (is_open a.head.ending) refl
         subst (Follows o (closed a)) (sym (ap (λ (x : Bool). cond x (by_time n) n) (sym (ap is_open F.ending-is) ∙ z)))
         (subst (λ (w : Turn). Follows o (seated_on a.board w).auction (cond b (by_time n) n)) (sym (close-turn a.head b z)) (base b z))
 
-module _ (o : Order) (h : (accept_of o).answer ≡ Accepted) where
-  first : Follows o (accept_of o).auction (opening o)
+module _ (o : Order) (h : Accepts o) where
+  first : Follows o (auction_of o) (opening o)
   unfolding opened_by terms_of buy_order mirrored_order in_sequence
   first =
       record {
         sound = sound-opened o h;
         ours = ours o h;
         priced = ours-of o h;
-        interval-is = ap (λ (a : Auction). a.head.terms.interval) (opened o h).auction ∙ by (λ (b : Order). b.interval ≡ o.interval) (is_sell o) _ _ (λ _. refl) (λ _. refl);
-        sequence-is = ap (λ (a : Auction). a.head.sequence) (opened o h).auction;
-        clock-is = ap (λ (a : Auction). a.head.clock) (opened o h).auction;
-        ending-is = ap (λ (a : Auction). a.head.ending) (opened o h).auction;
-        market-is = ap (λ (a : Auction). a.head.market) (opened o h).auction;
-        stands = ap (λ (rs : List Response). in_sequence (map (sent (is_sell o)) rs)) (ap (λ (a : Auction). live_of a.board) (opened o h).auction ∙ none-live (is_sell o) (buy_order o));
+        interval-is = by (λ (b : Order). b.interval ≡ o.interval) (is_sell o) _ _ (λ _. refl) (λ _. refl);
+        sequence-is = refl;
+        clock-is = refl;
+        ending-is = refl;
+        market-is = refl;
+        stands = ap (λ (rs : List Response). in_sequence (map (sent (is_sell o)) rs)) (none-live (is_sell o) (buy_order o));
         reads = at_first o h;
       }
 
-  pub answers-are : (es : List Event) → heard (accept_of o).auction es ≡ answers_from o (opening o) es
-  answers-are es = (follows-run o es (accept_of o).auction (opening o) first).0
+  pub answers-are : (es : List Event) → heard (auction_of o) es ≡ answers_from o (opening o) es
+  answers-are es = (follows-run o es (auction_of o) (opening o) first).0
 
-  pub watch-is : (es : List Event) → watch_lines (accept_of o).auction es ≡ watch_from o (opening o) es
-  watch-is es = follows-watch o es (accept_of o).auction (opening o) first
+  pub watch-is : (es : List Event) → watch_lines (auction_of o) es ≡ watch_from o (opening o) es
+  watch-is es = follows-watch o es (auction_of o) (opening o) first
 
   pub taken-are : (es : List Event) → taken_records o es ≡ taken_from o (opening o) es
-  taken-are es = (follows-run o es (accept_of o).auction (opening o) first).1
+  taken-are es = (follows-run o es (auction_of o) (opening o) first).1
 
   pub last-is : (es : List Event) → Follows o (at_end o es) (lastly o es)
-  last-is es = follows-close o (run (accept_of o).auction es) (after_all o (opening o) es) (follows-run o es (accept_of o).auction (opening o) first).2
+  last-is es = follows-close o (run (auction_of o) es) (after_all o (opening o) es) (follows-run o es (auction_of o) (opening o) first).2

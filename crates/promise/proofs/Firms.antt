@@ -7,6 +7,8 @@ use Prim.Native.Nat.{ℕ, ◌≤◌, ◌<◌}
 use native.Mathlib.Omega.{arith}
 use lib.Dec.{eqb}
 use borrow.Author.Tests.{lt-ltb, le-ltb, eq-eqb, ne_eqb}
+use Rattle.std.specs.Option.{option_to_list}
+use Rattle.std.specs.Prelude.{None, Some}
 use Rattle.base.specs.Lists.{In, Every, keep, filter}
 use Rattle.base.proofs.ListLaws.{every_in, every-with}
 use Rattle.base.proofs.Numbers.{le-or-lt, eq-or}
@@ -20,17 +22,13 @@ use Rattle.tape.specs.declared.order.Order.{Order}
 use Rattle.tape.specs.declared.event.Event.{Event}
 use Rattle.demand.specs.promises.Demands.{Absent, Distinct}
 use Rattle.auction.specs.declared.Auction.{Auction}
-use Rattle.auction.specs.declared.Entry.TheVariants.{Accepted}
-use Rattle.auction.specs.declared.firm.Firm.TheVariants.{Participant, Nobody}
-use Rattle.auction.specs.rules.Accept.{accept_of}
+use Rattle.auction.specs.rules.Accept.{auction_of, Accepts}
 use Rattle.auction.specs.rules.Firm.{participant_of}
 use Rattle.run.specs.promises.Demands.{Sound}
 use Rattle.run.proofs.SoundLaws.{sound-opened, sound-run}
 use Rattle.run.proofs.Amends.{live_at}
-use Rattle.promise.specs.rules.Answers.{firm_is}
 use Rattle.promise.specs.rules.Sides.{sent, responses, at_end}
 use Rattle.promise.specs.promises.Parts.{Sends, places, amends, auction_after, Told, Firms}
-use Rattle.promise.proofs.Carried.{accepted}
 use Rattle.promise.proofs.RealLaws.{in-sent, sound}
 use Rattle.promise.proofs.Standing.{by-records, stand}
 use Rattle.promise.proofs.Counted.{distinct-sent}
@@ -50,29 +48,29 @@ same_name (r ∷ rs) x y d (inr i) (inr j) e = same_name rs x y d.1 i j e
 
 module _ (a : Auction) (s : Sound a) where
   -- a live response is found by its sequence
-  found : (r : Response) → In r (live_of a.board) → participant_of a r.sequence ≡ Participant r.participant
+  found : (r : Response) → In r (live_of a.board) → participant_of a r.sequence ≡ Some r.participant
   unfolding participant_of
   found r i = ⊎_elim absent there (le-or-lt 64 j)
     where
       j : ℕ
       j = find_named true a.board r.sequence
 
-      absent : 64 ≤ j → participant_of a r.sequence ≡ Participant r.participant
+      absent : 64 ≤ j → participant_of a r.sequence ≡ Some r.participant
       absent h = absurd (every_in (λ x. x.sequence ≡ r.sequence → ⊥) (live_of a.board) r others i refl)
         where
           others : Every (λ x. x.sequence ≡ r.sequence → ⊥) (live_of a.board)
           others = live-every (λ x. x.sequence ≡ r.sequence → ⊥) a.board.live a.board.places no_response (λ k l t e. omega (arith, h, s.board.places-are, named-found true a.board r.sequence s.board k (record { live = t; gtx = refl; sequence = e })))
 
-      there : j < 64 → participant_of a r.sequence ≡ Participant r.participant
+      there : j < 64 → participant_of a r.sequence ≡ Some r.participant
       there h =
           let at : NamedAt true a.board r.sequence j = find-named true a.board r.sequence s.board h in
           let x : Response = response_at a.board.places j in
           let here : In x (live_of a.board) = live_at (λ y. In y (live_of a.board)) a.board j s.board at.live (every-with (λ y. In y (live_of a.board)) (live_of a.board) (λ y k. k)) in
           let same : x ≡ r = same_name (live_of a.board) x r s.distinct here i at.sequence in
-          simp (lt-ltb j 64 h) (ap (λ (y : Response). Participant y.participant) same)
+          simp (lt-ltb j 64 h) (ap (λ (y : Response). Some y.participant) same)
 
   -- and no other sequence is
-  unfound : (k : ℕ) → Absent k (live_of a.board) → participant_of a k ≡ Nobody
+  unfound : (k : ℕ) → Absent k (live_of a.board) → participant_of a k ≡ None
   unfolding participant_of
   unfound k g =
       let none : find_named true a.board k ≡ 64 = no-named true a.board k s.board (λ i at. live_at (λ r. r.sequence ≡ k → ⊥) a.board i s.board at.live g at.sequence) in
@@ -86,8 +84,8 @@ module _ (a : Auction) (s : Sound a) where
   told =
       record {
         answers = λ r i. let x = in-sent a.head.terms.sell (live_of a.board) r i in
-            ap (λ (y : Response). firm_is (participant_of a y.sequence)) x.is ∙ ap firm_is (found x.response x.live) ∙ ap (λ (y : Response). y.participant ∷ []) (sym x.is);
-        nobody = λ k g. ap firm_is (unfound k (absent-sent k a.head.terms.sell (live_of a.board) g));
+            ap (λ (y : Response). participant_of a y.sequence) x.is ∙ found x.response x.live ∙ ap (λ (y : Response). Some y.participant) (sym x.is);
+        nobody = λ k g. unfound k (absent-sent k a.head.terms.sell (live_of a.board) g);
       }
 
 -- of responses whose sequences are apart, those with one sequence are one, or none
@@ -117,15 +115,15 @@ one-or-none k (r ∷ rs) d = let rest = one-or-none k rs d.1 in ⊎_elim here (�
     there n (one x i e f) = one x (inr i) e (pass n ∙ f)
     there n (none g f) = none (n, g) (pass n ∙ f)
 
-by-responses : (a : Auction) (k : ℕ) → Told a → Distinct (responses a) → firm_is (participant_of a k) ≡ map (λ r. r.participant) (filter (λ r. eqb r.sequence k) (responses a))
+by-responses : (a : Auction) (k : ℕ) → Told a → Distinct (responses a) → option_to_list (participant_of a k) ≡ map (λ r. r.participant) (filter (λ r. eqb r.sequence k) (responses a))
 by-responses a k t d = go (one-or-none k (responses a) d)
   where
-    go : OneOrNone k (responses a) → firm_is (participant_of a k) ≡ map (λ r. r.participant) (filter (λ r. eqb r.sequence k) (responses a))
-    go (one r i e f) = ap (λ (n : ℕ). firm_is (participant_of a n)) (sym e) ∙ t.answers r i ∙ sym (ap (map (λ r. r.participant)) f)
-    go (none g f) = t.nobody k g ∙ sym (ap (map (λ r. r.participant)) f)
+    go : OneOrNone k (responses a) → option_to_list (participant_of a k) ≡ map (λ r. r.participant) (filter (λ r. eqb r.sequence k) (responses a))
+    go (one r i e f) = ap (λ (n : ℕ). option_to_list (participant_of a n)) (sym e) ∙ ap option_to_list (t.answers r i) ∙ sym (ap (map (λ r. r.participant)) f)
+    go (none g f) = ap option_to_list (t.nobody k g) ∙ sym (ap (map (λ r. r.participant)) f)
 
 -- by sequence they are those that the records leave standing, and the order is of no matter
-by-standing : (a : Auction) (k : ℕ) (rs : List Response) → Sound a → in_sequence (responses a) ≡ rs → firm_is (participant_of a k) ≡ map (λ r. r.participant) (filter (λ r. eqb r.sequence k) rs)
+by-standing : (a : Auction) (k : ℕ) (rs : List Response) → Sound a → in_sequence (responses a) ≡ rs → option_to_list (participant_of a k) ≡ map (λ r. r.participant) (filter (λ r. eqb r.sequence k) rs)
 by-standing a k rs s e =
     by-responses a k (told a s) (distinct-sent a.head.terms.sell (live_of a.board) s.distinct)
     ∙ ap (map (λ r. r.participant)) (sym (ordering.stable k (responses a)) ∙ ap (filter (λ r. eqb r.sequence k)) e)
@@ -134,11 +132,11 @@ pub firms : (o : Order) → Firms o
 firms o =
     record {
       of-record = λ es e r. of-record;
-      told = λ es h. told (auction_after o es) (after es (accepted o h));
-      told-end = λ es h. told (at_end o es) (sound o es (accepted o h));
-      by-records = λ es k h. by-standing (auction_after o es) k _ (after es (accepted o h)) (by-records o es (accepted o h));
-      by-records-end = λ es k h. by-standing (at_end o es) k _ (sound o es (accepted o h)) (stand o es (accepted o h));
+      told = λ es h. told (auction_after o es) (after es h);
+      told-end = λ es h. told (at_end o es) (sound o es h);
+      by-records = λ es k h. by-standing (auction_after o es) k _ (after es h) (by-records o es h);
+      by-records-end = λ es k h. by-standing (at_end o es) k _ (sound o es h) (stand o es h);
     }
   where
-    after : (es : List Event) → (accept_of o).answer ≡ Accepted → Sound (auction_after o es)
-    after es h = sound-run es (accept_of o).auction (sound-opened o h)
+    after : (es : List Event) → Accepts o → Sound (auction_after o es)
+    after es h = sound-run es (auction_of o) (sound-opened o h)

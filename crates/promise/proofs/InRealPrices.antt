@@ -1,13 +1,12 @@
 -- Demand 3 of every accepted order and every list of records, in real prices: its parts put together. Assumes nothing.
-use mathlib.Core.Path.{◌≡◌, ◌∙◌}
+use mathlib.Core.Path.{◌∙◌}
 use mathlib.Core.List.{List}
 use Prim.Native.Nat.{◌<◌}
 use native.Mathlib.Omega.{arith}
 use Rattle.base.proofs.ListLaws.{every_in}
 use Rattle.tape.specs.declared.order.Order.{Order}
 use Rattle.tape.specs.declared.event.Event.{Event}
-use Rattle.auction.specs.rules.Accept.{accept_of}
-use Rattle.auction.specs.declared.Entry.TheVariants.{Accepted}
+use Rattle.auction.specs.rules.Accept.{auction_of, Accepts}
 use Rattle.run.proofs.Resend.{one, above}
 use Rattle.promise.specs.rules.Sides.{taken_records}
 use Rattle.promise.specs.promises.Parts.{InRealPrices}
@@ -18,7 +17,7 @@ use Rattle.promise.proofs.Counted.{gone-none}
 use Rattle.promise.proofs.MarketTrades.{market-trades}
 use Rattle.promise.proofs.Shared.{filled, short, shared-out, share, covered, guaranteed, guaranteed-last}
 
-pub trades : (o : Order) (es : List Event) → (accept_of o).answer ≡ Accepted → InRealPrices o es
+pub trades : (o : Order) (es : List Event) → Accepts o → InRealPrices o es
 trades o es h =
     record {
       ended = (ended-well o es h).ended;
@@ -32,8 +31,8 @@ trades o es h =
       by-fold = by-fold o es h;
       gone-none = gone-none o es h;
       parties = parties o es h;
-      told-apart = one (accept_of o).auction es;
-      not-contra = λ e i. omega (arith, every_in (λ x. (accept_of o).auction.head.sequence < x.sequence) (taken_records o es) e (above es (accept_of o).auction) i);
+      told-apart = one (auction_of o) es;
+      not-contra = λ e i. omega (arith, every_in (λ x. (auction_of o).head.sequence < x.sequence) (taken_records o es) e (above es (auction_of o)) i);
       market-trades = market-trades o es h;
       contra-limit = contra-limit o es h;
       works = works o es h;

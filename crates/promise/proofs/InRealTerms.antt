@@ -6,6 +6,7 @@ use mathlib.Core.Logic.{◌≢◌}
 use Prim.Native.Nat.{ℕ, ◌≤◌, ◌<◌}
 use native.Mathlib.Omega.{arith}
 use borrow.Author.Tests.{ltb-false, le-ltb}
+use Rattle.std.specs.Prelude.{Ok}
 use Rattle.base.proofs.ListLaws.{every-with, every_map}
 use Rattle.board.specs.declared.Response.{Response}
 use Rattle.demand.proofs.Order.{all-sequence}
@@ -15,9 +16,8 @@ use Rattle.tape.specs.declared.event.Event.{Event}
 use Rattle.trade.specs.declared.Deal.{Deal}
 use Rattle.trade.specs.rules.Trade.{offers, traded}
 use Rattle.trade.specs.rules.Write.{reported, reported_price}
-use Rattle.auction.specs.rules.Accept.{accept_of, terms_of}
+use Rattle.auction.specs.rules.Accept.{terms_of, auction_of, Accepts}
 use Rattle.auction.specs.declared.Terms.{Terms}
-use Rattle.auction.specs.declared.Entry.TheVariants.{Accepted}
 use Rattle.fills.specs.rules.Fills.{deal_of}
 use Rattle.run.proofs.SoundLaws.{sound-deal}
 use Rattle.tape.proofs.FormLaws.{order-bounds}
@@ -55,7 +55,7 @@ in-limit o f h = go (is_sell o) h
     go true k = le-ltb f.price o.limit (omega (arith, ltb-false f.price (sell_range o).low k))
     go false k = le-ltb o.limit f.price (omega (arith, ltb-false (buy_range o).high f.price k, below-limit o))
 
-module _ (o : Order) (es : List Event) (h : (accept_of o).answer ≡ Accepted) where
+module _ (o : Order) (es : List Event) (h : Accepts o) where
   -- the auction at its end is what the records leave
   last : Follows o (at_end o es) (lastly o es)
   last = last-is o h es
@@ -154,10 +154,10 @@ module _ (o : Order) (es : List Event) (h : (accept_of o).answer ≡ Accepted) w
       }
 
   -- the listing and the watch, line by line
-  ran : (s : List ℕ) → Carries s o es → run_of s ≡ run_entry es (accept_of o).auction Accepted
-  ran s c = run-carries s o es c ∙ ap (run_entry es (accept_of o).auction) h
+  ran : (s : List ℕ) → Carries s o es → run_of s ≡ run_entry es (Ok (auction_of o))
+  ran s c = run-carries s o es c ∙ ap (run_entry es) h
 
-  first-line : auction_line (accept_of o).auction.head ≡ first_line o
+  first-line : auction_line (auction_of o).head ≡ first_line o
   unfolding auction_line
   first-line = λ i. side_text (terms-sell o h i) ++ (field " size " (terms-size o h i) ++ range_text (opens o h i))
 

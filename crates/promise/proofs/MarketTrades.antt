@@ -19,8 +19,7 @@ use Rattle.trade.specs.declared.Deal.{Deal}
 use Rattle.trade.specs.rules.Trade.{offers, market_price, market_fill}
 use Rattle.demand.specs.promises.Demands.{got, walked}
 use Rattle.demand.proofs.Lists.{tally-append, got-fill}
-use Rattle.auction.specs.rules.Accept.{accept_of}
-use Rattle.auction.specs.declared.Entry.TheVariants.{Accepted}
+use Rattle.auction.specs.rules.Accept.{auction_of, Accepts}
 use Rattle.fills.specs.rules.Fills.{deal_of}
 use Rattle.run.proofs.SoundLaws.{size-of}
 use Rattle.promise.specs.rules.Sides.{other_side, taken_records, at_end, written_fills, market_order}
@@ -39,7 +38,7 @@ walk_none d (f ∷ fs) n = go (ltb 0 d.selling) (eqb f.party d.market) (lt-ltb 0
     go true false y z ih = let q : cond (eqb f.party d.market) f.quantity 0 ≡ 0 = ap (λ (t : Bool). cond t f.quantity 0) z in omega (arith, q, ih)
     go false b y z ih = no (sym y)
 
-module _ (o : Order) (es : List Event) (h : (accept_of o).answer ≡ Accepted) where
+module _ (o : Order) (es : List Event) (h : Accepts o) where
   -- what the market order trades, where there is one
   market-got : 0 < (market_order o es).size → got (market_order o es).sequence (written_fills o es) ≡ min o.size (market_order o es).size
   unfolding deal_of
@@ -53,7 +52,7 @@ module _ (o : Order) (es : List Event) (h : (accept_of o).answer ≡ Accepted) w
 
   pub market-trades : (e : Event) → In e (taken_records o es) → e.kind ≡ 4 → e.side ≡ other_side o → Ends o es e × (got e.sequence (written_fills o es) ≡ min o.size (size_of e))
   market-trades e i k d =
-      let f : event_formed e ≡ true = every_in (λ x. event_formed x ≡ true) (taken_records o es) e (taken-formed es (accept_of o).auction) i in
+      let f : event_formed e ≡ true = every_in (λ x. event_formed x ≡ true) (taken_records o es) e (taken-formed es (auction_of o)) i in
       let ends : Ends o es e = market-ends o es h e i k d in
       let g = market-got (omega (arith, ends.size, (size-of e (inr (inr k)) f).0)) in
       (ends, ap (λ (n : ℕ). got n (written_fills o es)) (sym ends.sequence) ∙ g ∙ ap (min o.size) ends.size)

@@ -4,6 +4,10 @@ use mathlib.Core.Bool.{Bool, true, false, cond, not}
 use mathlib.Core.List.{List, [], ◌∷◌, ◌++◌}
 use Prim.Native.Nat.{ℕ}
 use lib.ListN.{drop}
+use Rattle.auction.proofs.Accepted.{opened, accepts}
+use Rattle.base.specs.declared.refusal.Refusal.{Refusal}
+use Rattle.std.specs.Result.{result_map_both}
+use Rattle.std.specs.Prelude.{Err, Ok, Result}
 use Rattle.share.specs.rules.Fills.{Fill}
 use Rattle.tape.specs.declared.order.Order.{Order}
 use Rattle.tape.specs.declared.event.Event.{Event}
@@ -13,13 +17,11 @@ use Rattle.roundtrip.proofs.RoundTrip.{order-formed}
 use Rattle.mirror.specs.rules.Mirror.{mirrored_order, mirrored_event}
 use Rattle.mirror.proofs.MirrorForm.{order-twice, event-twice, event-form}
 use Rattle.trade.specs.rules.Trade.{traded}
-use Rattle.auction.specs.rules.Accept.{accept_of}
+use Rattle.auction.specs.rules.Accept.{auction_of, accept_of, Accepts}
 use Rattle.auction.specs.rules.Range.{range_of}
 use Rattle.auction.specs.declared.Auction.{Auction}
 use Rattle.auction.specs.declared.Head.{Head}
 use Rattle.auction.specs.declared.Range.{Range}
-use Rattle.auction.specs.declared.Entry.{Entry}
-use Rattle.auction.specs.declared.Entry.TheVariants.{Accepted, Refused}
 use Rattle.fills.specs.rules.Fills.{auction_fills}
 use Rattle.run.specs.rules.Run.{Said, heard, run, played, run_entry, run_of}
 use Rattle.run.specs.promises.Demands.{Sound, flipped_head, flipped, mirrored_record, mirrored_records, mirrored_fills, mirrored_range}
@@ -56,23 +58,26 @@ module _ (a : Auction) (k : Sound a) where
 
 module _ (o : Order) (es : List Event) where
   abbrev first : Auction
-  first = (accept_of o).auction
+  first = auction_of o
 
   -- of an order that is accepted
-  accepted-mirrored : (accept_of o).answer ≡ Accepted → lines_of (run_entry (mirrored_records es) (accept_of (mirrored_order o)).auction Accepted) ≡ mirrored_lines (run_entry es first Accepted)
+  accepted-mirrored : Accepts o → lines_of (run_entry (mirrored_records es) (Ok (auction_of (mirrored_order o)))) ≡ mirrored_lines (run_entry es (Ok first))
   accepted-mirrored e =
       let k : Sound first = sound-opened o e in
-      ap (λ (a : Auction). auction_line a.head ++ (event_lines (heard (accept_of (mirrored_order o)).auction (mirrored_records es)) ++ end_lines (played (mirrored_order o) (mirrored_records es)))) (auctions.opens o e)
+      ap (λ (a : Auction). auction_line a.head ++ (event_lines (heard (auction_of (mirrored_order o)) (mirrored_records es)) ++ end_lines (played (mirrored_order o) (mirrored_records es)))) (auctions.opens o e)
       ∙ ap₂ (λ (l : List ℕ) (rs : List Said). l ++ (event_lines rs ++ end_lines (played (mirrored_order o) (mirrored_records es)))) (opening-mirrored first k) (auctions.hears o es e)
       ∙ ap (λ (l : List ℕ). (side_text (not first.head.terms.sell) ++ (field " size " first.head.terms.size ++ range_text (mirrored_range (range_of first.head)))) ++ (event_lines (heard first es) ++ l))
       (ap end_lines (auctions.plays o es e) ∙ end-mirrored (played o es) (sound-close (run first es) (sound-run es first k)))
 
-  order-mirrored : order_formed o ≡ true → lines_of (run_entry (mirrored_records es) (accept_of (mirrored_order o)).auction (accept_of (mirrored_order o)).answer) ≡ mirrored_lines (run_entry es first (accept_of o).answer)
-  order-mirrored f = ap (λ (n : Entry). lines_of (run_entry (mirrored_records es) (accept_of (mirrored_order o)).auction n)) (auctions.accepts o f) ∙ go (accept_of o).answer refl
+  order-mirrored : order_formed o ≡ true → lines_of (run_entry (mirrored_records es) (accept_of (mirrored_order o))) ≡ mirrored_lines (run_entry es (accept_of o))
+  order-mirrored f = ap (λ (x : Result Auction Refusal). lines_of (run_entry (mirrored_records es) x)) (auctions.accepts o f) ∙ go (accept_of o) refl
     where
-      go : (n : Entry) → (accept_of o).answer ≡ n → lines_of (run_entry (mirrored_records es) (accept_of (mirrored_order o)).auction n) ≡ mirrored_lines (run_entry es first n)
-      go Accepted e = accepted-mirrored e
-      go (Refused n) e = refl
+      go : (x : Result Auction Refusal) → accept_of o ≡ x → lines_of (run_entry (mirrored_records es) (result_map_both flipped (λ r. r) x)) ≡ mirrored_lines (run_entry es x)
+      go (Ok a) e =
+          let k : Accepts o = accepts o e in
+          let p : a ≡ first = (opened o e).auction in
+          ap (λ (b : Auction). lines_of (run_entry (mirrored_records es) (Ok b))) (ap flipped p ∙ sym (auctions.opens o k)) ∙ accepted-mirrored k ∙ ap (λ (b : Auction). mirrored_lines (run_entry es (Ok b))) (sym p)
+      go (Err r) e = refl
 
 pub mirrors : (s t : List ℕ) (o : Order) (es : List Event) → Carries s o es → Carries t (mirrored_order o) (mirrored_records es) → listing_of t ≡ mirrored_lines (run_of s)
 unfolding listing_of order_in

@@ -6,21 +6,23 @@ use Prim.Native.Nat.{ℕ, ◌+◌, ◌-◌, ◌≤◌, ◌<◌, min, max}
 use native.Mathlib.Omega.{arith}
 use lib.Dec.{leb, ltb, eqb}
 use borrow.Author.Tests.{eq-eqb, ne_eqb, leb-true, ltb-true}
+use Rattle.base.specs.declared.refusal.Refusal.TheVariants.{NoRange}
+use Rattle.base.specs.declared.refusal.Refusal.{Refusal}
+use Rattle.base.specs.Refusal.{number_of}
+use Rattle.std.specs.Prelude.{Err, Result}
 use Rattle.base.specs.Price.{mirrored}
 use Rattle.tape.specs.declared.order.Order.{Order}
 use Rattle.tape.specs.rules.Form.{within, order_formed}
 use Rattle.tape.proofs.FormLaws.{within-ge, within-le, CollarForm, without, with, OrderBounds, order-bounds}
 use Rattle.mirror.specs.rules.Mirror.{mirrored_unless, mirrored_order, buy_order}
 use Rattle.mirror.proofs.MirrorForm.{none_stays, records-mirror}
-use Rattle.auction.specs.declared.Auction.{Auction}
 use Rattle.auction.specs.declared.Range.{Range}
-use Rattle.auction.specs.declared.Entry.TheVariants.{Accepted, Refused}
-use Rattle.auction.specs.rules.Accept.{counted_offer, initiating_of, tick_of, bound_of, first_bound, order_refusal, bid_mark, offer_mark, terms_of, quotes_of, opened_by, accept_of}
+use Rattle.auction.specs.rules.Accept.{counted_offer, initiating_of, tick_of, bound_of, first_bound, order_refusal, bid_mark, offer_mark, terms_of, quotes_of, opened_by, auction_of, accept_of, Accepts}
 use Rattle.auction.specs.rules.Range.{word, bound_now, range_of}
 use Rattle.trade.specs.rules.Write.{reported_price}
-use Rattle.base.proofs.Bools.{and_left, and_right, no}
+use Rattle.base.proofs.Bools.{and_left, and_right}
 use Rattle.auction.specs.promises.Collared.{reaches_range}
-use Rattle.auction.proofs.Accepted.{range-by, refusal-by, refusal-of, opened, refusal_is, limit-fits}
+use Rattle.auction.proofs.Accepted.{number_in, range-by, refusal-by, refusal-of, opened, refusal_is, limit-fits}
 use Rattle.auction.proofs.CollaredLaws.{collared}
 use Rattle.promise.specs.rules.Sides.{is_sell, counted_bid, buy_range, sell_range, opening_range, initiating_price}
 
@@ -116,8 +118,8 @@ range-formed o f = go (eqb o.side 2) refl (order-bounds o f)
     go true z k = sell o k z
     go false z k = buy o k
 
-pub opens : (o : Order) → (accept_of o).answer ≡ Accepted → range_of (accept_of o).auction.head ≡ opening_range o
-opens o h = let m = opened o h in ap (λ (a : Auction). range_of a.head) m.auction ∙ range-formed o m.formed
+pub opens : (o : Order) → Accepts o → range_of (auction_of o).head ≡ opening_range o
+opens o h = range-formed o (opened o h).formed
 
 -- which is empty or not as the bound is above the initiating price or not
 module _ (b : Order) where
@@ -131,31 +133,31 @@ module _ (b : Order) where
   range_none true h k = omega arith
   range_none false h k = omega arith
 
-pub some-range : (o : Order) → (accept_of o).answer ≡ Accepted → (opening_range o).low ≤ (opening_range o).high
+pub some-range : (o : Order) → Accepts o → (opening_range o).low ≤ (opening_range o).high
 some-range o h =
     let m = opened o h in
     subst (λ (r : Range). r.low ≤ r.high) (range-formed o m.formed) (range-some (buy_order o) (eqb o.side 2) m.passes.ranged)
 
-pub no-range : (o : Order) → (accept_of o).answer ≡ Refused 13 → ((opening_range o).high < (opening_range o).low) × (o.size < 50) × (o.displayed ≢ 0)
+pub no-range : (o : Order) → accept_of o ≡ Err NoRange → ((opening_range o).high < (opening_range o).low) × (o.size < 50) × (o.displayed ≢ 0)
 no-range o h =
     let b = buy_order o in
-    let n : order_refusal o ≡ 13 = refusal_is o 13 h in
-    let f : order_formed o ≡ true = (refusal-of o 13 (λ z. omega (arith, z)) n).0 in
-    let e : (ltb (initiating_of b) (first_bound b) && leb (first_bound b) b.limit) ≡ true = and_right (reaches_range o) _ (sym (collared.thirteen o) ∙ eq-eqb _ _ n) in
+    let n : order_refusal o ≡ Err NoRange = refusal_is o NoRange h in
+    let f : order_formed o ≡ true = (refusal-of o (Err NoRange) (λ z. omega (arith, ap number_in z)) n).0 in
+    let e : (ltb (initiating_of b) (first_bound b) && leb (first_bound b) b.limit) ≡ true = and_right (reaches_range o) _ ((collared.thirteen o).0 n) in
     let low : initiating_of b < first_bound b = ltb-true _ _ (and_left (ltb (initiating_of b) (first_bound b)) (leb (first_bound b) b.limit) e) in
     let high : first_bound b ≤ b.limit = leb-true _ _ (and_right (ltb (initiating_of b) (first_bound b)) (leb (first_bound b) b.limit) e) in
     let k = collared.thirteen-only o n in
     (subst (λ (r : Range). r.high < r.low) (range-formed o f) (range_none b (eqb o.side 2) low (omega (arith, high, limit-fits o f))), k.0, k.1)
 
 -- a number above 10, where the range would be empty
-pub only-13 : (o : Order) (n : ℕ) → (accept_of o).answer ≡ Refused n → 10 < n → (opening_range o).high < (opening_range o).low → n ≡ 13
-only-13 o n h l e =
-    let m = refusal-of o n (λ z. omega (arith, z)) (refusal_is o n h) in
+pub only-13 : (o : Order) (r : Refusal) → accept_of o ≡ Err r → 10 < number_of r → (opening_range o).high < (opening_range o).low → number_of r ≡ 13
+only-13 o r h l e =
+    let m = refusal-of o (Err r) (λ z. omega (arith, l, ap number_in z)) (refusal_is o r h) in
     let b = buy_order o in
-    let P : ℕ → Type 0 = λ k. k ≡ n → n ≡ 13 in
+    let P : Result (Unit {0}) Refusal → Type 0 = λ x. x ≡ Err r → number_of r ≡ 13 in
     let never : first_bound b ≤ initiating_of b → ⊥ = λ r. let s : (opening_range o).low ≤ (opening_range o).high = subst (λ (r : Range). r.low ≤ r.high) (range-formed o m.0) (range-some b (eqb o.side 2) r) in omega (arith, s, e) in
-    refusal-by b P (λ k _ j z. absurd (omega arith))
-    (λ _. range-by b P (λ _ z. absurd (omega arith)) (λ _ _ z. sym z) (λ r _. absurd (never r)) (λ r _. absurd (never r)) (λ _ _ z. absurd (omega arith))) m.1
+    refusal-by b P (λ q _ j z. absurd (omega (arith, j, l, ap number_in z)))
+    (λ _. range-by b P (λ _ z. absurd (omega (arith, l, ap number_in z))) (λ _ _ z. sym (ap number_in z)) (λ k _. absurd (never k)) (λ k _. absurd (never k)) (λ _ _ z. absurd (omega (arith, l, ap number_in z)))) m.1
 
 -- the initiating price, by the order's own fields
 pub initiating-formed : (o : Order) → order_formed o ≡ true → initiating_price o ≡ reported_price (is_sell o) (initiating_of (buy_order o))
@@ -167,15 +169,6 @@ initiating-formed o f = go (is_sell o) (range-formed o f)
     go false z = sym (ap (λ (r : Range). r.high) z)
 
 -- the same of an accepted one's terms
-pub initiating-is : (o : Order) → (accept_of o).answer ≡ Accepted → initiating_price o ≡ reported_price (is_sell o) (accept_of o).auction.head.terms.initiating
-unfolding range_of opened_by terms_of
-initiating-is o h =
-    go (is_sell o) (accept_of o).auction.head.terms.sell (ap (λ (a : Auction). a.head.terms.sell) (opened o h).auction) (opens o h)
-  where
-    go : (s t : Bool) → t ≡ s
-        → cond {A = Range} t (record { low = mirrored (accept_of o).auction.head.terms.initiating; high = mirrored (bound_now (accept_of o).auction.head) }) (record { low = bound_now (accept_of o).auction.head; high = (accept_of o).auction.head.terms.initiating }) ≡ cond s (sell_range o) (buy_range o)
-        → cond s (sell_range o).low (buy_range o).high ≡ reported_price s (accept_of o).auction.head.terms.initiating
-    go true true e z = sym (ap (λ (r : Range). r.low) z)
-    go false false e z = sym (ap (λ (r : Range). r.high) z)
-    go true false e z = no (sym e)
-    go false true e z = no e
+pub initiating-is : (o : Order) → Accepts o → initiating_price o ≡ reported_price (is_sell o) (auction_of o).head.terms.initiating
+unfolding opened_by terms_of
+initiating-is o h = initiating-formed o (opened o h).formed

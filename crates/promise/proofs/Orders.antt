@@ -5,7 +5,13 @@ use Prim.Native.Nat.{ℕ, ◌+◌, ◌-◌, ◌≤◌, max}
 use native.Mathlib.Omega.{arith}
 use borrow.Author.Tests.{le-ltb, eqb-true, eqb-false, eq-eqb}
 use lib.Dec.{leb, ltb, eqb}
+use Rattle.std.specs.Prelude.{Result, Ok, Err}
+use Rattle.std.specs.Result.{result_and}
+use Rattle.base.specs.Refusal.{number_of}
+use Rattle.base.specs.declared.refusal.Refusal.{Refusal}
+use Rattle.base.specs.declared.refusal.Refusal.TheVariants.{OrderOutOfForm, BetterThanNational, NoSize, BeforeOpen, NearClose, Halted, AnotherOpen, NationalCrossed, ExchangeCentWide, LimitBelowRange, StopAboveRange, NationalCentWide, NoRange}
 use Rattle.base.specs.Price.{mirrored}
+use Rattle.auction.specs.declared.Auction.{Auction}
 use Rattle.base.proofs.Bools.{by, same_test}
 use Rattle.words.specs.rules.Bits.{bit_at}
 use Rattle.tape.specs.declared.order.Order.{Order}
@@ -14,12 +20,10 @@ use Rattle.tape.proofs.FormLaws.{OrderBounds, order-bounds}
 use Rattle.mirror.specs.rules.Mirror.{mirrored_order, buy_order}
 use Rattle.mirror.proofs.MirrorForm.{records-mirror}
 use Rattle.trade.specs.rules.Write.{reported_price}
-use Rattle.auction.specs.rules.Accept.{initiating_of, first_bound, guaranteed_of, range_refusal, buy_refusal, order_refusal, terms_of, quotes_of, opened_by, no_auction, accept_of}
-use Rattle.auction.specs.declared.Entry.TheVariants.{Accepted, Refused}
+use Rattle.auction.specs.rules.Accept.{initiating_of, first_bound, guaranteed_of, range_refusal, buy_refusal, order_refusal, terms_of, quotes_of, auction_of, accept_of}
 use Rattle.auction.proofs.Accepted.{limit-fits}
-use Rattle.auction.specs.declared.Opening.{Opening}
 use Rattle.exact.specs.rules.EitherSide.{better, worse_of}
-use Rattle.promise.specs.rules.Answers.{Paper, no, yes, entry_is}
+use Rattle.promise.specs.rules.Answers.{Paper, no, yes, paper_of}
 use Rattle.promise.specs.rules.Sides.{is_sell, initiating_price}
 use Rattle.promise.specs.rules.Events.{first_quoted}
 use Rattle.promise.specs.rules.Orders.{opening_bound, guaranteed_price, one_cent_better, order_number}
@@ -52,6 +56,15 @@ or_swap true true = refl
 or_swap true false = refl
 or_swap false true = refl
 or_swap false false = refl
+
+-- ---- a test before a refusal: what is answered, by the paper's number
+then : {s t : Bool} (x : Result (Unit {0}) Refusal) (a : Auction) {p : Paper Auction} → s ≡ t → (r : Refusal) → paper_of (result_and x (Ok a)) ≡ p
+    → paper_of (result_and (cond s (Err r) x) (Ok a)) ≡ cond t (no (number_of r)) p
+then {s} x a {p} e r h = go s ∙ ap (λ (b : Bool). cond b (no (number_of r)) p) e
+  where
+    go : (b : Bool) → paper_of (result_and (cond b (Err r) x) (Ok a)) ≡ cond b (no (number_of r)) p
+    go true = refl
+    go false = h
 
 -- ---- an order in form
 
@@ -205,48 +218,40 @@ module _ (o : Order) (f : order_formed o ≡ true) where
       ∙ ap (λ (x : ℕ). eqb x (one_cent_better o)) guaranteed-is
 
   -- the numbers, one test after the other
-  buy-is : buy_refusal b ≡
-      cond (ltb o.nbb o.bb || ltb o.bo o.nbo) 2
-      (cond (eqb o.size 0) 3
-      (cond (ltb o.time o.opens) 4
-      (cond (leb o.closes (o.time + 1000)) 5
-      (cond (bit_at o.marks 0) 6
-      (cond (bit_at o.marks 1) 7
-      (cond (leb o.nbo o.nbb) 8
-      (cond (ltb o.size 50 && eqb (o.bo - o.bb) 1) 9
-      (cond (better (is_sell o) o.limit (opening_bound o)) 10
-      (cond (better (is_sell o) (initiating_price o) (opening_bound o)) 13
-      (cond (not (eqb o.mode 2) && better (is_sell o) (initiating_price o) o.stop) 11
-      (cond (ltb o.size 50 && eqb (o.nbo - o.nbb) 1 && not (eqb (guaranteed_price o) (one_cent_better o))) 12
-      0)))))))))))
+  buy-is : paper_of (result_and (buy_refusal b) (Ok (auction_of o))) ≡
+      cond (ltb o.nbb o.bb || ltb o.bo o.nbo) (no 2)
+      (cond (eqb o.size 0) (no 3)
+      (cond (ltb o.time o.opens) (no 4)
+      (cond (leb o.closes (o.time + 1000)) (no 5)
+      (cond (bit_at o.marks 0) (no 6)
+      (cond (bit_at o.marks 1) (no 7)
+      (cond (leb o.nbo o.nbb) (no 8)
+      (cond (ltb o.size 50 && eqb (o.bo - o.bb) 1) (no 9)
+      (cond (better (is_sell o) o.limit (opening_bound o)) (no 10)
+      (cond (better (is_sell o) (initiating_price o) (opening_bound o)) (no 13)
+      (cond (not (eqb o.mode 2) && better (is_sell o) (initiating_price o) o.stop) (no 11)
+      (cond (ltb o.size 50 && eqb (o.nbo - o.nbb) 1 && not (eqb (guaranteed_price o) (one_cent_better o))) (no 12)
+      (yes (auction_of o)))))))))))))
   unfolding buy_refusal range_refusal
-  buy-is = λ i.
-      cond (outside-is i) 2
-      (cond (eqb (left.size i) 0) 3
-      (cond (ltb (left.time i) (left.opens i)) 4
-      (cond (leb (left.closes i) (left.time i + 1000)) 5
-      (cond (left.halted i) 6
-      (cond (left.another i) 7
-      (cond (crossed-is i) 8
-      (cond (ltb (left.size i) 50 && one-cent i) 9
-      (cond (worse-limit i) 10
-      (cond (empty-is i) 13
-      (cond (beyond-is i) 11
-      (cond (ltb (left.size i) 50 && one-cent-national i && not (improved-is i)) 12
-      0)))))))))))
+  buy-is =
+      then _ _ outside-is BetterThanNational
+      (then _ _ (λ i. eqb (left.size i) 0) NoSize
+      (then _ _ (λ i. ltb (left.time i) (left.opens i)) BeforeOpen
+      (then _ _ (λ i. leb (left.closes i) (left.time i + 1000)) NearClose
+      (then _ _ left.halted Halted
+      (then _ _ left.another AnotherOpen
+      (then _ _ crossed-is NationalCrossed
+      (then _ _ (λ i. ltb (left.size i) 50 && one-cent i) ExchangeCentWide
+      (then _ _ worse-limit LimitBelowRange
+      (then _ _ empty-is NoRange
+      (then _ _ beyond-is StopAboveRange
+      (then _ _ (λ i. ltb (left.size i) 50 && one-cent-national i && not (improved-is i)) NationalCentWide
+      refl)))))))))))
 
-number_is : (o : Order) → order_refusal o ≡ order_number o
-unfolding order_refusal
-number_is o = go (order_formed o) refl
+pub order-number : (o : Order) → paper_of (accept_of o) ≡ order_number o
+unfolding accept_of order_refusal
+order-number o = go (order_formed o) refl
   where
-    go : (t : Bool) → order_formed o ≡ t → order_refusal o ≡ order_number o
-    go true f = ap (λ (x : Bool). cond (not x) 1 (buy_refusal (buy_order o))) f ∙ buy-is o f ∙ sym (simp f)
-    go false f = simp f
-
-pub order-number : (o : Order) → entry_is (accept_of o).answer ≡ cond (eqb (order_number o) 0) (yes tt) (no (order_number o))
-unfolding accept_of
-order-number o = go (eqb (order_refusal o) 0) ∙ ap (λ (n : ℕ). cond {A = Paper Unit} (eqb n 0) (yes tt) (no n)) (number_is o)
-  where
-    go : (t : Bool) → entry_is (cond {A = Opening} t (record { answer = Accepted; auction = opened_by (is_sell o) (buy_order o) }) (record { answer = Refused (order_refusal o); auction = no_auction })).answer ≡ cond {A = Paper Unit} t (yes tt) (no (order_refusal o))
-    go true = refl
-    go false = refl
+    go : (t : Bool) → order_formed o ≡ t → paper_of (result_and (cond (not t) (Err OrderOutOfForm) (buy_refusal (buy_order o))) (Ok (auction_of o))) ≡ order_number o
+    go true f = buy-is o f ∙ sym (simp f)
+    go false f = sym (simp f)

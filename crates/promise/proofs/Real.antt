@@ -23,9 +23,8 @@ use Rattle.demand.specs.promises.Demands.{got, sold_at}
 use Rattle.demand.specs.promises.Demands as demands
 use Rattle.demand.specs.promises.Demands.Party.{the_contra as is_contra, the_market as is_market, a_response as is_response}
 use Rattle.mirror.specs.rules.Mirror.{mirrored_order, buy_order}
-use Rattle.auction.specs.rules.Accept.{initiating_of, terms_of, accept_of}
+use Rattle.auction.specs.rules.Accept.{initiating_of, terms_of, Accepts}
 use Rattle.auction.specs.declared.Terms.{Terms}
-use Rattle.auction.specs.declared.Entry.TheVariants.{Accepted}
 use Rattle.fills.specs.rules.Fills.{deal_of}
 use Rattle.auction.proofs.Accepted.{opened, below-limit}
 use Rattle.promise.specs.rules.Sides.{is_sell, better, sent, at_end, written_fills, live_at_end, market_order, working_price}
@@ -78,7 +77,7 @@ buy-stop o n = go (is_sell o)
 
 -- ---- what needs no level of the walk
 
-module _ (o : Order) (es : List Event) (h : (accept_of o).answer ≡ Accepted) where
+module _ (o : Order) (es : List Event) (h : Accepts o) where
   abbrev dealing : demands.Demand3 (deal o es h) (at_end o es).board (dealt o es h)
   dealing = demand o es h
 

@@ -21,19 +21,17 @@ use Rattle.trade.specs.rules.Trade.{offers, fills, working}
 use Rattle.trade.specs.rules.Write.{reported_price, reported, fills_of}
 use Rattle.demand.specs.promises.Demands.{tally, got, is_market, InRange, Demand3}
 use Rattle.mirror.specs.rules.Mirror.{mirrored_order, buy_order}
-use Rattle.auction.specs.rules.Accept.{terms_of, opened_by, accept_of}
+use Rattle.auction.specs.rules.Accept.{terms_of, opened_by, auction_of, Accepts}
 use Rattle.auction.specs.rules.Range.{is_open, bound_now, range_of}
 use Rattle.auction.specs.declared.Auction.{Auction}
 use Rattle.auction.specs.declared.Terms.{Terms}
 use Rattle.auction.specs.declared.Range.{Range}
-use Rattle.auction.specs.declared.Entry.TheVariants.{Accepted}
 use Rattle.events.specs.rules.Step.{close_of, close_turn, ended_by_time, board_after}
 use Rattle.events.specs.declared.Turn.{Turn}
 use Rattle.fills.specs.rules.Fills.{deal_of}
 use Rattle.run.specs.rules.Run.{run}
 use Rattle.run.specs.promises.Demands.{Stands, Sound, Trades}
 use Rattle.demand.specs.promises.Demands as demands
-use Rattle.auction.proofs.Accepted.{opened}
 use Rattle.run.proofs.MarketFrom.{run-terms}
 use Rattle.run.proofs.SoundLaws.{sound-opened, sound-run, sound-close, demanded}
 use Rattle.promise.specs.rules.Sides.{is_sell, better, sent, at_end, range_at_end, written_fills, live_at_end, market_order, walked_fills, working_price}
@@ -160,7 +158,7 @@ close-board a = by (λ (t : Turn). board_after a.board t.change ≡ a.board) (is
 
 -- ---- an accepted order, and the records after it: the auction once ended
 
-module _ (o : Order) (es : List Event) (h : (accept_of o).answer ≡ Accepted) where
+module _ (o : Order) (es : List Event) (h : Accepts o) where
   -- the deal, the live responses and the fills of the buy that the engine works with
   abbrev pub deal : Deal
   deal = deal_of (at_end o es).head
@@ -172,7 +170,7 @@ module _ (o : Order) (es : List Event) (h : (accept_of o).answer ≡ Accepted) w
   dealt = fills deal (offers (at_end o es).board)
 
   pub sound : Sound (at_end o es)
-  sound = sound-close (run (accept_of o).auction es) (sound-run es (accept_of o).auction (sound-opened o h))
+  sound = sound-close (run (auction_of o) es) (sound-run es (auction_of o) (sound-opened o h))
 
   pub ended-well : Trades (at_end o es)
   ended-well = demanded.demand-3 o es h
@@ -183,7 +181,7 @@ module _ (o : Order) (es : List Event) (h : (accept_of o).answer ≡ Accepted) w
   -- the terms are those of the buy
   pub terms-are : (at_end o es).head.terms ≡ terms_of (is_sell o) (buy_order o)
   unfolding opened_by
-  terms-are = close-terms (run (accept_of o).auction es) ∙ run-terms es (accept_of o).auction ∙ ap (λ (a : Auction). a.head.terms) (opened o h).auction
+  terms-are = close-terms (run (auction_of o) es) ∙ run-terms es (auction_of o)
 
   pub sell-is : (at_end o es).head.terms.sell ≡ is_sell o
   unfolding terms_of
@@ -205,8 +203,8 @@ module _ (o : Order) (es : List Event) (h : (accept_of o).answer ≡ Accepted) w
   pub there-is : live_at_end o es ≡ map (sent (is_sell o)) live
   there-is = ap (λ (s : Bool). map (sent s) live) sell-is
 
-  pub board-is : (at_end o es).board ≡ (run (accept_of o).auction es).board
-  board-is = close-board (run (accept_of o).auction es)
+  pub board-is : (at_end o es).board ≡ (run (auction_of o) es).board
+  board-is = close-board (run (auction_of o) es)
 
   -- every price is at most the initiating price, so a price
   pub initiating-fits : deal.initiating ≤ 999999

@@ -14,8 +14,7 @@ use Rattle.tape.specs.rules.Form.{event_formed}
 use Rattle.mirror.specs.rules.Mirror.{buy_event}
 use Rattle.auction.specs.declared.Auction.{Auction}
 use Rattle.auction.specs.declared.Market.{Market}
-use Rattle.auction.specs.declared.Entry.TheVariants.{Accepted}
-use Rattle.auction.specs.rules.Accept.{accept_of}
+use Rattle.auction.specs.rules.Accept.{auction_of, Accepts}
 use Rattle.auction.specs.rules.Range.{is_open}
 use Rattle.events.specs.declared.Answer.TheVariants.{Refused}
 use Rattle.events.specs.declared.Turn.{Turn}
@@ -77,9 +76,9 @@ same-records a es fs (more before e f rest i h r) = refused-out before f rest a 
 same-records a es fs (past_end before f rest z r) = refused-out before f rest a 31 (keeps.ended (sight_of (run a before).board f) (run a before) f z) ∙ same-records a es (before ++ rest) r
 
 -- so the auction comes out the same
-pub resends : (s t : List ℕ) (o : Order) (es fs : List Event) → Carries s o es → Carries t o fs → WithResent (accept_of o).auction es fs → end_of t ≡ end_of s
+pub resends : (s t : List ℕ) (o : Order) (es fs : List Event) → Carries s o es → Carries t o fs → WithResent (auction_of o) es fs → end_of t ≡ end_of s
 resends s t o es fs c d r =
-    let a : Auction = (accept_of o).auction in
+    let a : Auction = (auction_of o) in
     ends-alike s t o es fs c d (sym (without fs a) ∙ ap (run a) (same-records a es fs r) ∙ without es a)
 
 -- the records that are not refused are answered as they were among the others
@@ -103,9 +102,9 @@ unfolding close_turn ended_by_time
 closed-market a = by (λ (t : Turn). t.head.market ≡ a.head.market) (is_open a.head.ending) _ _ (λ _. refl) (λ _. refl)
 
 -- a record that ended the auction as a market order
-ends_by : (o : Order) (es : List Event) → (accept_of o).answer ≡ Accepted → (e : Event) → In e (taken_records o es) → Sold (is_sell o) e (run (accept_of o).auction es) → Ends o es e
+ends_by : (o : Order) (es : List Event) → Accepts o → (e : Event) → In e (taken_records o es) → Sold (is_sell o) e (run (auction_of o) es) → Ends o es e
 ends_by o es h e i s =
-    let same : run (accept_of o).auction es ≡ at_end o es = sym (demanded.by-event o es (ap is_open s.ending)) in
+    let same : run (auction_of o) es ≡ at_end o es = sym (demanded.by-event o es (ap is_open s.ending)) in
     record {
       taken = i;
       side = market-side (is_sell o) e s.kind s.side;
@@ -121,17 +120,17 @@ pub record MarketRecord (o : Order) (es : List Event) : Type 0 where
   pub record_of : Event
   pub ends : Ends o es record_of
 
-pub ended_by : (o : Order) (es : List Event) → (accept_of o).answer ≡ Accepted → 0 < (market_order o es).size → MarketRecord o es
+pub ended_by : (o : Order) (es : List Event) → Accepts o → 0 < (market_order o es).size → MarketRecord o es
 ended_by o es h n =
-    let a : Auction = run (accept_of o).auction es in
+    let a : Auction = run (auction_of o) es in
     let size : (market_order o es).size ≡ a.head.market.size = ap (λ (m : Market). m.size) (closed-market a) in
-    let f : MarketFrom (accept_of o).auction es a = resend.market-from o es h (omega (arith, size, n)) in
+    let f : MarketFrom (auction_of o) es a = resend.market-from o es h (omega (arith, size, n)) in
     let side : (buy_event (is_sell o) f.event).side ≡ 2 = ap (λ (s : Bool). (buy_event s f.event).side) (sym (terms-sell o h)) ∙ f.side in
     record { record_of = f.event; ends = ends_by o es h f.event f.taken (record { kind = f.kind; side = side; sequence = f.sequence; size = f.size; ending = f.ending; latest = f.latest }) }
 
 -- every market order of the other side that was taken ended it
-pub market-ends : (o : Order) (es : List Event) → (accept_of o).answer ≡ Accepted → (e : Event) → In e (taken_records o es) → e.kind ≡ 4 → e.side ≡ other_side o → Ends o es e
+pub market-ends : (o : Order) (es : List Event) → Accepts o → (e : Event) → In e (taken_records o es) → e.kind ≡ 4 → e.side ≡ other_side o → Ends o es e
 market-ends o es h e i k d =
-    let a : Auction = (accept_of o).auction in
+    let a : Auction = (auction_of o) in
     let side : (buy_event a.head.terms.sell e).side ≡ 2 = ap (λ (s : Bool). (buy_event s e).side) (terms-sell o h) ∙ side-market (is_sell o) e k d in
     ends_by o es h e i (subst (λ (s : Bool). Sold s e (run a es)) (terms-sell o h) (market-taken es a e i (k, side)))

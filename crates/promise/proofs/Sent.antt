@@ -18,12 +18,9 @@ use Rattle.mirror.specs.rules.Mirror.{mirrored_side, mirrored_order, mirrored_pr
 use Rattle.mirror.proofs.EventLaws.{buy-sequence, buy-participant, mirror-one, mirror-three, mirror-four, mirror-six, amend-size}
 use Rattle.mirror.proofs.MirrorForm.{side-twice, event-bounds}
 use Rattle.trade.specs.rules.Write.{reported_price}
-use Rattle.auction.specs.declared.Auction.{Auction}
 use Rattle.auction.specs.declared.Terms.{Terms}
-use Rattle.auction.specs.declared.Entry.TheVariants.{Accepted}
-use Rattle.auction.specs.rules.Accept.{terms_of, opened_by, accept_of}
+use Rattle.auction.specs.rules.Accept.{terms_of, opened_by, auction_of, Accepts}
 use Rattle.decision.specs.rules.Decide.{is_customer, response_of, amended_by}
-use Rattle.auction.proofs.Accepted.{opened}
 use Rattle.promise.specs.rules.Sides.{is_sell, sent, sent_by, sent_instead}
 use lib.Dec.{eqb}
 use borrow.Author.Tests.{eq-eqb, ne_eqb}
@@ -33,13 +30,13 @@ unfolding buy_order mirrored_order
 buy-size o = by (λ (b : Order). b.size ≡ o.size) (eqb o.side 2) _ _ (λ _. refl) (λ _. refl)
 
 -- the side and the size of an accepted order are those of its auction
-pub terms-sell : (o : Order) → (accept_of o).answer ≡ Accepted → (accept_of o).auction.head.terms.sell ≡ is_sell o
+pub terms-sell : (o : Order) → Accepts o → (auction_of o).head.terms.sell ≡ is_sell o
 unfolding opened_by terms_of
-terms-sell o h = ap (λ (a : Auction). a.head.terms.sell) (opened o h).auction
+terms-sell o h = refl
 
-pub terms-size : (o : Order) → (accept_of o).answer ≡ Accepted → (accept_of o).auction.head.terms.size ≡ o.size
+pub terms-size : (o : Order) → Accepts o → (auction_of o).head.terms.size ≡ o.size
 unfolding opened_by terms_of
-terms-size o h = ap (λ (a : Auction). a.head.terms.size) (opened o h).auction ∙ buy-size o
+terms-size o h = buy-size o
 
 -- side 2 for the engine is the other side
 side-back : (s : ℕ) → mirrored_side s ≡ 2 → s ≡ 1

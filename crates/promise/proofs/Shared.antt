@@ -31,8 +31,7 @@ use Rattle.trade.proofs.WriteLaws.{sizes-sequence}
 use Rattle.demand.proofs.Lists.{tally-none}
 use Rattle.demand.specs.promises.Demands as demands
 use Rattle.demand.specs.promises.Demands.{Tradable, tally, got, gots, got_below, sold_below, sold_above}
-use Rattle.auction.specs.rules.Accept.{accept_of}
-use Rattle.auction.specs.declared.Entry.TheVariants.{Accepted}
+use Rattle.auction.specs.rules.Accept.{Accepts}
 use Rattle.fills.specs.rules.Fills.{deal_of}
 use Rattle.tape.proofs.FormLaws.{order-bounds}
 use Rattle.auction.proofs.Accepted.{opened}
@@ -61,7 +60,7 @@ gots-map fs (r ∷ rs) = ap (λ (ns : List ℕ). got r.sequence fs ∷ ns) (gots
 gots-sequence : (fs : List Fill) (rs : List Response) → sum (gots fs (in_sequence rs)) ≡ sum (gots fs rs)
 gots-sequence fs rs = ap sum (gots-map fs (in_sequence rs)) ∙ ordering.sums-stay (λ r. got r.sequence fs) rs ∙ ap sum (sym (gots-map fs rs))
 
-module _ (o : Order) (es : List Event) (h : (accept_of o).answer ≡ Accepted) where
+module _ (o : Order) (es : List Event) (h : Accepts o) where
   abbrev sell : Bool
   sell = is_sell o
 

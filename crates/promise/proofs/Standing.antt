@@ -32,8 +32,7 @@ use Rattle.fills.specs.rules.Fills.{deal_of}
 use Rattle.demand.specs.promises.Demands.{Absent, Distinct}
 use Rattle.auction.specs.declared.Auction.{Auction}
 use Rattle.auction.specs.declared.Terms.{Terms}
-use Rattle.auction.specs.declared.Entry.TheVariants.{Accepted}
-use Rattle.auction.specs.rules.Accept.{opened_by, accept_of}
+use Rattle.auction.specs.rules.Accept.{opened_by, auction_of, Accepts}
 use Rattle.decision.specs.declared.Sight.{Sight}
 use Rattle.decision.specs.rules.Decide.{is_amend, amended_by}
 use Rattle.events.specs.rules.Step.{sight_of, board_after, carried, step_of}
@@ -41,7 +40,6 @@ use Rattle.run.specs.rules.Run.{run, is_taken, taken_of}
 use Rattle.run.specs.promises.Demands.{InTime, Stands, Sound, Rising}
 use Rattle.run.proofs.StepLaws.{Leaves, Outcomes, cases}
 use Rattle.run.proofs.BoardSteps.{sees}
-use Rattle.auction.proofs.Accepted.{opened}
 use Rattle.run.proofs.SoundLaws.{sound-opened, sound-step}
 use Rattle.run.proofs.MarketFrom.{side-in, sided, buy-form, other-side, terms-stay, run-terms, untaken}
 use Rattle.run.proofs.Amends.{found-is, others_apart}
@@ -314,24 +312,24 @@ unfolding opened_by
 none-live s b = empty-live
 
 -- an order's auction has its terms, at its opening and after any records
-pub ours : (o : Order) → (accept_of o).answer ≡ Accepted → Ours o (accept_of o).auction.head.terms
+pub ours : (o : Order) → Accepts o → Ours o (auction_of o).head.terms
 ours o h = record { sell = terms-sell o h; size = terms-size o h; initiating = initiating-is o h }
 
-pub ours-after : (o : Order) (es : List Event) → (accept_of o).answer ≡ Accepted → Ours o (auction_after o es).head.terms
-ours-after o es h = subst (Ours o) (sym (run-terms es (accept_of o).auction)) (ours o h)
+pub ours-after : (o : Order) (es : List Event) → Accepts o → Ours o (auction_after o es).head.terms
+ours-after o es h = subst (Ours o) (sym (run-terms es (auction_of o))) (ours o h)
 
-stood : (o : Order) (es : List Event) → (accept_of o).answer ≡ Accepted → in_sequence (on_board (is_sell o) (auction_after o es).board) ≡ standing_of o (taken_records o es)
+stood : (o : Order) (es : List Event) → Accepts o → in_sequence (on_board (is_sell o) (auction_after o es).board) ≡ standing_of o (taken_records o es)
 unfolding in_sequence
 stood o es h =
-    let a : Auction = (accept_of o).auction in
-    let nobody : live_of a.board ≡ [] = ap (λ (x : Auction). live_of x.board) (opened o h).auction ∙ none-live (is_sell o) (buy_order o) in
+    let a : Auction = (auction_of o) in
+    let nobody : live_of a.board ≡ [] = none-live (is_sell o) (buy_order o) in
     stands-run o es a [] (sound-opened o h) (ours o h) (ap (λ (rs : List Response). in_sequence (map (sent (is_sell o)) rs)) nobody)
 
-pub by-records : (o : Order) (es : List Event) → (accept_of o).answer ≡ Accepted → in_sequence (responses (auction_after o es)) ≡ standing_of o (taken_records o es)
+pub by-records : (o : Order) (es : List Event) → Accepts o → in_sequence (responses (auction_after o es)) ≡ standing_of o (taken_records o es)
 by-records o es h =
-    ap (λ (s : Bool). in_sequence (on_board s (auction_after o es).board)) (ap (λ (t : Terms). t.sell) (run-terms es (accept_of o).auction) ∙ terms-sell o h) ∙ stood o es h
+    ap (λ (s : Bool). in_sequence (on_board s (auction_after o es).board)) (ap (λ (t : Terms). t.sell) (run-terms es (auction_of o)) ∙ terms-sell o h) ∙ stood o es h
 
-pub stand : (o : Order) (es : List Event) → (accept_of o).answer ≡ Accepted → in_sequence (live_at_end o es) ≡ standing_of o (taken_records o es)
+pub stand : (o : Order) (es : List Event) → Accepts o → in_sequence (live_at_end o es) ≡ standing_of o (taken_records o es)
 stand o es h = ap in_sequence (there-is o es h ∙ ap (on_board (is_sell o)) (board-is o es h)) ∙ stood o es h
 
 -- the fills are those of what stands: for the buy, the prices are mirrored back
@@ -341,7 +339,7 @@ sent-twice sell (r ∷ rs) h =
     ap (λ (p : ℕ). record { sequence = r.sequence; size = r.size; price = p; participant = r.participant; customer = r.customer; gtx = r.gtx } ∷ map (sent sell) (map (sent sell) rs)) (shown-twice sell r.price h.0)
     ∙ ap (λ (xs : List Response). r ∷ xs) (sent-twice sell rs h.1)
 
-pub by-fold : (o : Order) (es : List Event) → (accept_of o).answer ≡ Accepted → written_fills o es ≡ reported (is_sell o) (fills (deal_of (at_end o es).head) (map (sent (is_sell o)) (standing_of o (taken_records o es))))
+pub by-fold : (o : Order) (es : List Event) → Accepts o → written_fills o es ≡ reported (is_sell o) (fills (deal_of (at_end o es).head) (map (sent (is_sell o)) (standing_of o (taken_records o es))))
 by-fold o es h =
     let a : Auction = at_end o es in
     let s : Sound a = sound o es h in
@@ -446,9 +444,9 @@ module _ (o : Order) (es : List Event) where
   after-all [] n rs k u h = every_map (UpTo n) Comes rs (λ r c. c.0) h
   after-all (e ∷ ts) n rs k u h = after-all ts e.sequence (stands_after o rs e) k.1 u.1 (after_one e n rs k.0 u.0 h)
 
-  pub come-from : (accept_of o).answer ≡ Accepted → Every Comes (responses (auction_after o es))
+  pub come-from : Accepts o → Every Comes (responses (auction_after o es))
   come-from h =
-      let a : Auction = (accept_of o).auction in
+      let a : Auction = (auction_of o) in
       let known : Every Known (taken_records o es) = every-with Known (taken_records o es) (λ e i. (i, every_in (λ e. e.kind ≡ 1 → e.side ≡ other_side o) (taken_records o es) e (taken-side o es a (terms-sell o h)) i)) in
       let all : Every Comes (in_sequence (responses (auction_after o es))) = subst (Every Comes) (sym (by-records o es h)) (after-all (taken_records o es) a.head.sequence [] known (rising es a) tt) in
       every-with Comes (responses (auction_after o es)) (λ r i. every_in Comes (in_sequence (responses (auction_after o es))) r all (in-shuffles r (sequence-shuffles (responses (auction_after o es))) i))

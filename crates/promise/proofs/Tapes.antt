@@ -27,7 +27,6 @@ use Rattle.roundtrip.proofs.TapeBack.{order-64, order-stands, record-got, partic
 use Rattle.mirror.specs.rules.Mirror.{mirrored_order, mirrored_event}
 use Rattle.mirror.proofs.EventLaws.{mirror-sequence, mirror-participant}
 use Rattle.mirror.proofs.MirrorForm.{order-form, event-form}
-use Rattle.auction.specs.rules.Accept.{accept_of}
 use Rattle.auction.specs.declared.Auction.{Auction}
 use Rattle.events.specs.rules.Step.{step_of}
 use Rattle.run.specs.promises.Demands.{mirrored_records}
@@ -147,16 +146,16 @@ module _ (s : List ℕ) (o : Order) (es : List Event) (b : AllBytes s) (c : Carr
   there : map (record_at c.trailer.wide) (records_bytes s c.trailer) ≡ es
   there = sym made.records ∙ c.records
 
-  lacks : Stand c.trailer.wide (records_bytes s c.trailer) (not_refused (accept_of o).auction (map (record_at c.trailer.wide) (records_bytes s c.trailer)))
-  lacks = lacking c.trailer.wide (records_bytes s c.trailer) made.fitting.each_long (accept_of o).auction
+  lacks : (a : Auction) → Stand c.trailer.wide (records_bytes s c.trailer) (not_refused a (map (record_at c.trailer.wide) (records_bytes s c.trailer)))
+  lacks a = lacking c.trailer.wide (records_bytes s c.trailer) made.fitting.each_long a
 
   mirrors : Stand c.trailer.wide (records_bytes s c.trailer) (mirrored_records (map (record_at c.trailer.wide) (records_bytes s c.trailer)))
   mirrors = mirroring c.trailer.wide (records_bytes s c.trailer) made.fitting.each_long (records-bytes s c.trailer b)
 
-  pub can-lack : SomeTape c.trailer.wide o (not_refused (accept_of o).auction es)
-  can-lack =
-      remake s c.trailer (tape-at c) (order_bytes s c.trailer) made.fitting.order-long lacks o (not_refused (accept_of o).auction es)
-      b (order-bytes s c.trailer b) (sym made.ordered ∙ order-at c) (ap (not_refused (accept_of o).auction) there)
+  pub can-lack : (a : Auction) → SomeTape c.trailer.wide o (not_refused a es)
+  can-lack a =
+      remake s c.trailer (tape-at c) (order_bytes s c.trailer) made.fitting.order-long (lacks a) o (not_refused a es)
+      b (order-bytes s c.trailer b) (sym made.ordered ∙ order-at c) (ap (not_refused a) there)
 
   formed : order_formed o ≡ true
   formed = order-formed (order_bytes s c.trailer) o (sym made.ordered ∙ order-at c)

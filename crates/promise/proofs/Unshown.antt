@@ -1,10 +1,13 @@
 -- The participants of the records are in no answer, no fill and no line: with all of them erased every definition gives the same. Assumes nothing.
-use mathlib.Core.Path.{◌≡◌, refl, sym, ap, ap₂, ◌∙◌}
+use mathlib.Core.Path.{◌≡◌, refl, sym, ap, ap₂, subst, ◌∙◌}
 use mathlib.Core.Bool.{Bool, true, false, cond, ◌&&◌, ◌||◌}
 use mathlib.Core.List.{List, [], ◌∷◌, ◌++◌, map}
 use Prim.Native.Nat.{ℕ, zero, suc, ◌+◌, ◌-◌, ◌/◌, ◌%◌, min}
 use lib.Dec.{leb, ltb, eqb}
 use lib.ListN.{length, set, length-map, get_or-map}
+use Rattle.auction.proofs.Accepted.{opened}
+use Rattle.base.specs.declared.refusal.Refusal.{Refusal}
+use Rattle.std.specs.Prelude.{Err, Ok, Result}
 use Rattle.base.specs.Lists.{keep, filter, sum}
 use Rattle.base.proofs.Bools.{by}
 use Rattle.words.specs.rules.Bits.{with_bit}
@@ -22,17 +25,14 @@ use Rattle.trade.specs.declared.Deal.{Deal}
 use Rattle.trade.specs.rules.Trade.{Level, offers, from_customer, from_other, customers, others, given, contra, level_fills, traded, flat, working, working_stop, top, next, guarantee_of, offers_at, level_at, walk, market_price, levels, fills}
 use Rattle.trade.specs.rules.Plan.{plan_of}
 use Rattle.trade.specs.rules.Write.{reported, fills_of}
-use Rattle.auction.specs.rules.Accept.{order_refusal, opened_by, no_auction, accept_of}
+use Rattle.auction.specs.rules.Accept.{opened_by, auction_of, accept_of}
 use Rattle.auction.specs.rules.Range.{is_open, bound_by}
 use Rattle.auction.specs.declared.Auction.{Auction}
 use Rattle.auction.specs.declared.Head.{Head}
 use Rattle.auction.specs.declared.Terms.{Terms}
 use Rattle.auction.specs.declared.Quotes.{Quotes}
-use Rattle.auction.specs.declared.Opening.{Opening}
 use Rattle.auction.specs.declared.Ending.{Ending}
 use Rattle.auction.specs.declared.Ending.TheVariants.{Open}
-use Rattle.auction.specs.declared.Entry.{Entry}
-use Rattle.auction.specs.declared.Entry.TheVariants.{Accepted, Refused as NotAccepted}
 use Rattle.decision.specs.declared.Sight.{Sight}
 use Rattle.decision.specs.declared.Change.{Change}
 use Rattle.decision.specs.declared.Change.TheVariants.{Nothing, Seat, Free, Quote, Sell}
@@ -252,18 +252,18 @@ unfolding close_turn
 closed-bare a = by (λ (t : Turn). (seated_on (bare_board a.board) t).auction ≡ bare_auction (seated_on a.board t).auction) (is_open a.head.ending) _ _ (λ _. refl) (λ _. refl)
 
 -- an auction opens with no response, and so with no participant
-opens-bare : (o : Order) → (accept_of o).auction ≡ bare_auction (accept_of o).auction
-unfolding accept_of opened_by no_auction empty_board
-opens-bare o = by (λ (x : Opening). x.auction ≡ bare_auction x.auction) (eqb (order_refusal o) 0) _ _ (λ _. refl) (λ _. refl)
+opens-bare : (o : Order) → auction_of o ≡ bare_auction (auction_of o)
+unfolding opened_by empty_board
+opens-bare o = refl
 
-answers-same : (o : Order) (es : List Event) → heard (accept_of o).auction (map unnamed es) ≡ heard (accept_of o).auction es
-answers-same o es = ap (λ (a : Auction). heard a (map unnamed es)) (opens-bare o) ∙ heard-bare es (accept_of o).auction
+answers-same : (o : Order) (es : List Event) → heard (auction_of o) (map unnamed es) ≡ heard (auction_of o) es
+answers-same o es = ap (λ (a : Auction). heard a (map unnamed es)) (opens-bare o) ∙ heard-bare es (auction_of o)
 
 played-bare : (o : Order) (es : List Event) → played o (map unnamed es) ≡ bare_auction (played o es)
 played-bare o es =
     ap (λ (a : Auction). closed (run a (map unnamed es))) (opens-bare o)
-    ∙ ap closed (run-bare es (accept_of o).auction)
-    ∙ closed-bare (run (accept_of o).auction es)
+    ∙ ap closed (run-bare es (auction_of o))
+    ∙ closed-bare (run (auction_of o) es)
 
 -- ---- who trades
 
@@ -407,18 +407,19 @@ unfolding end_lines
 ending-bare a = ap (λ (fs : List Fill). end_line a.head ++ (fill_lines fs ++ total_line (traded fs))) (auction-fills-bare a)
 
 -- of an order's records the lines are those of the records without participants
-lines-bare : (o : Order) (es : List Event) (x : Entry) → lines_of (run_entry (map unnamed es) (accept_of o).auction x) ≡ lines_of (run_entry es (accept_of o).auction x)
-lines-bare o es Accepted =
-    ap₂ (λ (rs : List Said) (end : List ℕ). auction_line (accept_of o).auction.head ++ (event_lines rs ++ end)) (answers-same o es) (ap end_lines (played-bare o es) ∙ ending-bare (played o es))
-lines-bare o es (NotAccepted n) = refl
+lines-bare : (o : Order) (es : List Event) (x : Result Auction Refusal) → accept_of o ≡ x → lines_of (run_entry (map unnamed es) x) ≡ lines_of (run_entry es x)
+lines-bare o es (Ok a) h =
+    subst (λ (b : Auction). lines_of (run_entry (map unnamed es) (Ok b)) ≡ lines_of (run_entry es (Ok b))) (sym (opened o h).auction)
+    (ap₂ (λ (rs : List Said) (end : List ℕ). auction_line (auction_of o).head ++ (event_lines rs ++ end)) (answers-same o es) (ap end_lines (played-bare o es) ∙ ending-bare (played o es)))
+lines-bare o es (Err r) h = refl
 
 listed_same : (s t : List ℕ) (o : Order) (es fs : List Event) → Carries s o es → Carries t o fs → map unnamed fs ≡ map unnamed es → listing_of t ≡ listing_of s
 unfolding listing_of
 listed_same s t o es fs c d z =
     ap lines_of (run-carries t o fs d)
-    ∙ sym (lines-bare o fs (accept_of o).answer)
-    ∙ ap (λ (gs : List Event). lines_of (run_entry gs (accept_of o).auction (accept_of o).answer)) z
-    ∙ lines-bare o es (accept_of o).answer
+    ∙ sym (lines-bare o fs (accept_of o) refl)
+    ∙ ap (λ (gs : List Event). lines_of (run_entry gs (accept_of o))) z
+    ∙ lines-bare o es (accept_of o) refl
     ∙ sym (ap lines_of (run-carries s o es c))
 
 pub unshown : Unshown

@@ -12,7 +12,7 @@ use Rattle.base.proofs.Bools.{no}
 use Rattle.tape.specs.declared.order.Order.{Order}
 use Rattle.tape.specs.declared.event.Event.{Event}
 use Rattle.mirror.specs.rules.Mirror.{mirrored_market, buy_order, buy_event}
-use Rattle.auction.specs.rules.Accept.{opened_by, accept_of}
+use Rattle.auction.specs.rules.Accept.{opened_by, auction_of, Accepts}
 use Rattle.auction.specs.rules.Range.{is_open}
 use Rattle.tape.specs.rules.Form.{within, sides, event_formed, shape_of, shape_tests}
 use Rattle.tape.specs.rules.Fields.{size_of}
@@ -25,11 +25,9 @@ use Rattle.auction.specs.declared.Terms.{Terms}
 use Rattle.auction.specs.declared.Market.{Market}
 use Rattle.auction.specs.declared.Ending.TheVariants.{Opposite}
 use Rattle.events.specs.declared.Stepped.{Stepped}
-use Rattle.auction.specs.declared.Entry.TheVariants.{Accepted}
 use Rattle.run.proofs.StepLaws.{Leaves, cases}
 use Rattle.mirror.proofs.EventLaws.{buy-sequence, buy-kind, mirror-four}
 use Rattle.mirror.proofs.MirrorForm.{event-form}
-use Rattle.auction.proofs.Accepted.{opened}
 use Rattle.run.proofs.Resend.{any-change, taken-any, keeps, older, again, rising, one}
 use Rattle.run.proofs.SoundLaws.{sound-opened, sound-run}
 
@@ -202,8 +200,8 @@ none-opened : (s : Bool) (b : Order) → (opened_by s b).head.market.size ≡ 0
 unfolding opened_by
 none-opened s b = refl
 
-pub market-from : (o : Order) (es : List Event) → (accept_of o).answer ≡ Accepted → 0 < (run (accept_of o).auction es).head.market.size → MarketFrom (accept_of o).auction es (run (accept_of o).auction es)
-market-from o es h = market-run es (accept_of o).auction (ap (λ (a : Auction). a.head.market.size) (opened o h).auction ∙ none-opened (eqb o.side 2) (buy_order o))
+pub market-from : (o : Order) (es : List Event) → Accepts o → 0 < (run (auction_of o) es).head.market.size → MarketFrom (auction_of o) es (run (auction_of o) es)
+market-from o es h = market-run es (auction_of o) (none-opened (eqb o.side 2) (buy_order o))
 
 pub resend : Resend
-resend = record { older = older; again = again; apart = λ o es h. (sound-run es (accept_of o).auction (sound-opened o h)).distinct; rising = λ a es. rising es a; market-from = market-from; one = one }
+resend = record { older = older; again = again; apart = λ o es h. (sound-run es (auction_of o) (sound-opened o h)).distinct; rising = λ a es. rising es a; market-from = market-from; one = one }

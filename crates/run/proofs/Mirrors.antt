@@ -1,10 +1,13 @@
 -- A sell auction is the mirror of the buy auction on mirrored input, fills and all. Assumes nothing.
-use mathlib.Core.Path.{◌≡◌, refl, sym, ap, subst, ◌∙◌}
+use mathlib.Core.Path.{◌≡◌, refl, sym, ap, ap₂, subst, ◌∙◌}
 use mathlib.Core.Bool.{Bool, true, false, cond, not, ◌||◌}
 use mathlib.Core.List.{List, [], ◌∷◌, ◌++◌}
 use Prim.Native.Nat.{ℕ, zero, suc, ◌+◌, ◌-◌, ◌≤◌, min, max}
 use native.Mathlib.Omega.{arith}
 use lib.Dec.{leb, ltb, eqb}
+use Rattle.std.specs.Prelude.{Result, Ok, Err}
+use Rattle.std.specs.Result.{result_and, result_map_both}
+use Rattle.base.specs.declared.refusal.Refusal.{Refusal}
 use Rattle.base.specs.Lists.{Every}
 use Rattle.base.proofs.Bools.{by, no}
 use Rattle.base.proofs.Numbers.{mirror-twice}
@@ -23,7 +26,7 @@ use Rattle.demand.specs.promises.Demands.{InRange}
 use Rattle.demand.proofs.Theorems.{demand3}
 use Rattle.base.specs.Price.{mirrored}
 use Rattle.mirror.specs.rules.Mirror.{mirrored_order, mirrored_event, buy_order, buy_event}
-use Rattle.auction.specs.rules.Accept.{order_refusal, terms_of, opened_by, no_auction, accept_of}
+use Rattle.auction.specs.rules.Accept.{order_refusal, terms_of, opened_by, auction_of, accept_of, Accepts}
 use Rattle.auction.specs.rules.Range.{is_open, bound_now, range_of}
 use Rattle.events.specs.rules.Step.{found_for, sight_of, event_refusal, stays, ended_by_time, head_after, board_after, carried, turn_of, close_turn, seated_on, step_by, step_of, close_of}
 use Rattle.decision.specs.rules.Decide.{is_cancel, is_amend, gtx_outcome, cancel_outcome, amend_outcome, sell_limit_outcome, buy_limit_outcome, limit_outcome, market_outcome, quotes_outcome, outcome_of}
@@ -36,8 +39,6 @@ use Rattle.auction.specs.declared.Terms.{Terms}
 use Rattle.auction.specs.declared.Range.{Range}
 use Rattle.auction.specs.declared.Quotes.{Quotes}
 use Rattle.events.specs.declared.Answer.TheVariants.{Late, Refused as No}
-use Rattle.auction.specs.declared.Entry.TheVariants.{Accepted, Refused}
-use Rattle.auction.specs.declared.Opening.{Opening}
 use Rattle.events.specs.declared.Answer.{Answer}
 use Rattle.decision.specs.declared.Sight.{Sight}
 use Rattle.events.specs.declared.Turn.{Turn}
@@ -57,30 +58,28 @@ refusal-same : (o : Order) → order_formed o ≡ true → order_refusal (mirror
 unfolding order_refusal
 refusal-same o f = simp (f, order-form o f, buy-mirrored o f)
 
-answer-is : (o : Order) → (accept_of o).answer ≡ cond (eqb (order_refusal o) 0) Accepted (Refused (order_refusal o))
-unfolding accept_of
-answer-is o = go (eqb (order_refusal o) 0) (record { answer = Accepted; auction = opened_by (eqb o.side 2) (buy_order o) }) (record { answer = Refused (order_refusal o); auction = no_auction })
-  where
-    go : (t : Bool) (x y : Opening) → (cond t x y).answer ≡ cond t x.answer y.answer
-    go true x y = refl
-    go false x y = refl
-
-order-answers : (o : Order) → order_formed o ≡ true → (accept_of (mirrored_order o)).answer ≡ (accept_of o).answer
-order-answers o f = answer-is (mirrored_order o) ∙ ap (λ (n : ℕ). cond (eqb n 0) Accepted (Refused n)) (refusal-same o f) ∙ sym (answer-is o)
-
 flipped-opened : (s : Bool) (b : Order) → opened_by (cond s false true) b ≡ flipped (opened_by s b)
 unfolding opened_by terms_of
 flipped-opened s b = refl
 
-opens : (o : Order) → (accept_of o).answer ≡ Accepted → (accept_of (mirrored_order o)).auction ≡ flipped (accept_of o).auction
-opens o h =
-    let k = opened o h in
-    let m = opened (mirrored_order o) (order-answers o k.formed ∙ h) in
-    m.auction
-    ∙ ap (λ (s : Bool). opened_by s (buy_order (mirrored_order o))) (other-side o k.formed)
-    ∙ ap (opened_by (cond (eqb o.side 2) false true)) (buy-mirrored o k.formed)
+opens-formed : (o : Order) → order_formed o ≡ true → auction_of (mirrored_order o) ≡ flipped (auction_of o)
+opens-formed o f =
+    ap (λ (s : Bool). opened_by s (buy_order (mirrored_order o))) (other-side o f)
+    ∙ ap (opened_by (cond (eqb o.side 2) false true)) (buy-mirrored o f)
     ∙ flipped-opened (eqb o.side 2) (buy_order o)
-    ∙ ap flipped (sym k.auction)
+
+order-answers : (o : Order) → order_formed o ≡ true → accept_of (mirrored_order o) ≡ result_map_both flipped (λ r. r) (accept_of o)
+unfolding accept_of
+order-answers o f =
+    ap₂ (λ (x : Result (Unit {0}) Refusal) (a : Auction). result_and x (Ok a)) (refusal-same o f) (opens-formed o f)
+    ∙ go (order_refusal o)
+  where
+    go : (x : Result (Unit {0}) Refusal) → result_and x (Ok (flipped (auction_of o))) ≡ result_map_both flipped (λ r. r) (result_and x (Ok (auction_of o)))
+    go (Ok u) = refl
+    go (Err r) = refl
+
+opens : (o : Order) → Accepts o → auction_of (mirrored_order o) ≡ flipped (auction_of o)
+opens o h = opens-formed o (opened o h).formed
 
 -- ---- events
 
@@ -214,14 +213,14 @@ heard-same (e ∷ es) a =
     ∙ ap (λ (rs : List Said). said (mirrored_record e).sequence (step_of (flipped a) (mirrored_record e)).answer ∷ rs) (heard-same es (step_of a e).auction)
     ∙ ap (λ (r : Said). r ∷ heard (step_of a e).auction es) first
 
-plays : (o : Order) (es : List Event) → (accept_of o).answer ≡ Accepted → played (mirrored_order o) (mirrored_records es) ≡ flipped (played o es)
+plays : (o : Order) (es : List Event) → Accepts o → played (mirrored_order o) (mirrored_records es) ≡ flipped (played o es)
 plays o es h =
     ap (λ (b : Auction). closed (run b (mirrored_records es))) (opens o h)
-    ∙ ap closed (run-same es (accept_of o).auction)
-    ∙ (closes (run (accept_of o).auction es)).1
+    ∙ ap closed (run-same es (auction_of o))
+    ∙ (closes (run (auction_of o) es)).1
 
-hears : (o : Order) (es : List Event) → (accept_of o).answer ≡ Accepted → heard (accept_of (mirrored_order o)).auction (mirrored_records es) ≡ heard (accept_of o).auction es
-hears o es h = ap (λ (b : Auction). heard b (mirrored_records es)) (opens o h) ∙ heard-same es (accept_of o).auction
+hears : (o : Order) (es : List Event) → Accepts o → heard (auction_of (mirrored_order o)) (mirrored_records es) ≡ heard (auction_of o) es
+hears o es h = ap (λ (b : Auction). heard b (mirrored_records es)) (opens o h) ∙ heard-same es (auction_of o)
 
 -- ---- fills: who trades does not look at the side
 

@@ -12,7 +12,7 @@ use Rattle.tape.specs.rules.Fields.{size_of, price_of, new_size_of}
 use Rattle.mirror.specs.rules.Mirror.{buy_event}
 use Rattle.mirror.proofs.EventLaws.{buy-kind, mirror-one, mirror-three, priced-size, amend-size}
 use Rattle.auction.specs.declared.Auction.{Auction}
-use Rattle.auction.specs.rules.Accept.{accept_of}
+use Rattle.auction.specs.rules.Accept.{auction_of}
 use Rattle.auction.specs.rules.Range.{is_open, word}
 use Rattle.auction.specs.rules.Offer.{on_offer, moved_offer}
 use Rattle.decision.specs.declared.Sight.{Sight}
@@ -179,9 +179,9 @@ word-stays s a e h =
 pub on-offer : OnOffer
 on-offer =
     record {
-      sums = λ o es h. (sound-run es (accept_of o).auction (sound-opened o h)).offered;
-      sums-end = λ o es h. (sound-close (run (accept_of o).auction es) (sound-run es (accept_of o).auction (sound-opened o h))).offered;
-      fits = λ o es h. let s = sound-run es (accept_of o).auction (sound-opened o h) in omega (arith, s.offered, sum_fits (run (accept_of o).auction es) s);
+      sums = λ o es h. (sound-run es (auction_of o) (sound-opened o h)).offered;
+      sums-end = λ o es h. (sound-close (run (auction_of o) es) (sound-run es (auction_of o) (sound-opened o h))).offered;
+      fits = λ o es h. let s = sound-run es (auction_of o) (sound-opened o h) in omega (arith, s.offered, sum_fits (run (auction_of o) es) s);
       kept = λ h b c. refl;
       moves = λ s a e f w z. moves s a e f w z;
       moves-any = λ s a e h z. (moved s a e z).any h;

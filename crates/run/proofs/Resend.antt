@@ -6,16 +6,18 @@ use mathlib.Core.Logic.{inl, inr}
 use Prim.Native.Nat.{ℕ, ◌≤◌, ◌<◌}
 use native.Mathlib.Nat.{le_refl, le_trans, le_of_lt}
 use native.Mathlib.Omega.{arith}
-use lib.Dec.{eqb}
-use borrow.Author.Tests.{le-leb, lt-leb, le-ltb, lt-ltb, eqb-false}
+use borrow.Author.Tests.{le-leb, lt-leb, le-ltb, lt-ltb}
+use Rattle.std.specs.Prelude.{Result, Err, IfErr}
+use Rattle.base.specs.Refusal.{number_of}
+use Rattle.base.specs.declared.refusal.Refusal.{Refusal}
 use Rattle.base.specs.Lists.{In, Every, keep}
 use Rattle.tape.specs.declared.event.Event.{Event}
 use Rattle.tape.specs.declared.order.Order.{Order}
 use Rattle.tape.specs.rules.Form.{event_formed}
 use Rattle.base.proofs.Bools.{by, no}
 use Rattle.base.proofs.ListLaws.{every_in, every_map}
-use Rattle.auction.specs.rules.Accept.{order_refusal, accept_of}
-use Rattle.auction.proofs.Accepted.{order-most}
+use Rattle.auction.specs.rules.Accept.{accept_of}
+use Rattle.auction.proofs.Accepted.{OrderNumber, order-numbered, refusal_is}
 use Rattle.auction.specs.rules.Range.{is_open}
 use Rattle.events.specs.rules.Step.{sight_of, event_refusal, head_after, ended_by_time, turn_of, close_turn, gives, seated_on, step_by, step_of, close_of}
 use Rattle.run.specs.rules.Run.{run, is_taken, taken_of}
@@ -28,8 +30,6 @@ use Rattle.events.specs.declared.Answer.TheVariants.{Taken, Ended, Late, Refused
 use Rattle.events.specs.declared.Stepped.{Stepped}
 use Rattle.decision.specs.declared.Sight.{Sight}
 use Rattle.events.specs.declared.Turn.{Turn}
-use Rattle.auction.specs.declared.Opening.{Opening}
-use Rattle.auction.specs.declared.Entry.TheVariants.{Refused as NotAccepted}
 use Rattle.decision.specs.declared.Change.{Change}
 use Rattle.decision.specs.declared.Change.TheVariants.{Nothing, Seat, Free, Quote, Sell}
 use Rattle.decision.specs.declared.Outcome.{Outcome}
@@ -190,12 +190,8 @@ ended-stays a z = simp z
 
 -- ---- orders
 
-order-numbers : (o : Order) (n : ℕ) → (accept_of o).answer ≡ NotAccepted n → (1 ≤ n) × (n ≤ 13)
-unfolding accept_of
-order-numbers o n =
-    by (λ (p : Opening). p.answer ≡ NotAccepted n → (1 ≤ n) × (n ≤ 13)) (eqb (order_refusal o) 0) _ _
-    (λ _ z. no cc)
-    (λ h z. let q : order_refusal o ≡ n = cc in let s : order_refusal o ≡ 0 → ⊥ = eqb-false _ _ h in (omega (arith, s), omega (arith, order-most o)))
+order-numbers : (o : Order) (r : Refusal) → accept_of o ≡ Err r → (1 ≤ number_of r) × (number_of r ≤ 13)
+order-numbers o r z = subst (λ (x : Result (Unit {0}) Refusal). IfErr x OrderNumber) (refusal_is o r z) (order-numbered o)
 
 pub keeps : Keeps
 keeps = record { refused = refused-stays; not-closed = closed-stays; order-numbers = order-numbers; event-numbers = event-numbers; taken = λ s a e z. (taken-in-time s a e z, (taken_is s a e z).2); by_kind = by_kind; formless = formless; old = old-refused; before = before; rises = rises; when-late = when-late; late = late-ends; when-closed = closed-late; ended = ended-refuses; ended-close = ended-stays }

@@ -24,7 +24,7 @@ use Rattle.demand.specs.promises.Demands.{Absent, Distinct, InRange, Tradable as
 use Rattle.demand.proofs.Theorems.{demand3}
 use Rattle.base.specs.Price.{mirrored}
 use Rattle.mirror.specs.rules.Mirror.{mirrored_order, buy_order, buy_event}
-use Rattle.auction.specs.rules.Accept.{initiating_of, terms_of, quotes_of, opened_by, accept_of}
+use Rattle.auction.specs.rules.Accept.{initiating_of, terms_of, quotes_of, opened_by, auction_of, Accepts}
 use Rattle.auction.specs.rules.Range.{is_open, bound_by, bound_now, range_of}
 use Rattle.tape.specs.rules.Fields.{size_of, new_size_of}
 use Rattle.events.specs.rules.Step.{sight_of, board_after, quotes_after, market_after, offered_after, head_after, ended_by_time, carried, close_turn, seated_on, step_by, step_of, close_of}
@@ -40,7 +40,6 @@ use Rattle.decision.specs.declared.Change.TheVariants.{Nothing, Seat, Free, Quot
 use Rattle.events.specs.declared.Stepped.{Stepped}
 use Rattle.decision.specs.declared.Sight.{Sight}
 use Rattle.events.specs.declared.Turn.{Turn}
-use Rattle.auction.specs.declared.Entry.TheVariants.{Accepted}
 use Rattle.run.proofs.StepLaws.{Outcomes, cases}
 use Rattle.mirror.proofs.EventLaws.{buy-sequence, buy-kind, mirror-one, mirror-three, priced-size, amend-size}
 use Rattle.run.proofs.BoardSteps.{sees, seat-every, amend-every, clear-every, seat-distinct, amend-distinct, clear-distinct, seat-sizes, amend-sizes, clear-sizes, live-sizes}
@@ -73,8 +72,8 @@ mode-fits o f =
     let m : (1 ≤ o.mode) × (o.mode ≤ 3) = ((order-bounds o f).some-mode, (order-bounds o f).mode) in
     by (λ (b : Order). (1 ≤ b.mode) × (b.mode ≤ 3)) (eqb o.side 2) _ _ (λ _. m) (λ _. m)
 
-pub sound-opened : (o : Order) → (accept_of o).answer ≡ Accepted → Sound (accept_of o).auction
-sound-opened o h = let k = opened o h in subst Sound (sym k.auction) (opened-sound (eqb o.side 2) (buy_order o) k.passes (price-fits o k.formed) (mode-fits o k.formed))
+pub sound-opened : (o : Order) → Accepts o → Sound (auction_of o)
+sound-opened o h = let k = opened o h in opened-sound (eqb o.side 2) (buy_order o) k.passes (price-fits o k.formed) (mode-fits o k.formed)
 
 -- ---- a step
 
@@ -301,6 +300,6 @@ demanded =
       sees = sees;
       stepped = sound-by;
       closed = sound-close;
-      demand-3 = λ o es h. trades (played o es) (sound-close (run (accept_of o).auction es) (sound-run es (accept_of o).auction (sound-opened o h))) (closed-ended (run (accept_of o).auction es));
-      by-event = λ o es z. ap (λ (p : Stepped). p.auction) (keeps.ended-close (run (accept_of o).auction es) z);
+      demand-3 = λ o es h. trades (played o es) (sound-close (run (auction_of o) es) (sound-run es (auction_of o) (sound-opened o h))) (closed-ended (run (auction_of o) es));
+      by-event = λ o es z. ap (λ (p : Stepped). p.auction) (keeps.ended-close (run (auction_of o) es) z);
     }

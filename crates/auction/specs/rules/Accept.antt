@@ -1,5 +1,8 @@
 -- Which orders are accepted, and the auction that one opens (document 01, "Numbers for no", "Range and guarantee", and W-205 for collared orders): a sell is tested as the buy that it mirrors.
-use Rattle.std.specs.Prelude.{Bool, false, cond, not, ◌&&◌, ◌||◌, ℕ, ◌+◌, ◌-◌, min, max, leb, ltb, eqb}
+use Rattle.std.specs.Prelude.{◌≡◌, Bool, cond, not, ◌&&◌, ◌||◌, ℕ, ◌+◌, ◌-◌, min, max, leb, ltb, eqb, Result, Ok, Err}
+use Rattle.std.specs.Result.{result_and}
+use Rattle.base.specs.declared.refusal.Refusal.{Refusal}
+use Rattle.base.specs.declared.refusal.Refusal.TheVariants.{OrderOutOfForm, BetterThanNational, NoSize, BeforeOpen, NearClose, Halted, AnotherOpen, NationalCrossed, ExchangeCentWide, LimitBelowRange, StopAboveRange, NationalCentWide, NoRange}
 use Rattle.words.specs.rules.Bits.{bit_at}
 use Rattle.board.specs.rules.Board.{empty_board}
 use Rattle.tape.specs.declared.order.Order.{Order}
@@ -9,9 +12,7 @@ use Rattle.auction.specs.declared.Auction.{Auction}
 use Rattle.auction.specs.declared.Terms.{Terms}
 use Rattle.auction.specs.declared.Quotes.{Quotes}
 use Rattle.auction.specs.declared.Market.{Market}
-use Rattle.auction.specs.declared.Ending.TheVariants.{Open, Time}
-use Rattle.auction.specs.declared.Entry.TheVariants.{Accepted, Refused}
-use Rattle.auction.specs.declared.Opening.{Opening}
+use Rattle.auction.specs.declared.Ending.TheVariants.{Open}
 
 -- ---- the range
 
@@ -44,30 +45,30 @@ first_bound o = bound_of o.size o.nbb o.bb (bid_mark o.marks)
 unfoldable pub guaranteed_of : Order → ℕ
 guaranteed_of o = cond (eqb o.mode 2) (initiating_of o) (max o.stop (first_bound o))
 
--- ---- the refusals of a buy in form, in their order; 0: none
+-- ---- the refusals of a buy in form, in their order
 
-unfoldable pub range_refusal : Order → ℕ
+unfoldable pub range_refusal : Order → Result (Unit {0}) Refusal
 range_refusal o =
-    cond (ltb o.limit (first_bound o)) 10
-    (cond (ltb (initiating_of o) (first_bound o)) 13
-    (cond (ltb (initiating_of o) o.stop) 11
-    (cond (ltb o.size 50 && eqb o.nbo (o.nbb + 1) && not (eqb o.nbo (guaranteed_of o + 1))) 12
-    0)))
+    cond (ltb o.limit (first_bound o)) (Err LimitBelowRange)
+    (cond (ltb (initiating_of o) (first_bound o)) (Err NoRange)
+    (cond (ltb (initiating_of o) o.stop) (Err StopAboveRange)
+    (cond (ltb o.size 50 && eqb o.nbo (o.nbb + 1) && not (eqb o.nbo (guaranteed_of o + 1))) (Err NationalCentWide)
+    (Ok tt))))
 
-unfoldable pub buy_refusal : Order → ℕ
+unfoldable pub buy_refusal : Order → Result (Unit {0}) Refusal
 buy_refusal o =
-    cond (ltb o.nbb o.bb || ltb o.bo o.nbo) 2
-    (cond (eqb o.size 0) 3
-    (cond (ltb o.time o.opens) 4
-    (cond (leb o.closes (o.time + 1000)) 5
-    (cond (bit_at o.marks 0) 6
-    (cond (bit_at o.marks 1) 7
-    (cond (leb o.nbo o.nbb) 8
-    (cond (ltb o.size 50 && eqb o.bo (o.bb + 1)) 9
+    cond (ltb o.nbb o.bb || ltb o.bo o.nbo) (Err BetterThanNational)
+    (cond (eqb o.size 0) (Err NoSize)
+    (cond (ltb o.time o.opens) (Err BeforeOpen)
+    (cond (leb o.closes (o.time + 1000)) (Err NearClose)
+    (cond (bit_at o.marks 0) (Err Halted)
+    (cond (bit_at o.marks 1) (Err AnotherOpen)
+    (cond (leb o.nbo o.nbb) (Err NationalCrossed)
+    (cond (ltb o.size 50 && eqb o.bo (o.bb + 1)) (Err ExchangeCentWide)
     (range_refusal o))))))))
 
-unfoldable pub order_refusal : Order → ℕ
-order_refusal o = cond (not (order_formed o)) 1 (buy_refusal (buy_order o))
+unfoldable pub order_refusal : Order → Result (Unit {0}) Refusal
+order_refusal o = cond (not (order_formed o)) (Err OrderOutOfForm) (buy_refusal (buy_order o))
 
 -- ---- the auction
 
@@ -89,25 +90,14 @@ opened_by sell b =
       board = empty_board;
     }
 
--- what stands beside a refusal: an auction that has ended, of no size
-unfoldable pub no_auction : Auction
-no_auction =
-    record {
-      head =
-          record {
-            terms = record { sell = false; mode = 0; size = 0; initiating = 0; floor = 0; stop = 0; interval = 0 };
-            quotes = record { nbb = 0; nbo = 0; bb = 0; bo = 0; bidmark = false; offermark = false };
-            sequence = 0;
-            clock = 0;
-            ending = Time;
-            market = no_market;
-            offered = 0;
-          };
-      board = empty_board;
-    }
+-- the auction that an order opens where it is accepted
+abbrev pub auction_of : Order → Auction
+auction_of o = opened_by (eqb o.side 2) (buy_order o)
 
-unfoldable pub accept_of : Order → Opening
-accept_of o =
-    cond (eqb (order_refusal o) 0)
-    (record { answer = Accepted; auction = opened_by (eqb o.side 2) (buy_order o) })
-    (record { answer = Refused (order_refusal o); auction = no_auction })
+-- an order's refusal, or its auction
+unfoldable pub accept_of : Order → Result Auction Refusal
+accept_of o = result_and (order_refusal o) (Ok (auction_of o))
+
+-- the order is accepted
+abbrev pub Accepts : Order → Type 0
+Accepts o = accept_of o ≡ Ok (auction_of o)

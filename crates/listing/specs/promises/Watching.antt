@@ -4,7 +4,7 @@ use Rattle.board.specs.promises.Board.{Good}
 use Rattle.tape.specs.declared.event.Event.{Event}
 use Rattle.auction.specs.declared.Auction.{Auction}
 use Rattle.auction.specs.declared.Head.{Head}
-use Rattle.auction.specs.rules.Accept.{accept_of}
+use Rattle.auction.specs.rules.Accept.{auction_of}
 use Rattle.events.specs.rules.Step.{step_of}
 use Rattle.run.specs.rules.Run.{run}
 use Rattle.run.specs.promises.Figures.{event, gtx}
@@ -47,9 +47,9 @@ pub data Shows : Auction → List Event → List ℕ → Auction → Type 0 wher
       → Shows a (e ∷ es) (take (watched_of a e out).length (shown_bytes (watch_line a e) out) ++ t) c
 
 pub record Watching : Type 0 where
-  pub case-c : watch_lines (accept_of example_order).auction (example_response ∷ example_response ∷ []) ≡ watch_c
-  pub case-moved : watch_lines (accept_of example_order).auction moved ≡ watch_moved
-  pub case-e : watch_lines (accept_of order_e).auction (no_event 1 ∷ market_e ∷ no_event 3 ∷ []) ≡ watch_e
+  pub case-c : watch_lines (auction_of example_order) (example_response ∷ example_response ∷ []) ≡ watch_c
+  pub case-moved : watch_lines (auction_of example_order) moved ≡ watch_moved
+  pub case-e : watch_lines (auction_of order_e) (no_event 1 ∷ market_e ∷ no_event 3 ∷ []) ≡ watch_e
   -- each line fits the room, and those of the end together; none is empty, so that a length of 0 is that of too small a room
   pub lines_fit : (a : Auction) (e : Event) → (1 ≤ length (watch_line a e)) × (length (watch_line a e) ≤ lines_room)
   pub ends-fit : (a : Auction) → Good a.board → (1 ≤ length (end_lines a)) × (length (end_lines a) ≤ lines_room)

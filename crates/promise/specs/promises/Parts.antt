@@ -1,5 +1,6 @@
 -- The parts of the promise.
-use Rattle.std.specs.Prelude.{◌≡◌, Bool, true, false, cond, not, ◌&&◌, ◌||◌, List, [], ◌∷◌, ◌++◌, map, ◌⊎◌, ◌≢◌, ℕ, ◌+◌, ◌*◌, ◌≤◌, ◌<◌, min, max, ltb, eqb, length, take, drop}
+use Rattle.std.specs.Prelude.{◌≡◌, Bool, true, false, cond, not, ◌&&◌, ◌||◌, List, [], ◌∷◌, ◌++◌, map, ◌⊎◌, ◌≢◌, ℕ, ◌+◌, ◌*◌, ◌≤◌, ◌<◌, min, max, ltb, eqb, length, take, drop, Some, None}
+use Rattle.std.specs.Option.{option_to_list}
 use Prim.Native.String.{String}
 use Rattle.base.specs.Lists.{In, Every, filter, sum}
 use Rattle.words.specs.rules.Bytes.{AllBytes, word_at}
@@ -23,7 +24,7 @@ use Rattle.trade.specs.declared.Deal.{Deal}
 use Rattle.exact.specs.rules.WhoTrades.{WhoTrades}
 use Rattle.exact.specs.promises.Fair.{FairFills}
 use Rattle.promise.specs.rules.Events.{bound_at, opening, answers_from, taken_from, lastly, last_range, watch_from}
-use Rattle.auction.specs.rules.Accept.{accept_of}
+use Rattle.auction.specs.rules.Accept.{auction_of, accept_of, Accepts}
 use Rattle.auction.specs.rules.Range.{is_open}
 use Rattle.auction.specs.rules.Offer.{on_offer}
 use Rattle.auction.specs.declared.Auction.{Auction}
@@ -40,7 +41,7 @@ use Rattle.run.specs.promises.Demands.{Within, Trades, Names, InTime}
 use Rattle.listing.specs.rules.Text.{text, newline}
 use Rattle.listing.specs.rules.Watch.{watch_line, watch_lines}
 use Rattle.listing.specs.rules.Listing.{field, answer_text, event_text, end_text, refused_line, auction_line, event_lines, end_lines, listing_of, room_of, listed_of, length_in, bytes_of}
-use Rattle.promise.specs.rules.Answers.{Accepts, no, yes, paper_of, entry_is, answer_is, ending_is, firm_is, run_is, listed_is}
+use Rattle.promise.specs.rules.Answers.{no, yes, paper_of, answer_is, ending_is, run_is, listed_is}
 use Rattle.promise.specs.rules.Tapes.{Carries}
 use Rattle.promise.specs.rules.Sides.{is_sell, other_side, better, got_better, sent, responses, taken_records, at_end, range_at_end, written_fills, live_at_end, market_order, working_price, others_at_price, guarantee_at_end, plan_at_price, left_to_others_at_price, sent_by, sent_instead, initiating_price, takes_place, standing_of, has_named, given_size, given_price}
 
@@ -53,10 +54,10 @@ pub data Answered (s : List ℕ) : Type 0 where
   -- 1: the order's record is out of form
   no-order : (t : Trailer) → paper_of (open_tape s) ≡ yes t → paper_of (order_in s t) ≡ no 1 → listing_of s ≡ refused_line 1 → Answered s
   -- 2 to 13: the order is not accepted
-  not-accepted : (o : Order) (es : List Event) (n : ℕ) → Carries s o es → entry_is (accept_of o).answer ≡ no n → In n (2 ∷ 3 ∷ 4 ∷ 5 ∷ 6 ∷ 7 ∷ 8 ∷ 9 ∷ 10 ∷ 11 ∷ 12 ∷ 13 ∷ []) → listing_of s ≡ refused_line n → Answered s
+  not-accepted : (o : Order) (es : List Event) (n : ℕ) → Carries s o es → paper_of (accept_of o) ≡ no n → In n (2 ∷ 3 ∷ 4 ∷ 5 ∷ 6 ∷ 7 ∷ 8 ∷ 9 ∷ 10 ∷ 11 ∷ 12 ∷ 13 ∷ []) → listing_of s ≡ refused_line n → Answered s
   -- the auction: its opening, a line for each record, its end
   auction : (o : Order) (es : List Event) → Carries s o es → Accepts o
-      → listing_of s ≡ auction_line (accept_of o).auction.head ++ (event_lines (heard (accept_of o).auction es) ++ end_lines (played o es)) → Answered s
+      → listing_of s ≡ auction_line (auction_of o).head ++ (event_lines (heard (auction_of o) es) ++ end_lines (played o es)) → Answered s
 
 -- and the room lent for it
 pub record Roomed (s out : List ℕ) : Type 0 where
@@ -70,11 +71,11 @@ pub record Roomed (s out : List ℕ) : Type 0 where
 -- the fills of an auction, into words from a start place
 pub record Filling (a : Auction) (xs : List ℕ) (start : ℕ) : Type 0 where
   -- 40 before the ending, then 39 for fewer than 390 words from the start place: every word stays
-  pub early : is_open a.head.ending ≡ true → (filled_is (fills_answer a xs start) ≡ no 40) × (fills_after a xs start ≡ xs)
-  pub small : is_open a.head.ending ≡ false → length xs < start + 390 → (filled_is (fills_answer a xs start) ≡ no 39) × (fills_after a xs start ≡ xs)
+  pub early : is_open a.head.ending ≡ true → (paper_of (fills_answer a xs start) ≡ no 40) × (fills_after a xs start ≡ xs)
+  pub small : is_open a.head.ending ≡ false → length xs < start + 390 → (paper_of (fills_answer a xs start) ≡ no 39) × (fills_after a xs start ≡ xs)
   -- else their number, and their words from the start place on; all other words stay, and there is room for all
   pub counted : is_open a.head.ending ≡ false → start + 390 ≤ length xs
-      → (filled_is (fills_answer a xs start) ≡ yes (length (auction_fills a))) × (fills_after a xs start ≡ take start xs ++ (words (auction_fills a) ++ drop (start + 3 * length (auction_fills a)) xs))
+      → (paper_of (fills_answer a xs start) ≡ yes (length (auction_fills a))) × (fills_after a xs start ≡ take start xs ++ (words (auction_fills a) ++ drop (start + 3 * length (auction_fills a)) xs))
   pub room : Good a.board → 3 * length (auction_fills a) ≤ 390
 
 -- the records' readers and writers: 24 first, or last; and the record's own number
@@ -195,11 +196,11 @@ module _ (o : Order) (es : List Event) where
   pub record InRealTerms : Type 0 where
     -- the answers, the records taken, the ending, the range and the lines of a watch are those of the order's own fields
     -- and the records, one after the other
-    pub answers : heard (accept_of o).auction es ≡ answers_from o (opening o) es
+    pub answers : heard (auction_of o) es ≡ answers_from o (opening o) es
     pub taken : taken_records o es ≡ taken_from o (opening o) es
     pub ending : (at_end o es).head.ending ≡ (lastly o es).ending
     pub range : range_at_end o es ≡ last_range o es
-    pub watch : watch_lines (accept_of o).auction es ≡ watch_from o (opening o) es
+    pub watch : watch_lines (auction_of o) es ≡ watch_from o (opening o) es
     -- the responses that they leave standing are those of parts 4, 5 and 7
     pub standing : (lastly o es).standing ≡ standing_of o (taken_records o es)
     -- the fills that are written meet the clauses, and whatever list meets them is the one that is written
@@ -221,7 +222,7 @@ pub record OneRecord (o : Order) (es : List Event) (r : Response) : Type 0 where
 module _ (o : Order) where
   -- the order's auction after some records
   abbrev pub auction_after : List Event → Auction
-  auction_after es = run (accept_of o).auction es
+  auction_after es = run (auction_of o) es
 
   pub record CountedOnce : Type 0 where
     -- once a record was taken, or ended the auction, every record with its sequence or a lower one is refused, whatever else it says, and changes nothing: 31 once ended; else 32 where it is out of form, and 33
@@ -271,8 +272,8 @@ module _ (o : Order) where
 
 -- of an auction: the firm is answered for every live response, by its sequence, and for no other sequence
 pub record Told (a : Auction) : Type 0 where
-  pub answers : (r : Response) → In r (responses a) → firm_is (participant_of a r.sequence) ≡ r.participant ∷ []
-  pub nobody : (k : ℕ) → Absent k (responses a) → firm_is (participant_of a k) ≡ []
+  pub answers : (r : Response) → In r (responses a) → participant_of a r.sequence ≡ Some r.participant
+  pub nobody : (k : ℕ) → Absent k (responses a) → participant_of a k ≡ None
 
 module _ (o : Order) where
   pub record Firms : Type 0 where
@@ -282,8 +283,8 @@ module _ (o : Order) where
     pub told : (es : List Event) → Accepts o → Told (auction_after o es)
     pub told-end : (es : List Event) → Accepts o → Told (at_end o es)
     -- so, of every sequence, it is that of the response with it that the records taken leave standing; nobody's where there is none: cancelled, amended away, never placed, a market order
-    pub by-records : (es : List Event) (k : ℕ) → Accepts o → firm_is (participant_of (auction_after o es) k) ≡ map (λ r. r.participant) (filter (λ r. eqb r.sequence k) (standing_of o (taken_records o es)))
-    pub by-records-end : (es : List Event) (k : ℕ) → Accepts o → firm_is (participant_of (at_end o es) k) ≡ map (λ r. r.participant) (filter (λ r. eqb r.sequence k) (standing_of o (taken_records o es)))
+    pub by-records : (es : List Event) (k : ℕ) → Accepts o → option_to_list (participant_of (auction_after o es) k) ≡ map (λ r. r.participant) (filter (λ r. eqb r.sequence k) (standing_of o (taken_records o es)))
+    pub by-records-end : (es : List Event) (k : ℕ) → Accepts o → option_to_list (participant_of (at_end o es) k) ≡ map (λ r. r.participant) (filter (λ r. eqb r.sequence k) (standing_of o (taken_records o es)))
 
 -- an event with participant 0, all else as it is
 abbrev pub unnamed : Event → Event
@@ -292,7 +293,7 @@ unnamed e = record { sequence = e.sequence; time = e.time; kind = e.kind; marks 
 -- the participants of the records are free on every kind, and change no answer, no fill and no line
 pub record Unshown : Type 0 where
   pub form : (e : Event) → event_formed (unnamed e) ≡ event_formed e
-  pub answers : (o : Order) (es : List Event) → heard (accept_of o).auction (map unnamed es) ≡ heard (accept_of o).auction es
+  pub answers : (o : Order) (es : List Event) → heard (auction_of o) (map unnamed es) ≡ heard (auction_of o) es
   pub fills : (o : Order) (es : List Event) → auction_fills (at_end o (map unnamed es)) ≡ auction_fills (at_end o es)
   -- two tapes of one order, whose records differ in their participants alone, have the same listing
   pub listed : (s t : List ℕ) (o : Order) (es fs : List Event) → Carries s o es → Carries t o fs → map unnamed fs ≡ map unnamed es → listing_of t ≡ listing_of s

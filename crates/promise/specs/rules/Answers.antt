@@ -1,16 +1,11 @@
 -- What documents 01 and 02 have for each case of each answer: a number for "no", or what is answered.
-use Rattle.std.specs.Prelude.{◌≡◌, Bool, true, false, List, [], ◌∷◌, ℕ, Result, Ok, Err}
+use Rattle.std.specs.Prelude.{Bool, true, false, ℕ, Result, Ok, Err}
 use Prim.Native.String.{String}
 use Rattle.base.specs.Refusal.{number_of}
 use Rattle.base.specs.declared.refusal.Refusal.{Refusal}
 use Rattle.tape.specs.declared.order.Order.{Order}
-use Rattle.auction.specs.rules.Accept.{accept_of}
-use Rattle.auction.specs.declared.Entry.{Entry}
-use Rattle.auction.specs.declared.Entry.TheVariants.{Accepted, Refused as NotAccepted}
 use Rattle.auction.specs.declared.Ending.{Ending}
 use Rattle.auction.specs.declared.Ending.TheVariants.{Open, Time, Same, Opposite, Improve}
-use Rattle.auction.specs.declared.firm.Firm.{Firm}
-use Rattle.auction.specs.declared.firm.Firm.TheVariants.{Participant, Nobody}
 use Rattle.events.specs.declared.Answer.{Answer}
 use Rattle.events.specs.declared.Answer.TheVariants.{Taken, Ended, Late, Refused as NotTaken}
 use Rattle.run.specs.rules.Run.{Run, refused, ended}
@@ -31,15 +26,6 @@ abbrev pub paper_of : {A : Type 0} → Result A Refusal → Paper A
 paper_of (Ok a) = yes a
 paper_of (Err r) = no (number_of r)
 
--- an order: 1 to 13
-abbrev pub entry_is : Entry → Paper (Unit {0})
-entry_is Accepted = yes tt
-entry_is (NotAccepted n) = no n
-
--- the order is accepted
-abbrev pub Accepts : Order → Type 0
-Accepts o = entry_is (accept_of o).answer ≡ yes tt
-
 -- an event: 31 to 38, or the word that its line has
 abbrev pub answer_is : Answer → Paper String
 answer_is Taken = yes "taken"
@@ -54,11 +40,6 @@ ending_is Time = "time"
 ending_is Same = "same"
 ending_is Opposite = "opposite"
 ending_is Improve = "improve"
-
--- the firm behind a response: its participant, or none where no live response has the sequence; neither document has a number for that
-abbrev pub firm_is : Firm → List ℕ
-firm_is (Participant n) = n ∷ []
-firm_is Nobody = []
 
 -- what came of a tape: its number, or why its auction ended
 abbrev pub run_is : Run → Paper Ending

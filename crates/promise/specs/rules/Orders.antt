@@ -5,6 +5,9 @@ use Rattle.words.specs.rules.Bits.{bit_at}
 use Rattle.tape.specs.declared.order.Order.{Order}
 use Rattle.tape.specs.rules.Form.{order_formed}
 use Rattle.exact.specs.rules.EitherSide.{better, worse_of}
+use Rattle.auction.specs.declared.Auction.{Auction}
+use Rattle.auction.specs.rules.Accept.{auction_of}
+use Rattle.promise.specs.rules.Answers.{Paper, no, yes}
 use Rattle.promise.specs.rules.Sides.{is_sell, initiating_price}
 use Rattle.promise.specs.rules.Events.{first_quoted, bound_at}
 
@@ -21,25 +24,25 @@ module _ (o : Order) where
   abbrev pub one_cent_better : ℕ
   one_cent_better = cond (is_sell o) (o.nbb + 1) (o.nbo - 1)
 
-  -- the order's number; 0: none, it is accepted
-  abbrev pub order_number : ℕ
+  -- the order's number, or the auction that it opens
+  abbrev pub order_number : Paper Auction
   order_number =
       -- a field outside its stated form
-      cond (not (order_formed o)) 1
+      cond (not (order_formed o)) (no 1)
       -- BB > NBB or BO < NBO
-      (cond (ltb o.nbb o.bb || ltb o.bo o.nbo) 2
-      (cond (eqb o.size 0) 3
-      (cond (ltb o.time o.opens) 4
-      (cond (leb o.closes (o.time + 1000)) 5
+      (cond (ltb o.nbb o.bb || ltb o.bo o.nbo) (no 2)
+      (cond (eqb o.size 0) (no 3)
+      (cond (ltb o.time o.opens) (no 4)
+      (cond (leb o.closes (o.time + 1000)) (no 5)
       -- halted, another auction open
-      (cond (bit_at o.marks 0) 6
-      (cond (bit_at o.marks 1) 7
-      (cond (leb o.nbo o.nbb) 8
-      (cond (ltb o.size 50 && eqb (o.bo - o.bb) 1) 9
+      (cond (bit_at o.marks 0) (no 6)
+      (cond (bit_at o.marks 1) (no 7)
+      (cond (leb o.nbo o.nbb) (no 8)
+      (cond (ltb o.size 50 && eqb (o.bo - o.bb) 1) (no 9)
       -- the limit, then the initiating price, on the wrong side of the bound
-      (cond (better (is_sell o) o.limit opening_bound) 10
-      (cond (better (is_sell o) (initiating_price o) opening_bound) 13
+      (cond (better (is_sell o) o.limit opening_bound) (no 10)
+      (cond (better (is_sell o) (initiating_price o) opening_bound) (no 13)
       -- the stop or auto-match limit beyond the initiating price; mode 2 has neither
-      (cond (not (eqb o.mode 2) && better (is_sell o) (initiating_price o) o.stop) 11
-      (cond (ltb o.size 50 && eqb (o.nbo - o.nbb) 1 && not (eqb guaranteed_price one_cent_better)) 12
-      0))))))))))))
+      (cond (not (eqb o.mode 2) && better (is_sell o) (initiating_price o) o.stop) (no 11)
+      (cond (ltb o.size 50 && eqb (o.nbo - o.nbb) 1 && not (eqb guaranteed_price one_cent_better)) (no 12)
+      (yes (auction_of o))))))))))))))

@@ -12,7 +12,7 @@ use Rattle.trade.specs.rules.Plan.{Plan, plan_of}
 use Rattle.trade.specs.rules.Trade.{from_customer, from_other, guarantee_of, working_stop}
 use Rattle.trade.specs.rules.Write.{reported_price}
 use Rattle.demand.specs.promises.Demands.{tally}
-use Rattle.auction.specs.rules.Accept.{accept_of, initiating_of, tick_of, first_bound, offer_mark}
+use Rattle.auction.specs.rules.Accept.{initiating_of, tick_of, first_bound, offer_mark, auction_of}
 use Rattle.auction.specs.rules.Range.{range_of}
 use Rattle.auction.specs.declared.Auction.{Auction}
 use Rattle.auction.specs.declared.Range.{Range}
@@ -133,7 +133,7 @@ got_better sell k p fs = tally (λ f. eqb f.party k && better sell f.price p) fs
 module _ (o : Order) (es : List Event) where
   -- the records taken, and the one that ended it (lines `taken` and `ended`); no late one
   abbrev pub taken_records : List Event
-  taken_records = taken_of (accept_of o).auction es
+  taken_records = taken_of (auction_of o) es
 
   -- the auction at its end, the range that the END line shows, and the fills of the FILL lines
   abbrev pub at_end : Auction

@@ -1,5 +1,8 @@
 -- What is promised of an auction, in the user's words.
-use Rattle.std.specs.Prelude.{◌≡◌, Bool, true, false, cond, not, ◌&&◌, ◌||◌, List, [], ◌∷◌, ◌⊎◌, ℕ, ◌+◌, ◌-◌, ◌≤◌, ◌<◌, min, leb, ltb, eqb}
+use Rattle.std.specs.Prelude.{◌≡◌, Bool, true, false, cond, not, ◌&&◌, ◌||◌, List, [], ◌∷◌, ◌⊎◌, ℕ, ◌+◌, ◌-◌, ◌≤◌, ◌<◌, min, leb, ltb, eqb, Err}
+use Rattle.std.specs.Result.{result_map_both}
+use Rattle.base.specs.Refusal.{number_of}
+use Rattle.base.specs.declared.refusal.Refusal.{Refusal}
 use Rattle.base.specs.Lists.{In, Every, sum}
 use Rattle.board.specs.rules.Board.{response_at, is_live, live_count, live_of, find_gtx}
 use Rattle.board.specs.promises.Board.{Good, GtxAt}
@@ -14,7 +17,7 @@ use Rattle.trade.specs.rules.Write.{reported}
 use Rattle.demand.specs.promises.Demands.{Absent, Distinct, Demand3}
 use Rattle.base.specs.Price.{mirrored}
 use Rattle.mirror.specs.rules.Mirror.{mirrored_order, mirrored_event, buy_event}
-use Rattle.auction.specs.rules.Accept.{accept_of}
+use Rattle.auction.specs.rules.Accept.{auction_of, accept_of, Accepts}
 use Rattle.auction.specs.rules.Range.{is_open, bound_by, range_of, word}
 use Rattle.auction.specs.rules.Offer.{on_offer}
 use Rattle.decision.specs.rules.Decide.{is_cancel, is_amend}
@@ -27,7 +30,6 @@ use Rattle.auction.specs.declared.Head.{Head}
 use Rattle.auction.specs.declared.Terms.{Terms}
 use Rattle.auction.specs.declared.Range.{Range}
 use Rattle.auction.specs.declared.Ending.TheVariants.{Open, Opposite}
-use Rattle.auction.specs.declared.Entry.TheVariants.{Accepted, Refused as NotAccepted}
 use Rattle.events.specs.declared.Answer.TheVariants.{Taken, Ended, Late, Refused}
 use Rattle.decision.specs.declared.Sight.{Sight}
 
@@ -62,7 +64,7 @@ pub record Keeps : Type 0 where
   pub refused : (s : Sight) (a : Auction) (e : Event) (n : ℕ) → (step_by s a e).answer ≡ Refused n → (step_by s a e).auction ≡ a
   pub not-closed : (a : Auction) (n : ℕ) → (close_of a).answer ≡ Refused n → (close_of a).auction ≡ a
   -- orders are refused by 1 to 13 alone, events by 31 to 38 alone
-  pub order-numbers : (o : Order) (n : ℕ) → (accept_of o).answer ≡ NotAccepted n → (1 ≤ n) × (n ≤ 13)
+  pub order-numbers : (o : Order) (r : Refusal) → accept_of o ≡ Err r → (1 ≤ number_of r) × (number_of r ≤ 13)
   pub event-numbers : (s : Sight) (a : Auction) (e : Event) (n : ℕ) → (step_by s a e).answer ≡ Refused n → (31 ≤ n) × (n ≤ 38)
   -- one that is taken is in time, and moves the highest sequence up to its own; so one is that 35 to 38 refuse
   pub taken : (s : Sight) (a : Auction) (e : Event) → is_taken (step_by s a e).answer ≡ true → InTime a.head e × ((step_by s a e).auction.head.sequence ≡ e.sequence)
@@ -109,11 +111,11 @@ pub record Resend : Type 0 where
   -- so the event itself is
   pub again : (a : Auction) (e : Event) (es : List Event) → is_taken (step_of a e).answer ≡ true → RefusedAgain (run (step_of a e).auction es) e
   -- no two live responses bear one sequence
-  pub apart : (o : Order) (es : List Event) → (accept_of o).answer ≡ Accepted → Distinct (live_of (run (accept_of o).auction es).board)
+  pub apart : (o : Order) (es : List Event) → Accepts o → Distinct (live_of (run (auction_of o) es).board)
   -- the sequences of the events taken rise: none is taken twice, and none bears another's
   pub rising : (a : Auction) (es : List Event) → Rising a.head.sequence (taken_of a es)
   -- a market order that ended the auction comes from an event taken, and a sequence tells which
-  pub market-from : (o : Order) (es : List Event) → (accept_of o).answer ≡ Accepted → 0 < (run (accept_of o).auction es).head.market.size → MarketFrom (accept_of o).auction es (run (accept_of o).auction es)
+  pub market-from : (o : Order) (es : List Event) → Accepts o → 0 < (run (auction_of o) es).head.market.size → MarketFrom (auction_of o) es (run (auction_of o) es)
   pub one : (a : Auction) (es : List Event) (e f : Event) → In e (taken_of a es) → In f (taken_of a es) → e.sequence ≡ f.sequence → e ≡ f
 
 -- ---- demand 3
@@ -153,15 +155,15 @@ pub record Trades (a : Auction) : Type 0 where
   pub in-range : Every (Within (range_of a.head)) (auction_fills a)
 
 pub record Demanded : Type 0 where
-  pub opened : (o : Order) → (accept_of o).answer ≡ Accepted → Sound (accept_of o).auction
+  pub opened : (o : Order) → Accepts o → Sound (auction_of o)
   -- what an event sees of a board fits it, and whatever fits keeps the auction sound
   pub sees : (b : Board) (e : Event) → Good b → Fits b (sight_of b e)
   pub stepped : (s : Sight) (a : Auction) (e : Event) → Fits a.board s → Sound a → Sound (step_by s a e).auction
   pub closed : (a : Auction) → Sound a → Sound (close_of a).auction
   -- for every accepted order and every list of events, once the auction has ended
-  pub demand-3 : (o : Order) (es : List Event) → (accept_of o).answer ≡ Accepted → Trades (played o es)
+  pub demand-3 : (o : Order) (es : List Event) → Accepts o → Trades (played o es)
   -- also where an event ended it: closing by hand then changes nothing
-  pub by-event : (o : Order) (es : List Event) → is_open (run (accept_of o).auction es).head.ending ≡ false → played o es ≡ run (accept_of o).auction es
+  pub by-event : (o : Order) (es : List Event) → is_open (run (auction_of o) es).head.ending ≡ false → played o es ≡ run (auction_of o) es
 
 -- ---- a response that is amended
 
@@ -242,9 +244,9 @@ pub record OnOffer : Type 0 where
   -- it is kept, and not looked for on the board
   pub kept : (h : Head) (b c : Board) → on_offer (record { head = h; board = b }) ≡ on_offer (record { head = h; board = c })
   -- of every accepted order, after every list of events, refused ones among them, and at the end: the sum of the sizes over the live places. A word of 32 bits holds it with room to spare
-  pub sums : (o : Order) (es : List Event) → (accept_of o).answer ≡ Accepted → on_offer (run (accept_of o).auction es) ≡ sum (sizes (live_of (run (accept_of o).auction es).board))
-  pub sums-end : (o : Order) (es : List Event) → (accept_of o).answer ≡ Accepted → on_offer (played o es) ≡ sum (sizes (live_of (played o es).board))
-  pub fits : (o : Order) (es : List Event) → (accept_of o).answer ≡ Accepted → on_offer (run (accept_of o).auction es) ≤ 6400000
+  pub sums : (o : Order) (es : List Event) → Accepts o → on_offer (run (auction_of o) es) ≡ sum (sizes (live_of (run (auction_of o) es).board))
+  pub sums-end : (o : Order) (es : List Event) → Accepts o → on_offer (played o es) ≡ sum (sizes (live_of (played o es).board))
+  pub fits : (o : Order) (es : List Event) → Accepts o → on_offer (run (auction_of o) es) ≤ 6400000
   -- an event that is taken, or ends the auction, moves it by what it brings and takes away
   pub moves : (s : Sight) (a : Auction) (e : Event) → Fits a.board s → Sound a → is_taken (step_by s a e).answer ≡ true → on_offer (step_by s a e).auction + takes_away s e ≡ on_offer a + brings a.head.terms e
   -- of any auction, opened or not, and under any sight: never below 0, and at most the largest word of 32 bits
@@ -288,15 +290,15 @@ mirrored_range r = record { low = mirrored r.high; high = mirrored r.low }
 -- a sell auction is the mirror of the buy auction on mirrored input, and a buy auction of the sell
 pub record Mirrors : Type 0 where
   -- the mirrored order is answered alike, and opens the same auction for the other side
-  pub accepts : (o : Order) → order_formed o ≡ true → (accept_of (mirrored_order o)).answer ≡ (accept_of o).answer
-  pub opens : (o : Order) → (accept_of o).answer ≡ Accepted → (accept_of (mirrored_order o)).auction ≡ flipped (accept_of o).auction
+  pub accepts : (o : Order) → order_formed o ≡ true → accept_of (mirrored_order o) ≡ result_map_both flipped (λ r. r) (accept_of o)
+  pub opens : (o : Order) → Accepts o → (auction_of (mirrored_order o)) ≡ flipped (auction_of o)
   -- mirrored records see the same of the board; under any sight of it they are answered alike, and do the same
   pub sees : (b : Board) (e : Event) → sight_of b (mirrored_record e) ≡ sight_of b e
   pub steps : (s : Sight) (a : Auction) (e : Event) → ((step_by s (flipped a) (mirrored_record e)).answer ≡ (step_by s a e).answer) × ((step_by s (flipped a) (mirrored_record e)).auction ≡ flipped (step_by s a e).auction)
   pub closes : (a : Auction) → ((close_of (flipped a)).answer ≡ (close_of a).answer) × ((close_of (flipped a)).auction ≡ flipped (close_of a).auction)
   -- so a whole auction is the mirror
-  pub plays : (o : Order) (es : List Event) → (accept_of o).answer ≡ Accepted → played (mirrored_order o) (mirrored_records es) ≡ flipped (played o es)
-  pub hears : (o : Order) (es : List Event) → (accept_of o).answer ≡ Accepted → heard (accept_of (mirrored_order o)).auction (mirrored_records es) ≡ heard (accept_of o).auction es
+  pub plays : (o : Order) (es : List Event) → Accepts o → played (mirrored_order o) (mirrored_records es) ≡ flipped (played o es)
+  pub hears : (o : Order) (es : List Event) → Accepts o → heard (auction_of (mirrored_order o)) (mirrored_records es) ≡ heard (auction_of o) es
   -- its fills and its range have mirrored prices: from buy to sell of every auction, and back of every one that is sound
   pub trades : (a : Auction) → (a.head.terms.sell ≡ true → Sound a) → auction_fills (flipped a) ≡ mirrored_fills (auction_fills a)
   pub ranges : (a : Auction) → (a.head.terms.sell ≡ true → Sound a) → range_of (flipped a).head ≡ mirrored_range (range_of a.head)

@@ -1,38 +1,36 @@
 -- Cases a to k of document 01, with b as W-203 of document 02 has it, and others of W-203 and W-205, as one table: an order, its events, and what must come of them.
-use Rattle.std.specs.Prelude.{Bool, true, false, cond, List, [], ◌∷◌, map, ◌≡◌, ℕ}
+use Rattle.std.specs.Prelude.{Bool, true, false, cond, List, [], ◌∷◌, map, ◌≡◌, ℕ, Option, Some, None, Result, Ok, Err}
+use Rattle.base.specs.Refusal.{number_of}
+use Rattle.base.specs.declared.refusal.Refusal.{Refusal}
 use Rattle.share.specs.rules.Fills.{Fill, fill}
 use Rattle.tape.specs.declared.order.Order.{Order}
 use Rattle.tape.specs.declared.event.Event.{Event}
-use Rattle.auction.specs.declared.firm.Firm.{Firm}
-use Rattle.auction.specs.declared.firm.Firm.TheVariants.{Participant, Nobody}
 use Rattle.auction.specs.rules.Firm.{participant_of}
 use Rattle.auction.specs.rules.Accept.{accept_of}
 use Rattle.auction.specs.rules.Range.{range_of}
 use Rattle.auction.specs.promises.Collared.{recollared}
 use Rattle.fills.specs.rules.Fills.{auction_fills}
-use Rattle.run.specs.rules.Run.{run, played}
+use Rattle.run.specs.rules.Run.{run, closed, played}
 use Rattle.auction.specs.declared.Auction.{Auction}
 use Rattle.auction.specs.declared.Ending.{Ending}
 use Rattle.auction.specs.declared.Ending.TheVariants.{Open, Time, Same, Opposite, Improve}
-use Rattle.auction.specs.declared.Entry.{Entry}
-use Rattle.auction.specs.declared.Entry.TheVariants.{Accepted, Refused}
 
 -- ---- what comes of an order and its events: a refusal, or the ending (after closing by hand, where asked), the range and the fills
 
-pub data Result : Type 0 where
-  refusal : ℕ → Result
-  standing : ℕ → ℕ → Result
-  ended : Ending → ℕ → ℕ → List Fill → Result
+pub data Figure : Type 0 where
+  refusal : ℕ → Figure
+  standing : ℕ → ℕ → Figure
+  ended : Ending → ℕ → ℕ → List Fill → Figure
 
 -- one that is open stands with a range; one that has ended has fills
-abbrev pub shown_by : Ending → Auction → Result
+abbrev pub shown_by : Ending → Auction → Figure
 shown_by Open a = standing (range_of a.head).low (range_of a.head).high
 shown_by Time a = ended Time (range_of a.head).low (range_of a.head).high (auction_fills a)
 shown_by Same a = ended Same (range_of a.head).low (range_of a.head).high (auction_fills a)
 shown_by Opposite a = ended Opposite (range_of a.head).low (range_of a.head).high (auction_fills a)
 shown_by Improve a = ended Improve (range_of a.head).low (range_of a.head).high (auction_fills a)
 
-abbrev pub shown : Auction → Result
+abbrev pub shown : Auction → Figure
 shown a = shown_by a.head.ending a
 
 pub record Case : Type 0 where
@@ -40,14 +38,14 @@ pub record Case : Type 0 where
   pub events : List Event
   -- closed by hand after the last event, or looked at as it stands
   pub closes : Bool
-  pub want : Result
+  pub want : Figure
 
-abbrev pub result_by : Case → Entry → Result
-result_by c (Refused n) = refusal n
-result_by c Accepted = cond c.closes (shown (played c.order c.events)) (shown (run (accept_of c.order).auction c.events))
+abbrev pub figure_by : Case → Result Auction Refusal → Figure
+figure_by c (Err r) = refusal (number_of r)
+figure_by c (Ok a) = cond c.closes (shown (closed (run a c.events))) (shown (run a c.events))
 
-abbrev pub result_of : Case → Result
-result_of c = result_by c (accept_of c.order).answer
+abbrev pub figure_of : Case → Figure
+figure_of c = figure_by c (accept_of c.order)
 
 -- ---- the words of the table
 
@@ -103,7 +101,7 @@ market sequence side size = event 4 sequence side size 0
 abbrev pub contra : ℕ → ℕ → Fill
 contra price quantity = fill 0 price quantity
 
-abbrev pub case : Order → List Event → Bool → Result → Case
+abbrev pub case : Order → List Event → Bool → Figure → Case
 case o es closes want = record { order = o; events = es; closes = closes; want = want }
 
 -- case c's order, and its mirror on the same quotes
@@ -230,7 +228,7 @@ cases =
 
 -- the table is what the definitions that the contracts cite give
 abbrev pub Figures : Type 0
-Figures = map result_of cases ≡ map (λ (c : Case). c.want) cases
+Figures = map figure_of cases ≡ map (λ (c : Case). c.want) cases
 
 -- ---- which firm stands behind a response (W-206)
 
@@ -243,12 +241,12 @@ abbrev pub cancel : ℕ → ℕ → Event
 cancel sequence name = event 2 sequence 0 name 0
 
 -- of sequences 1 to 6 of an auction that has ended: 1 was amended by 2, 3 is a limit order, 4 was cancelled by 5, and 6 is the market order that ended it
-abbrev pub firms_at_end : Order → List Event → List Firm
+abbrev pub firms_at_end : Order → List Event → List (Option ℕ)
 firms_at_end o es = map (participant_of (played o es)) (1 ∷ 2 ∷ 3 ∷ 4 ∷ 5 ∷ 6 ∷ [])
 
 abbrev pub FirmFigures : Type 0
 FirmFigures =
     (firms_at_end (order 1 1 100 110 108) (by 7 (gtx 1 30 105) ∷ by 9 (amend 2 1 20 106) ∷ by 5 (offer 3 10 107) ∷ by 6 (gtx 4 10 107) ∷ by 8 (cancel 5 4) ∷ by 3 (market 6 2 4) ∷ [])
-    ≡ Nobody ∷ Participant 9 ∷ Participant 5 ∷ Nobody ∷ Nobody ∷ Nobody ∷ [])
+    ≡ None ∷ Some 9 ∷ Some 5 ∷ None ∷ None ∷ None ∷ [])
     × (firms_at_end (order 2 1 100 100 102) (by 7 (gtx_buy 1 30 105) ∷ by 9 (amend 2 1 20 104) ∷ by 5 (bid 3 10 103) ∷ by 6 (gtx_buy 4 10 103) ∷ by 8 (cancel 5 4) ∷ by 3 (market 6 1 4) ∷ [])
-    ≡ Nobody ∷ Participant 9 ∷ Participant 5 ∷ Nobody ∷ Nobody ∷ Nobody ∷ [])
+    ≡ None ∷ Some 9 ∷ Some 5 ∷ None ∷ None ∷ None ∷ [])

@@ -7,10 +7,8 @@ use Rattle.tape.specs.rules.Tape.{open_tape, order_in, records_of}
 use Rattle.tape.specs.declared.order.Order.{Order}
 use Rattle.tape.specs.declared.event.Event.{Event}
 use Rattle.tape.specs.declared.trailer.Trailer.{Trailer}
-use Rattle.auction.specs.rules.Accept.{accept_of}
+use Rattle.auction.specs.rules.Accept.{auction_of, accept_of}
 use Rattle.auction.specs.declared.Auction.{Auction}
-use Rattle.auction.specs.declared.Entry.{Entry}
-use Rattle.auction.specs.declared.Entry.TheVariants.{Accepted, Refused as NoEntry}
 use Rattle.events.specs.rules.Step.{step_of, close_of}
 use Rattle.events.specs.declared.Answer.{Answer}
 use Rattle.events.specs.declared.Answer.TheVariants.{Taken, Ended, Late, Refused}
@@ -41,7 +39,7 @@ closed a = (close_of a).auction
 
 -- an order's auction after a list of events
 abbrev pub played : Order → List Event → Auction
-played o es = closed (run (accept_of o).auction es)
+played o es = closed (run (auction_of o) es)
 
 -- taken, and those that end it; not late ones
 abbrev pub is_taken : Answer → Bool
@@ -63,14 +61,14 @@ pub data Run : Type 0 where
   -- the auction as it opened, what is said of the events, and the auction as it ended
   ended : Auction → List Said → Auction → Run
 
--- an order's answer, with its events
-abbrev pub run_entry : List Event → Auction → Entry → Run
-run_entry es a (NoEntry number) = refused number
-run_entry es a Accepted = ended a (heard a es) (closed (run a es))
+-- an order's refusal or its auction, with its events
+abbrev pub run_entry : List Event → Result Auction Refusal → Run
+run_entry es (Err r) = refused (number_of r)
+run_entry es (Ok a) = ended a (heard a es) (closed (run a es))
 
 abbrev pub run_order : List Event → Result Order Refusal → Run
 run_order es (Err r) = refused (number_of r)
-run_order es (Ok o) = run_entry es (accept_of o).auction (accept_of o).answer
+run_order es (Ok o) = run_entry es (accept_of o)
 
 abbrev pub run_tape : List ℕ → Result Trailer Refusal → Run
 run_tape s (Err r) = refused (number_of r)

@@ -1,5 +1,5 @@
 use mathlib.Core.Path.{◌∙◌}
-use Rattle.auction.proofs.RefusalLaws.{number-10, number-13, number-11, number-12, number-0}
+use Rattle.auction.proofs.RefusalLaws.{number-10, number-13, number-11, number-12, number-none}
 use Rattle.auction.proofs.orders.range_refusal.Goals as goal
 
 pub returns-then-limit-low : goal.returns-then-limit-low
@@ -28,7 +28,7 @@ returns-then-o-is_next c =
 pub returns : goal.returns
 returns c =
     let k = c.before.before.before.before.before.before.before.before.before in
-    number-0 k.args.o k.first_bound-low.ensures.0 (k.wide-high.ensures.0 ∙ k.initiating.ensures) k.wide-limit.ensures.0 k.wide-stop.ensures.0
+    number-none k.args.o k.first_bound-low.ensures.0 (k.wide-high.ensures.0 ∙ k.initiating.ensures) k.wide-limit.ensures.0 k.wide-stop.ensures.0
     c.if-limit-low.false c.if-high-low.false c.if-high-stop.false
     (rw c.wide.ensures.0 at c.is_next.ensures)
     (rw c.guaranteed.ensures.0 at c.is_next-2.ensures) c.if-o-is_next.false
