@@ -7,6 +7,7 @@ use Prim.Native.String.{String}
 use native.Mathlib.Omega.{arith}
 use lib.Dec.{eqb, ltb}
 use lib.ListN.{length, length-append, length-set}
+use Rattle.base.specs.Refusal.{number_of}
 use Rattle.board.specs.declared.Board.{Board}
 use Rattle.board.specs.rules.Board.{empty_board, seated_at}
 use Rattle.share.specs.rules.Fills.{Fill}
@@ -77,7 +78,7 @@ unfolding answer_text
 answer-short Taken = omega arith
 answer-short Ended = omega arith
 answer-short Late = omega arith
-answer-short (Refused n) = field-short " refused " n
+answer-short (Refused r) = field-short " refused " (number_of r)
 
 said-short : (e : Said) → length (event_text e) ≤ 55
 unfolding event_text

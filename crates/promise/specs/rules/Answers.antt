@@ -1,6 +1,8 @@
 -- What documents 01 and 02 have for each case of each answer: a number for "no", or what is answered.
-use Rattle.std.specs.Prelude.{◌≡◌, Bool, true, false, List, [], ◌∷◌, ℕ}
+use Rattle.std.specs.Prelude.{◌≡◌, Bool, true, false, List, [], ◌∷◌, ℕ, Result, Ok, Err}
 use Prim.Native.String.{String}
+use Rattle.base.specs.Refusal.{number_of}
+use Rattle.base.specs.declared.refusal.Refusal.{Refusal}
 use Rattle.tape.specs.declared.Written.{Written}
 use Rattle.tape.specs.declared.Written.TheVariants.{Done, Refused as NotWritten}
 use Rattle.tape.specs.declared.order.Order.{Order}
@@ -40,6 +42,11 @@ abbrev pub is_no : {A : Type 0} → Paper A → Bool
 is_no (no n) = true
 is_no (yes a) = false
 
+-- an answer that is a result: what goes with it, or the refusal's number
+abbrev pub paper_of : {A : Type 0} → Result A Refusal → Paper A
+paper_of (Ok a) = yes a
+paper_of (Err r) = no (number_of r)
+
 -- an opened tape: 21, 22, 23; where the order stands, how many events there are, and of which form
 abbrev pub opened_is : Opened → Paper Trailer
 opened_is (Tape t) = yes t
@@ -77,7 +84,7 @@ abbrev pub answer_is : Answer → Paper String
 answer_is Taken = yes "taken"
 answer_is Ended = yes "ended"
 answer_is Late = yes "late"
-answer_is (NotTaken n) = no n
+answer_is (NotTaken r) = no (number_of r)
 
 -- why an auction ended, as the END line has it; document 01 has no word for an open one, and no END line has it
 abbrev pub ending_is : Ending → String
