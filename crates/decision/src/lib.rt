@@ -3,11 +3,11 @@
 #![tactic(auto)]
 
 ghost use Rattle.std.specs.Prelude.{◌≡◌, cond, ltb};
-ghost use Rattle.decision.specs.rules.Decide.{seats, places, gtx_outcome, cancel_outcome, amended_by, amend_outcome, sell_limit_outcome, bid_quotes, moves, buy_limit_outcome, limit_outcome, market_outcome, new_quotes, quotes_outcome, outcome_of, response_of, is_non_routable};
+ghost use Rattle.decision.specs.rules.Decide.{does, seats, places, gtx_outcome, cancel_outcome, amended_by, amend_outcome, sell_limit_outcome, bid_quotes, moves, buy_limit_outcome, limit_outcome, market_outcome, new_quotes, quotes_outcome, outcome_of, response_of, is_non_routable};
 ghost use Rattle.auction.specs.rules.Range.{bound_by};
 
 use auction::{Ending, Market, Quotes, Terms, bound_by};
-use base::{higher, lower, wide};
+use base::{Refusal, higher, lower, wide};
 use board::Response;
 use tape::Event;
 use words::bits::mark;
@@ -30,11 +30,18 @@ pub enum Change {
     Sell(Market),
 }
 
-// What is decided of an event: its refusal, or its change and the ending after it.
+// What an event does that is not refused: its change, and the ending after it.
 #[derive(Clone, Copy)]
-pub enum Outcome {
-    Refuses(u32),
-    Does(Change, Ending),
+pub struct Deed {
+    pub change: Change,
+    pub ending: Ending,
+}
+
+// It is not refused.
+fn does(change: Change, ending: Ending) -> Result<Deed, Refusal>
+    ensures { result ≡ does change ending }
+{
+    Ok(Deed { change, ending })
 }
 
 // A response of a size: a GTX one, or a limit order.
@@ -51,43 +58,51 @@ fn response(gtx: bool, size: u32, e: Event) -> Response
     }
 }
 
-// A response stands at a place, from which a size is gone; a number refuses it where there is no such place.
-fn seat(place: usize, r: Response, gone: u32, ending: Ending, number: u32) -> Outcome
-    ensures { result ≡ seats place r gone ending number }
+// A response stands at a place, from which a size is gone; it is refused where there is no such place.
+fn seat(
+    place: usize,
+    r: Response,
+    gone: u32,
+    ending: Ending,
+    none: Refusal,
+) -> Result<Deed, Refusal>
+    ensures { result ≡ seats place r gone ending none }
 {
     if place < 64 {
-        return Outcome::Does(Change::Seat(place, r, gone), ending);
+        return does(Change::Seat(place, r, gone), ending);
     }
-    Outcome::Refuses(number)
+    Err(none)
 }
 
-// A response has to be placed: at the lowest free place, and 38 where there is none.
-fn place(s: Sight, r: Response, ending: Ending) -> Outcome
+// A response has to be placed: at the lowest free place, and the board is full where there is none.
+fn place(s: Sight, r: Response, ending: Ending) -> Result<Deed, Refusal>
     ensures { result ≡ places s r ending }
 {
-    seat(s.at, r, 0, ending, 38)
+    seat(s.at, r, 0, ending, Refusal::BoardFull)
 }
 
-fn gtx(t: Terms, s: Sight, e: Event) -> Outcome
+#[tactic(auto, unfolding(crate::specs::rules::Decide::gtx_outcome))]
+fn gtx(t: Terms, s: Sight, e: Event) -> Result<Deed, Refusal>
     ensures { result ≡ gtx_outcome t s e }
 {
     if e.side == 1 {
-        return Outcome::Refuses(35);
+        return Err(Refusal::OwnSide);
     }
     if t.initiating < e.f16 {
-        return Outcome::Refuses(36);
+        return Err(Refusal::AboveInitiating);
     }
     place(s, response(true, lower(e.f12, t.size), e), Ending::Open)
 }
 
-fn cancel(s: Sight) -> Outcome
+#[tactic(auto, unfolding(crate::specs::rules::Decide::cancel_outcome))]
+fn cancel(s: Sight) -> Result<Deed, Refusal>
     ensures { result ≡ cancel_outcome s }
 {
     let found = s.found;
     if found < 64 {
-        return Outcome::Does(Change::Free(found, s.old.size), Ending::Open);
+        return does(Change::Free(found, s.old.size), Ending::Open);
     }
-    Outcome::Refuses(37)
+    Err(Refusal::NoSuchResponse)
 }
 
 // The response that an amend makes of an old one: its Customer mark stays.
@@ -104,14 +119,16 @@ fn amended(t: Terms, old: Response, e: Event) -> Response
     }
 }
 
-fn amend(t: Terms, s: Sight, e: Event) -> Outcome
+#[tactic(auto, unfolding(crate::specs::rules::Decide::amend_outcome))]
+fn amend(t: Terms, s: Sight, e: Event) -> Result<Deed, Refusal>
     ensures { result ≡ amend_outcome t s e }
 {
     if t.initiating < e.f20 {
-        return Outcome::Refuses(36);
+        return Err(Refusal::AboveInitiating);
     }
     let r = amended(t, s.old, e);
-    seat(s.found, r, s.old.size, Ending::Open, 37)
+    let none = Refusal::NoSuchResponse;
+    seat(s.found, r, s.old.size, Ending::Open, none)
 }
 
 // One of two prices: the exchange's for a non-routable order, the nation's else.
@@ -133,17 +150,19 @@ fn opposite_if(marketable: bool) -> Ending
     Ending::Open
 }
 
-fn sell_limit(t: Terms, q: Quotes, s: Sight, e: Event) -> Outcome
+#[tactic(auto, unfolding(crate::specs::rules::Decide::sell_limit_outcome))]
+fn sell_limit(t: Terms, q: Quotes, s: Sight, e: Event) -> Result<Deed, Refusal>
     ensures { result ≡ sell_limit_outcome t q s e }
 {
     let ending = opposite_if(e.f16 <= market_price(e, q.bb, q.nbb));
     if e.f16 <= t.initiating {
         return place(s, response(false, e.f12, e), ending);
     }
-    Outcome::Does(Change::Nothing, ending)
+    does(Change::Nothing, ending)
 }
 
 // The mark at BB after a bid.
+#[tactic(auto, unfolding(crate::specs::rules::Decide::bid_quotes))]
 fn bid_mark(q: Quotes, price: u32, customer: bool) -> bool
     ensures { result ≡ (bid_quotes q price customer).bidmark }
 {
@@ -154,6 +173,7 @@ fn bid_mark(q: Quotes, price: u32, customer: bool) -> bool
 }
 
 // The quotes with a bid.
+#[tactic(auto, unfolding(crate::specs::rules::Decide::bid_quotes))]
 fn bid_quotes(q: Quotes, price: u32, customer: bool) -> Quotes
     ensures { result ≡ bid_quotes q price customer }
 {
@@ -181,21 +201,23 @@ fn exceeds(t: Terms, q: Quotes) -> bool
     wide(t.initiating) < bound_by(t, q)
 }
 
-fn buy_limit(t: Terms, q: Quotes, e: Event) -> Outcome
+#[tactic(auto, unfolding(crate::specs::rules::Decide::buy_limit_outcome))]
+fn buy_limit(t: Terms, q: Quotes, e: Event) -> Result<Deed, Refusal>
     ensures { result ≡ buy_limit_outcome t q e }
 {
     if market_price(e, q.bo, q.nbo) <= e.f16 {
-        return Outcome::Does(Change::Nothing, Ending::Same);
+        return does(Change::Nothing, Ending::Same);
     }
     let customer = mark(e.marks, 0);
     let n = bid_quotes(q, e.f16, customer);
     if is_move(q, e.f16, customer) & exceeds(t, n) {
-        return Outcome::Does(Change::Nothing, Ending::Improve);
+        return does(Change::Nothing, Ending::Improve);
     }
-    Outcome::Does(Change::Quote(n), Ending::Open)
+    does(Change::Quote(n), Ending::Open)
 }
 
-fn limit(t: Terms, q: Quotes, s: Sight, e: Event) -> Outcome
+#[tactic(auto, unfolding(crate::specs::rules::Decide::limit_outcome))]
+fn limit(t: Terms, q: Quotes, s: Sight, e: Event) -> Result<Deed, Refusal>
     ensures { result ≡ limit_outcome t q s e }
 {
     if e.side == 1 {
@@ -204,20 +226,22 @@ fn limit(t: Terms, q: Quotes, s: Sight, e: Event) -> Outcome
     sell_limit(t, q, s, e)
 }
 
-fn market(e: Event) -> Outcome
+#[tactic(auto, unfolding(crate::specs::rules::Decide::market_outcome))]
+fn market(e: Event) -> Result<Deed, Refusal>
     ensures { result ≡ market_outcome e }
 {
     if e.side == 1 {
-        return Outcome::Does(Change::Nothing, Ending::Same);
+        return does(Change::Nothing, Ending::Same);
     }
     let m = Market {
         sequence: e.sequence,
         size: e.f12,
     };
-    Outcome::Does(Change::Sell(m), Ending::Opposite)
+    does(Change::Sell(m), Ending::Opposite)
 }
 
 // The quotes that an event brings.
+#[tactic(auto, unfolding(crate::specs::rules::Decide::new_quotes))]
 fn new_quotes(e: Event) -> Quotes
     ensures { result ≡ new_quotes e }
 {
@@ -231,18 +255,20 @@ fn new_quotes(e: Event) -> Quotes
     }
 }
 
-fn quotes(t: Terms, e: Event) -> Outcome
+#[tactic(auto, unfolding(crate::specs::rules::Decide::quotes_outcome))]
+fn quotes(t: Terms, e: Event) -> Result<Deed, Refusal>
     ensures { result ≡ quotes_outcome t e }
 {
     let n = new_quotes(e);
     if exceeds(t, n) {
-        return Outcome::Does(Change::Nothing, Ending::Improve);
+        return does(Change::Nothing, Ending::Improve);
     }
-    Outcome::Does(Change::Quote(n), Ending::Open)
+    does(Change::Quote(n), Ending::Open)
 }
 
 // The decision on an event, by its kind.
-pub fn decide(t: Terms, q: Quotes, s: Sight, e: Event) -> Outcome
+#[tactic(auto, unfolding(crate::specs::rules::Decide::outcome_of))]
+pub fn decide(t: Terms, q: Quotes, s: Sight, e: Event) -> Result<Deed, Refusal>
     ensures { result ≡ outcome_of t q s e }
 {
     if e.kind == 1 {

@@ -3,6 +3,7 @@
 #![tactic(auto)]
 
 use auction::{Auction, Head};
+use base::Refusal;
 use decision::Change;
 
 pub mod turns;
@@ -13,7 +14,7 @@ pub enum Answer {
     Taken,
     Ended,
     Late,
-    Refused(u32),
+    Refused(Refusal),
 }
 
 #[derive(Clone, Copy)]

@@ -1,14 +1,15 @@
 // One turn: what an event does to an auction's head, and what becomes of the board. No board is copied.
-ghost use Rattle.std.specs.Prelude.{◌≡◌, cond, ◌||◌};
+ghost use Rattle.std.specs.Prelude.{◌≡◌, cond, ◌||◌, Ok};
 ghost use Rattle.words.specs.rules.Bits.{clear_in};
 ghost use Rattle.auction.specs.rules.Range.{is_open};
 ghost use Rattle.decision.specs.rules.Decide.{is_cancel, is_amend};
-ghost use Rattle.events.specs.rules.Step.{sight_of, event_refusal, quotes_after, market_after, offered_after, stays, ended_by_time, head_after, carried, turn_of, close_turn};
+ghost use Rattle.events.specs.rules.Step.{sight_of, event_refusal, quotes_after, market_after, offered_after, stays, ended_by_time, head_after, carried, settled, turn_of, close_turn};
 
 use crate::{Answer, Turn};
 use auction::{Ending, Head, Market, Quotes, is_open, moved_offer};
+use base::Refusal;
 use board::{Board, Found};
-use decision::{Change, Outcome, Sight, decide};
+use decision::{Change, Deed, Sight, decide};
 use mirror::buy_event;
 use tape::Event;
 
@@ -46,24 +47,25 @@ pub fn sight(b: Board, e: Event) -> Sight
     )
 }
 
-// 31 to 34; 0 where none of them refuses the event.
-fn refusal(h: Head, e: Event) -> u32
+// The refusals that every kind of event has, in their order.
+#[tactic(auto, unfolding(crate::specs::rules::Step::event_refusal))]
+fn admit(h: Head, e: Event) -> Result<(), Refusal>
     ensures { result ≡ event_refusal h e }
 {
     let g = h.ending;
     if !is_open(g) {
-        return 31;
+        return Err(Refusal::AuctionEnded);
     }
     if !tape::event_form(e) {
-        return 32;
+        return Err(Refusal::EventOutOfForm);
     }
     if e.sequence <= h.sequence {
-        return 33;
+        return Err(Refusal::SequenceTaken);
     }
     if e.time < h.clock {
-        return 34;
+        return Err(Refusal::BeforeClock);
     }
-    0
+    Ok(())
 }
 
 // Nothing becomes of the board.
@@ -78,6 +80,7 @@ fn stay(answer: Answer, h: Head) -> Turn
 }
 
 // The head that ends by time: nothing but its ending moves.
+#[tactic(auto, unfolding(crate::specs::rules::Step::ended_by_time))]
 fn by_time(h: Head) -> Head
     ensures { result ≡ ended_by_time h }
 {
@@ -134,6 +137,7 @@ fn offered_after(n: u32, c: Change) -> u32
 }
 
 // The head after an event that was taken.
+#[tactic(auto, unfolding(crate::specs::rules::Step::head_after))]
 fn head_after(h: Head, e: Event, c: Change, ending: Ending) -> Head
     ensures { result ≡ head_after h e c ending }
 {
@@ -162,41 +166,47 @@ fn answer_of(g: Ending) -> Answer
     Answer::Ended
 }
 
-// What is decided of an event, carried out.
-fn carry(h: Head, e: Event, o: Outcome) -> Turn
-    ensures { result ≡ carried h e o }
+// What an event does, carried out.
+fn carry(h: Head, e: Event, d: Deed) -> Turn
+    ensures { result ≡ carried h e (Ok d) }
 {
-    match o {
-        Outcome::Refuses(n) => stay(Answer::Refused(n), h),
-        Outcome::Does(c, g) => {
-            let answer = answer_of(g);
-            let head = head_after(h, e, c, g);
-            Turn {
-                answer,
-                head,
-                change: c,
-            }
-        }
+    let c = d.change;
+    let g = d.ending;
+    let answer = answer_of(g);
+    let head = head_after(h, e, c, g);
+    Turn {
+        answer,
+        head,
+        change: c,
     }
 }
 
-// What an event does: 31 to 34, then late, then by its kind.
+// The turn of an event that is not refused: late, or by its kind.
+#[tactic(auto, unfolding(crate::specs::rules::Step::turn_of))]
+fn served(h: Head, s: Sight, e: Event) -> Result<Turn, Refusal>
+    ensures { settled h result ≡ turn_of h s e }
+{
+    admit(h, e)?;
+    let t = h.terms;
+    if t.interval <= e.time {
+        return Ok(stay(Answer::Late, by_time(h)));
+    }
+    let d = decide(t, h.quotes, s, buy_event(t.sell, e))?;
+    Ok(carry(h, e, d))
+}
+
+// What an event does; a refusal changes nothing.
 pub fn turn(h: Head, s: Sight, e: Event) -> Turn
     ensures { result ≡ turn_of h s e }
 {
-    let number = refusal(h, e);
-    if number == 0 {
-        let t = h.terms;
-        if t.interval <= e.time {
-            return stay(Answer::Late, by_time(h));
-        }
-        let o = decide(t, h.quotes, s, buy_event(t.sell, e));
-        return carry(h, e, o);
+    match served(h, s, e) {
+        Ok(u) => u,
+        Err(r) => stay(Answer::Refused(r), h),
     }
-    stay(Answer::Refused(number), h)
 }
 
 // Closing by hand: as an event at time L.
+#[tactic(auto, unfolding(crate::specs::rules::Step::close_turn))]
 pub fn close_turn(h: Head) -> Turn
     ensures { result ≡ close_turn h }
 {
@@ -204,5 +214,5 @@ pub fn close_turn(h: Head) -> Turn
     if is_open(g) {
         return stay(Answer::Late, by_time(h));
     }
-    stay(Answer::Refused(31), h)
+    stay(Answer::Refused(Refusal::AuctionEnded), h)
 }

@@ -54,7 +54,7 @@ fn print_answer(rt: &impl Print, answer: Answer) {
         Answer::Taken => print(rt, b" taken\n"),
         Answer::Ended => print(rt, b" ended\n"),
         Answer::Late => print(rt, b" late\n"),
-        Answer::Refused(number) => print_last(rt, b" refused ", wide(number)),
+        Answer::Refused(r) => print_last(rt, b" refused ", wide(r.number())),
     }
 }
 

@@ -75,7 +75,7 @@ unfolding answer_text
 answer-short Taken = omega arith
 answer-short Ended = omega arith
 answer-short Late = omega arith
-answer-short (Refused n) = field-short " refused " n
+answer-short (Refused r) = field-short " refused " (number_of r)
 
 said-short : (e : Said) → length (event_text e) ≤ 55
 unfolding event_text

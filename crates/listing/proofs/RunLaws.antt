@@ -8,6 +8,7 @@ use native.Mathlib.Omega.{arith}
 use borrow.Author.Tests.{lt-ltb, le-ltb}
 use lib.ListN.{set}
 use Rattle.std.specs.Prelude.{Ok}
+use Rattle.base.specs.declared.refusal.Refusal.TheVariants.{AuctionEnded}
 use Rattle.words.specs.rules.Bits.{with_bit, without_bit}
 use Rattle.board.specs.rules.Board.{seated_at}
 use Rattle.board.specs.promises.Board.{Good}
@@ -52,7 +53,7 @@ pub closed-whole : (h : Head) (b : Board) (u : Turn) → u ≡ close_turn h → 
 unfolding close_turn
 closed-whole h b u e = ap (λ (v : Turn). whole v.head b) e ∙ go (is_open h.ending)
   where
-    go : (t : Bool) → whole (cond t (stays Late (ended_by_time h)) (stays (Refused 31) h)).head b ≡ (seated_on b (cond t (stays Late (ended_by_time h)) (stays (Refused 31) h))).auction
+    go : (t : Bool) → whole (cond t (stays Late (ended_by_time h)) (stays (Refused AuctionEnded) h)).head b ≡ (seated_on b (cond t (stays Late (ended_by_time h)) (stays (Refused AuctionEnded) h))).auction
     go true = refl
     go false = refl
 

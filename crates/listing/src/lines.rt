@@ -59,7 +59,7 @@ fn put_answer(out: &mut [u8], at: usize, answer: Answer) -> usize
         Answer::Taken => put_text(out, at, b" taken"),
         Answer::Ended => put_text(out, at, b" ended"),
         Answer::Late => put_text(out, at, b" late"),
-        Answer::Refused(number) => put_word(out, at, b" refused ", number),
+        Answer::Refused(r) => put_word(out, at, b" refused ", r.number()),
     }
 }
 

@@ -232,13 +232,13 @@ numbered =
     said-by Taken w z = let q : w ≡ "taken" = cc in ap (λ (v : String). text " " ++ text v) (sym q)
     said-by Ended w z = let q : w ≡ "ended" = cc in ap (λ (v : String). text " " ++ text v) (sym q)
     said-by Late w z = let q : w ≡ "late" = cc in ap (λ (v : String). text " " ++ text v) (sym q)
-    said-by (Refused n) w z = cc
+    said-by (Refused r) w z = cc
 
     number_by : (a : Answer) (n : ℕ) → answer_is a ≡ no n → answer_text a ≡ field " refused " n
     number_by Taken n z = cc
     number_by Ended n z = cc
     number_by Late n z = cc
-    number_by (Refused k) n z = let q : k ≡ n = cc in ap (λ (m : ℕ). field " refused " m) q
+    number_by (Refused r) n z = let q : number_of r ≡ n = cc in ap (λ (m : ℕ). field " refused " m) q
 
     end_by : (g : Ending) → end_text g ≡ text "END " ++ text (ending_is g)
     end_by Open = refl
@@ -249,15 +249,27 @@ numbered =
 
 -- ---- events
 
-answer-number : (x : Answer) (n : ℕ) → answer_is x ≡ no n → x ≡ Refused n
+-- an answer with a number is a refusal with that number
+record RefusedBy (n : ℕ) (x : Answer) : Type 0 where
+  refusal : Refusal
+  number : number_of refusal ≡ n
+  same : x ≡ Refused refusal
+
+answer-number : (x : Answer) (n : ℕ) → answer_is x ≡ no n → RefusedBy n x
 answer-number Taken n z = cc
 answer-number Ended n z = cc
 answer-number Late n z = cc
-answer-number (Refused k) n z = cc
+answer-number (Refused r) n z = record { refusal = r; number = cc; same = refl }
 
 pub event-numbers : (a : Auction) (es : List Event) → Every EventNumber (heard a es)
 event-numbers a [] = tt
-event-numbers a (e ∷ es) = (λ n z. let b = keeps.event-numbers (sight_of a.board e) a e n (answer-number (step_of a e).answer n z) in numbers-in n 31 8 b.0 (omega (arith, b.1)), event-numbers (step_of a e).auction es)
+event-numbers a (e ∷ es) = (
+  λ n z.
+      let k = answer-number (step_of a e).answer n z in
+      let b = keeps.event-numbers (sight_of a.board e) a e k.refusal k.same in
+      numbers-in n 31 8 (omega (arith, b.0, k.number)) (omega (arith, b.1, k.number)),
+  event-numbers (step_of a e).auction es,
+)
 
 -- ---- a refusal changes nothing
 
@@ -268,7 +280,7 @@ refused-stays a e z = go (step_of a e).answer refl z
     go Taken q r = never (sym r)
     go Ended q r = never (sym r)
     go Late q r = never (sym r)
-    go (Refused n) q r = keeps.refused (sight_of a.board e) a e n q
+    go (Refused x) q r = keeps.refused (sight_of a.board e) a e x q
 
 pub without : (es : List Event) (a : Auction) → run a (not_refused a es) ≡ run a es
 without [] a = refl

@@ -35,7 +35,7 @@ pub taken_is : (x : Answer) → answer_is x ≡ yes "taken" → x ≡ Taken
 taken_is Taken z = refl
 taken_is Ended z = absurd (omega (arith, ap first z))
 taken_is Late z = absurd (omega (arith, ap first z))
-taken_is (Refused n) z = cc
+taken_is (Refused r) z = cc
 
 -- a tape that carries an order and records
 pub tape-at : {s : List ℕ} {o : Order} {es : List Event} (c : Carries s o es) → open_tape s ≡ Ok c.trailer

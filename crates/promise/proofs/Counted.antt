@@ -5,6 +5,7 @@ use mathlib.Core.List.{List, [], ◌∷◌, map}
 use mathlib.Core.Logic.{inl, inr, ◌≢◌}
 use Prim.Native.Nat.{ℕ, ◌≤◌, ◌<◌}
 use native.Mathlib.Omega.{arith}
+use Rattle.base.specs.declared.refusal.Refusal.TheVariants.{AuctionEnded, EventOutOfForm, SequenceTaken, AboveInitiating, NoSuchResponse}
 use Rattle.base.specs.Lists.{Inserts, In, Every, keep}
 use Rattle.base.proofs.Bools.{no, by}
 use Rattle.base.proofs.ListLaws.{every-inserts, inserts-every, every_in, every-with, every_map}
@@ -172,11 +173,11 @@ not_taken a e s names g z = go names
     none = le-ltb (named_place a e) 64 (omega (arith, not_found a (name_of e) s g))
 
     go : Names e → ⊥
-    go (inl k) = no (sym z ∙ ap is_taken (amends.cancel-answers (sight_of a.board e) a e k (amends.sees_named a e names) t ∙ ap (λ (b : Bool). cond b Taken (Refused 37)) none))
+    go (inl k) = no (sym z ∙ ap is_taken (amends.cancel-answers (sight_of a.board e) a e k (amends.sees_named a e names) t ∙ ap (λ (b : Bool). cond b Taken (Refused NoSuchResponse)) none))
     go (inr k) =
-        no (sym z ∙ ap is_taken (amends.answers (sight_of a.board e) a e k (amends.sees_named a e names) t ∙ ap (λ (b : Bool). cond (is_above a e) (Refused 36) (cond b Taken (Refused 37))) none) ∙ untaken (is_above a e))
+        no (sym z ∙ ap is_taken (amends.answers (sight_of a.board e) a e k (amends.sees_named a e names) t ∙ ap (λ (b : Bool). cond (is_above a e) (Refused AboveInitiating) (cond b Taken (Refused NoSuchResponse))) none) ∙ untaken (is_above a e))
       where
-        untaken : (x : Bool) → is_taken (cond x (Refused 36) (Refused 37)) ≡ false
+        untaken : (x : Bool) → is_taken (cond x (Refused AboveInitiating) (Refused NoSuchResponse)) ≡ false
         untaken true = refl
         untaken false = refl
 
@@ -251,7 +252,7 @@ module _ (o : Order) (es : List Event) (h : Accepts o) where
       ∙ ap (better (is_sell o) (reported_price (is_sell o) t.initiating)) (new-price (is_sell o) g k f)
       ∙ sym (ap (λ (x : ℕ). better (is_sell o) x (new_price_of g)) (initiating-is o h))
 
-  said-by : (x y : Bool) → answer_is (cond x (Refused 36) (cond y Taken (Refused 37))) ≡ cond x (no_number 36) (cond y (yes "taken") (no_number 37))
+  said-by : (x y : Bool) → answer_is (cond x (Refused AboveInitiating) (cond y Taken (Refused NoSuchResponse))) ≡ cond x (no_number 36) (cond y (yes "taken") (no_number 37))
   said-by true y = refl
   said-by false true = refl
   said-by false false = refl
@@ -294,10 +295,18 @@ distinct-sent sell (r ∷ rs) d = (every-sent (λ x. x.sequence ≢ r.sequence) 
 apart : (o : Order) (es : List Event) → Accepts o → Distinct (responses (auction_after o es))
 apart o es h = distinct-sent (auction_after o es).head.terms.sell (live_of (auction_after o es).board) (resend.apart o es h)
 
+old-number : (still formed : Bool) → answer_is (Refused (cond still (cond formed SequenceTaken EventOutOfForm) AuctionEnded)) ≡ no_number (cond still (cond formed 33 32) 31)
+old-number true true = refl
+old-number true false = refl
+old-number false formed = refl
+
 pub counted : (o : Order) → CountedOnce o
 counted o =
     record {
-      refused = λ before e g i h. (ap (λ (p : Stepped). answer_is p.answer) (refused (auction_of o) before e g i h), ap (λ (p : Stepped). p.auction) (refused (auction_of o) before e g i h));
+      refused = λ before e g i h. (
+        ap (λ (p : Stepped). answer_is p.answer) (refused (auction_of o) before e g i h) ∙ old-number (is_open (run (auction_of o) before).head.ending) (event_formed g),
+        ap (λ (p : Stepped). p.auction) (refused (auction_of o) before e g i h),
+      );
       by-records = λ es h. by-records o es h;
       one-record = λ es h. one-record o es h;
       apart = λ es h. apart o es h;

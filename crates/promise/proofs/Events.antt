@@ -8,7 +8,10 @@ use native.Mathlib.Omega.{arith}
 use borrow.Author.Tests.{ltb-true, lt-ltb, eqb-true, eq-eqb, ne_eqb}
 use lib.Dec.{leb, ltb, eqb}
 use lib.ListN.{length, length-map}
+use Rattle.std.specs.Prelude.{Result, Ok, Err}
 use Rattle.base.specs.Lists.{keep, sum}
+use Rattle.base.specs.declared.refusal.Refusal.{Refusal}
+use Rattle.base.specs.declared.refusal.Refusal.TheVariants.{AuctionEnded, EventOutOfForm, SequenceTaken, BeforeClock, OwnSide, AboveInitiating, NoSuchResponse, BoardFull}
 use Rattle.base.proofs.Bools.{no as impossible, by, same_test, and_left, and_right, and_both, and-no-left, and-no-right}
 use Rattle.base.proofs.ListLaws.{shuffles-length}
 use Rattle.board.specs.declared.Response.{Response}
@@ -35,13 +38,11 @@ use Rattle.auction.specs.declared.Quotes.{Quotes}
 use Rattle.auction.specs.declared.Market.{Market}
 use Rattle.auction.specs.declared.Ending.{Ending}
 use Rattle.auction.specs.declared.Ending.TheVariants.{Open, Same, Opposite, Improve}
-use Rattle.decision.specs.rules.Decide.{is_customer, is_non_routable, moves, bid_quotes, new_quotes, gtx_outcome, cancel_outcome, amend_outcome, sell_limit_outcome, buy_limit_outcome, limit_outcome, market_outcome, quotes_outcome, outcome_of}
+use Rattle.decision.specs.rules.Decide.{is_customer, is_non_routable, moves, bid_quotes, new_quotes, gtx_outcome, cancel_outcome, amend_outcome, sell_limit_outcome, buy_limit_outcome, limit_outcome, market_outcome, quotes_outcome, Outcome, does, outcome_of}
 use Rattle.decision.specs.declared.Sight.{Sight}
 use Rattle.decision.specs.declared.Change.{Change}
 use Rattle.decision.specs.declared.Change.TheVariants.{Nothing, Quote}
-use Rattle.decision.specs.declared.Outcome.{Outcome}
-use Rattle.decision.specs.declared.Outcome.TheVariants.{Refuses, Does}
-use Rattle.events.specs.rules.Step.{event_refusal, sight_of, quotes_after, stays, ended_by_time, head_after, carried, turn_of, close_turn, seated_on, step_of}
+use Rattle.events.specs.rules.Step.{event_refusal, sight_of, quotes_after, stays, ended_by_time, head_after, unless_refused, carried, turn_of, close_turn, seated_on, step_of}
 use Rattle.events.specs.declared.Answer.{Answer}
 use Rattle.events.specs.declared.Answer.TheVariants.{Late, Refused}
 use Rattle.events.specs.declared.Turn.{Turn}
@@ -54,9 +55,8 @@ use Rattle.run.proofs.MarketFrom as market
 use Rattle.run.proofs.MarketFrom.{buy-form, terms-stay, Sells, MarketStep, market-step}
 use Rattle.listing.specs.rules.Listing.{event_line_with}
 use Rattle.listing.specs.rules.Watch.{watch_lines}
-use Rattle.promise.specs.rules.Answers.{Paper, no, yes}
 use Rattle.promise.specs.rules.Sides.{is_sell, other_side, better, initiating_price, takes_place, has_named, sent, taken_records, at_end}
-use Rattle.promise.specs.rules.Events.{Quoted, Now, own_side, brought, outbid, quoted_after, market_after, opening, refusal_of, decided, answer_of, leaves, by_time, answer_to, after, answers_from, taken_from, after_all, lastly, watch_from}
+use Rattle.promise.specs.rules.Events.{Quoted, Now, own_side, brought, outbid, quoted_after, market_after, opening, refusal_of, decided, answer_of, leaves, by_time, answer_by, answer_to, after_by, after, answers_from, taken_from, after_all, lastly, watch_from}
 use Rattle.promise.proofs.Sent.{sent-price, new-price, market-side, side-market}
 use Rattle.promise.proofs.RealLaws.{better-shown, sizes-sent}
 use Rattle.promise.proofs.Standing.{Ours, ours, on_board, none-live, named-is, takes-is, stands-step}
@@ -74,23 +74,32 @@ five e f a b c d g = go (eqb e.kind 5) refl
         absurd (omega (arith, within-ge e.marks 1 0 h, within-le e.marks 1 0 h))
 
 -- an event that none of 31 to 34 refuses is in form
-formed : (h : Head) (e : Event) → eqb (event_refusal h e) 0 ≡ true → event_formed e ≡ true
+formed : (h : Head) (e : Event) (u : Unit {0}) → event_refusal h e ≡ Ok u → event_formed e ≡ true
 unfolding event_refusal
-formed h e =
-    by If (not (is_open h.ending)) _ _ (λ _ z. impossible (sym z)) (λ _.
-    by If (not (event_formed e)) _ _ (λ _ z. impossible (sym z)) (λ f z. not-no (event_formed e) f))
+formed h e u =
+    by If (not (is_open h.ending)) _ _ (λ _ z. cc) (λ _.
+    by If (not (event_formed e)) _ _ (λ _ z. cc) (λ f z. not-no (event_formed e) f))
   where
-    If : ℕ → Type 0
-    If k = eqb k 0 ≡ true → event_formed e ≡ true
+    If : Result (Unit {0}) Refusal → Type 0
+    If q = q ≡ Ok u → event_formed e ≡ true
 
     not-no : (t : Bool) → not t ≡ false → t ≡ true
     not-no true z = refl
     not-no false z = impossible z
 
--- what is decided, as the paper has it
-paper_of : Outcome → Paper Ending
-paper_of (Refuses n) = no n
-paper_of (Does c g) = yes g
+-- what is decided, without its change
+abbrev no : Refusal → Result Ending Refusal
+no r = Err r
+
+abbrev yes : Ending → Result Ending Refusal
+yes g = Ok g
+
+changeless : Outcome → Result Ending Refusal
+changeless (Err r) = no r
+changeless (Ok d) = yes d.ending
+
+abbrev refuses : Refusal → Outcome
+refuses r = Err r
 
 -- the auction a is what n says
 pub record Follows (o : Order) (a : Auction) (n : Now) : Type 0 where
@@ -144,61 +153,61 @@ module _ (o : Order) (a : Auction) (n : Now) (F : Follows o a n) (e : Event) (f 
   found-named k = ap (λ (i : ℕ). ltb i 64) (found-is a.board e k) ∙ named-is (is_sell o) a.board (name_of e) F.sound.board F.sound.distinct ∙ ap (has_named (name_of e)) F.stands
 
   abbrev P : Outcome → Type 0
-  P u = paper_of u ≡ decided o n e
+  P u = changeless u ≡ decided o n e
 
   gtx : e.kind ≡ 1 → P (gtx_outcome t v m)
-  unfolding gtx_outcome mirrored_priced paper_of
+  unfolding gtx_outcome mirrored_priced changeless
   gtx k =
       push (eqb m.side 1) (ltb t.initiating (price_of m)) (ltb v.at 64) _
-      ∙ (λ i. cond (side-shown (is_sell o) e (ap (λ (x : Event). x.side) (mirror-one e k)) i) (no 35) (cond (beyond-is (inl k) i) (no 36) (cond (room-is i) (yes Open) (no 38))))
+      ∙ (λ i. cond (side-shown (is_sell o) e (ap (λ (x : Event). x.side) (mirror-one e k)) i) (no OwnSide) (cond (beyond-is (inl k) i) (no AboveInitiating) (cond (room-is i) (yes Open) (no BoardFull))))
       ∙ sym (simp (eq-eqb e.kind 1 k))
     where
-      push : (x y z : Bool) (c : Change) → paper_of (cond x (Refuses 35) (cond y (Refuses 36) (cond z (Does c Open) (Refuses 38)))) ≡ cond x (no 35) (cond y (no 36) (cond z (yes Open) (no 38)))
+      push : (x y z : Bool) (c : Change) → changeless (cond x (refuses OwnSide) (cond y (refuses AboveInitiating) (cond z (does c Open) (refuses BoardFull)))) ≡ cond x (no OwnSide) (cond y (no AboveInitiating) (cond z (yes Open) (no BoardFull)))
       push true y z c = refl
       push false true z c = refl
       push false false true c = refl
       push false false false c = refl
 
-  found-or : (x : Bool) (c : Change) → paper_of (cond x (Does c Open) (Refuses 37)) ≡ cond x (yes Open) (no 37)
-  unfolding paper_of
+  found-or : (x : Bool) (c : Change) → changeless (cond x (does c Open) (refuses NoSuchResponse)) ≡ cond x (yes Open) (no NoSuchResponse)
+  unfolding changeless
   found-or true c = refl
   found-or false c = refl
 
   cancel : e.kind ≡ 2 → P (cancel_outcome v)
   unfolding cancel_outcome
   cancel k =
-      found-or (ltb v.found 64) _ ∙ ap (λ (x : Bool). cond x (yes Open) (no 37)) (found-named (inl k))
+      found-or (ltb v.found 64) _ ∙ ap (λ (x : Bool). cond x (yes Open) (no NoSuchResponse)) (found-named (inl k))
       ∙ sym (simp (ne_eqb e.kind 1 (λ z. omega arith), eq-eqb e.kind 2 k))
 
   amend : e.kind ≡ 6 → P (amend_outcome t v m)
-  unfolding amend_outcome paper_of
+  unfolding amend_outcome changeless
   amend k =
       push (ltb t.initiating (new_price_of m)) (ltb v.found 64) _
-      ∙ (λ i. cond (new-beyond-is k i) (no 36) (cond (found-named (inr k) i) (yes Open) (no 37)))
+      ∙ (λ i. cond (new-beyond-is k i) (no AboveInitiating) (cond (found-named (inr k) i) (yes Open) (no NoSuchResponse)))
       ∙ sym (simp (ne_eqb e.kind 1 (λ z. omega arith), ne_eqb e.kind 2 (λ z. omega arith), ne_eqb e.kind 3 (λ z. omega arith), ne_eqb e.kind 4 (λ z. omega arith), eq-eqb e.kind 6 k))
     where
-      push : (x y : Bool) (c : Change) → paper_of (cond x (Refuses 36) (cond y (Does c Open) (Refuses 37))) ≡ cond x (no 36) (cond y (yes Open) (no 37))
+      push : (x y : Bool) (c : Change) → changeless (cond x (refuses AboveInitiating) (cond y (does c Open) (refuses NoSuchResponse))) ≡ cond x (no AboveInitiating) (cond y (yes Open) (no NoSuchResponse))
       push true y c = refl
       push false true c = refl
       push false false c = refl
 
   own-limit : e.kind ≡ 3 → eqb e.side (own_side o) ≡ true → P (buy_limit_outcome t q m)
-  unfolding buy_limit_outcome paper_of
+  unfolding buy_limit_outcome changeless
   own-limit k d =
       push (leb (cond (is_non_routable m) q.bo q.nbo) (price_of m)) (moves q (price_of m) (is_customer m) && ltb t.initiating (bound_by t (bid_quotes q (price_of m) (is_customer m)))) (Quote (bid_quotes q (price_of m) (is_customer m)))
       ∙ (λ i. cond (crosses-is o t F.priced e f n.quoted q F.reads k d i) (yes Same) (cond (tests-bid o t F.priced e f n.quoted q F.reads k i) (yes Improve) (yes Open)))
       ∙ sym (simp (ne_eqb e.kind 1 (λ z. omega arith), ne_eqb e.kind 2 (λ z. omega arith), eq-eqb e.kind 3 k, d))
     where
-      push : (x y : Bool) (c : Change) → paper_of (cond x (Does Nothing Same) (cond y (Does Nothing Improve) (Does c Open))) ≡ cond x (yes Same) (cond y (yes Improve) (yes Open))
+      push : (x y : Bool) (c : Change) → changeless (cond x (does Nothing Same) (cond y (does Nothing Improve) (does c Open))) ≡ cond x (yes Same) (cond y (yes Improve) (yes Open))
       push true y c = refl
       push false true c = refl
       push false false c = refl
 
   other-limit : e.kind ≡ 3 → eqb e.side (own_side o) ≡ false → P (sell_limit_outcome t q v m)
-  unfolding sell_limit_outcome paper_of
+  unfolding sell_limit_outcome changeless
   other-limit k d =
       push (leb (price_of m) t.initiating) (ltb v.at 64) (leb (price_of m) (cond (is_non_routable m) q.bb q.nbb)) _
-      ∙ (λ i. cond (sym place_is i && not (room-is i)) (no 38) (cond (meets-is o t F.priced e f n.quoted q F.reads k d i) (yes Opposite) (yes Open)))
+      ∙ (λ i. cond (sym place_is i && not (room-is i)) (no BoardFull) (cond (meets-is o t F.priced e f n.quoted q F.reads k d i) (yes Opposite) (yes Open)))
       ∙ sym (simp (ne_eqb e.kind 1 (λ z. omega arith), ne_eqb e.kind 2 (λ z. omega arith), eq-eqb e.kind 3 k, d))
     where
       place_is : takes_place o e ≡ leb (price_of m) t.initiating
@@ -207,7 +216,7 @@ module _ (o : Order) (a : Auction) (n : Now) (F : Follows o a n) (e : Event) (f 
           ∙ ap (λ (x : Bool). not (eqb (buy_event x e).side 1) && leb (price_of (buy_event x e)) t.initiating) F.ours.sell
           ∙ ap (λ (x : Bool). not x && leb (price_of m) t.initiating) (limit-side (is_sell o) e k ∙ d)
 
-      push : (p r w : Bool) (c : Change) → paper_of (cond p (cond r (Does c (cond w Opposite Open)) (Refuses 38)) (Does Nothing (cond w Opposite Open))) ≡ cond (p && not r) (no 38) (cond w (yes Opposite) (yes Open))
+      push : (p r w : Bool) (c : Change) → changeless (cond p (cond r (does c (cond w Opposite Open)) (refuses BoardFull)) (does Nothing (cond w Opposite Open))) ≡ cond (p && not r) (no BoardFull) (cond w (yes Opposite) (yes Open))
       push true true true c = refl
       push true true false c = refl
       push true false w c = refl
@@ -219,30 +228,30 @@ module _ (o : Order) (a : Auction) (n : Now) (F : Follows o a n) (e : Event) (f 
   limit k = by P (eqb m.side 1) _ _ (λ d. own-limit k (sym (limit-side (is_sell o) e k) ∙ d)) (λ d. other-limit k (sym (limit-side (is_sell o) e k) ∙ d))
 
   market-order : e.kind ≡ 4 → P (market_outcome m)
-  unfolding market_outcome mirrored_market paper_of
+  unfolding market_outcome mirrored_market changeless
   market-order k =
       push (eqb m.side 1) _ ∙ ap (λ (x : Bool). cond x (yes Same) (yes Opposite)) (side-shown (is_sell o) e (ap (λ (x : Event). x.side) (mirror-four e k)))
       ∙ sym (simp (ne_eqb e.kind 1 (λ z. omega arith), ne_eqb e.kind 2 (λ z. omega arith), ne_eqb e.kind 3 (λ z. omega arith), eq-eqb e.kind 4 k))
     where
-      push : (x : Bool) (c : Change) → paper_of (cond x (Does Nothing Same) (Does c Opposite)) ≡ cond x (yes Same) (yes Opposite)
+      push : (x : Bool) (c : Change) → changeless (cond x (does Nothing Same) (does c Opposite)) ≡ cond x (yes Same) (yes Opposite)
       push true c = refl
       push false c = refl
 
   quotes : e.kind ≡ 5 → P (quotes_outcome t m)
-  unfolding quotes_outcome paper_of
+  unfolding quotes_outcome changeless
   quotes k =
       push (ltb t.initiating (bound_by t (new_quotes m))) (Quote (new_quotes m)) ∙ ap (λ (x : Bool). cond x (yes Improve) (yes Open)) (passes-is o t F.priced (brought o e) (new_quotes m) (as-brought o t F.priced e f n.quoted q F.reads k))
       ∙ sym (simp (ne_eqb e.kind 1 (λ z. omega arith), ne_eqb e.kind 2 (λ z. omega arith), ne_eqb e.kind 3 (λ z. omega arith), ne_eqb e.kind 4 (λ z. omega arith), ne_eqb e.kind 6 (λ z. omega arith)))
     where
-      push : (x : Bool) (c : Change) → paper_of (cond x (Does Nothing Improve) (Does c Open)) ≡ cond x (yes Improve) (yes Open)
+      push : (x : Bool) (c : Change) → changeless (cond x (does Nothing Improve) (does c Open)) ≡ cond x (yes Improve) (yes Open)
       push true c = refl
       push false c = refl
 
   -- ---- the quotes, kind by kind
 
   abbrev Moves : Outcome → Type 0
-  Moves (Refuses k) = Unit {0}
-  Moves (Does c g) = Reads (is_sell o) (cond (is_open g) (quoted_after o n.quoted e) n.quoted) (quotes_after a.head.quotes c)
+  Moves (Err r) = Unit {0}
+  Moves (Ok d) = Reads (is_sell o) (cond (is_open d.ending) (quoted_after o n.quoted e) n.quoted) (quotes_after a.head.quotes d.change)
 
   -- a record that does not move them
   kept : (g : Ending) → eqb e.kind 5 ≡ false → (eqb e.kind 3 && eqb e.side (own_side o)) ≡ false → Reads (is_sell o) (cond (is_open g) (quoted_after o n.quoted e) n.quoted) a.head.quotes
@@ -308,7 +317,7 @@ module _ (o : Order) (a : Auction) (n : Now) (F : Follows o a n) (e : Event) (f 
   -- ---- both
 
   Both : Outcome → Type 0
-  Both u = (paper_of u ≡ decided o n e) × Moves u
+  Both u = (changeless u ≡ decided o n e) × Moves u
 
   decided-is : Both (outcome_of t q v m)
   unfolding outcome_of Both
@@ -376,28 +385,32 @@ module _ (o : Order) (a : Auction) (n : Now) (F : Follows o a n) (e : Event) whe
   refusal_is : event_refusal a.head e ≡ refusal_of o n e
   unfolding event_refusal
   refusal_is =
-      λ i. cond (not (is_open (F.ending-is i))) 31 (cond (not (event_formed e)) 32 (cond (leb e.sequence (F.sequence-is i)) 33 (cond (ltb e.time (F.clock-is i)) 34 0)))
+      λ i. cond (not (is_open (F.ending-is i))) (Err AuctionEnded) (cond (not (event_formed e)) (Err EventOutOfForm) (cond (leb e.sequence (F.sequence-is i)) (Err SequenceTaken) (cond (ltb e.time (F.clock-is i)) (Err BeforeClock) (Ok tt))))
 
   -- what the engine's turn and the paper's answer are, by the two tests
-  turns : Bool → Bool → Turn
-  turns x y =
-      cond x
+  turns : Result (Unit {0}) Refusal → Bool → Turn
+  turns q y =
+      unless_refused a.head q
       (cond y (stays Late (ended_by_time a.head)) (carried a.head e (outcome_of a.head.terms a.head.quotes (sight_of a.board e) (buy_event a.head.terms.sell e))))
-      (stays (Refused (event_refusal a.head e)) a.head)
 
-  turn_is : (x y : Bool) → eqb (event_refusal a.head e) 0 ≡ x → leb a.head.terms.interval e.time ≡ y → turn_of a.head (sight_of a.board e) e ≡ turns x y
+  turn_is : (q : Result (Unit {0}) Refusal) (y : Bool) → event_refusal a.head e ≡ q → leb a.head.terms.interval e.time ≡ y → turn_of a.head (sight_of a.board e) e ≡ turns q y
   unfolding turn_of turns
-  turn_is x y p r = ap₂ turns p r
+  turn_is q y p r = ap₂ turns p r
 
-  answer-is : (x y : Bool) → eqb (event_refusal a.head e) 0 ≡ x → leb a.head.terms.interval e.time ≡ y → answer_to o n e ≡ cond x (cond y Late (answer_of (decided o n e))) (Refused (refusal_of o n e))
-  answer-is x y p r =
-      ap₂ (λ (c d : Bool). cond c (cond d Late (answer_of (decided o n e))) (Refused (refusal_of o n e)))
-      (sym (ap (λ (k : ℕ). eqb k 0) refusal_is) ∙ p) (sym (ap (λ (k : ℕ). leb k e.time) F.interval-is) ∙ r)
+  late-is : (y : Bool) → leb a.head.terms.interval e.time ≡ y → leb o.interval e.time ≡ y
+  late-is y r = sym (ap (λ (k : ℕ). leb k e.time) F.interval-is) ∙ r
 
-  after_is : (x y : Bool) → eqb (event_refusal a.head e) 0 ≡ x → leb a.head.terms.interval e.time ≡ y → after o n e ≡ cond x (cond y (by_time n) (leaves o n e (decided o n e))) n
-  after_is x y p r =
-      ap₂ (λ (c d : Bool). cond c (cond d (by_time n) (leaves o n e (decided o n e))) n)
-      (sym (ap (λ (k : ℕ). eqb k 0) refusal_is) ∙ p) (sym (ap (λ (k : ℕ). leb k e.time) F.interval-is) ∙ r)
+  refused-answer : (x : Refusal) → event_refusal a.head e ≡ Err x → answer_to o n e ≡ Refused x
+  refused-answer x p = ap (answer_by o n e) (sym refusal_is ∙ p)
+
+  refused-after : (x : Refusal) → event_refusal a.head e ≡ Err x → after o n e ≡ n
+  refused-after x p = ap (after_by o n e) (sym refusal_is ∙ p)
+
+  served-answer : (u : Unit {0}) (y : Bool) → event_refusal a.head e ≡ Ok u → leb a.head.terms.interval e.time ≡ y → answer_to o n e ≡ cond y Late (answer_of (decided o n e))
+  served-answer u y p r = ap (answer_by o n e) (sym refusal_is ∙ p) ∙ ap (λ (d : Bool). cond d Late (answer_of (decided o n e))) (late-is y r)
+
+  served-after : (u : Unit {0}) (y : Bool) → event_refusal a.head e ≡ Ok u → leb a.head.terms.interval e.time ≡ y → after o n e ≡ cond y (by_time n) (leaves o n e (decided o n e))
+  served-after u y p r = ap (after_by o n e) (sym refusal_is ∙ p) ∙ ap (λ (d : Bool). cond d (by_time n) (leaves o n e (decided o n e))) (late-is y r)
 
   -- from the turn and what the paper leaves
   goes : (u : Turn) (x : Answer) (k : Now) → turn_of a.head (sight_of a.board e) e ≡ u → answer_to o n e ≡ x → after o n e ≡ k → u.answer ≡ x → Follows o (seated_on a.board u).auction k → Goes
@@ -411,16 +424,19 @@ module _ (o : Order) (a : Auction) (n : Now) (F : Follows o a n) (e : Event) whe
   sound-turn u p = subst (λ (w : Turn). Sound (seated_on a.board w).auction) p (sound-step a e F.sound)
 
   -- what is decided, carried out
-  done : (f : event_formed e ≡ true) (u : Outcome) → turn_of a.head (sight_of a.board e) e ≡ carried a.head e u → paper_of u ≡ decided o n e → Moves o a n F e f u
+  done : (f : event_formed e ≡ true) (u : Outcome) → turn_of a.head (sight_of a.board e) e ≡ carried a.head e u → changeless u ≡ decided o n e → Moves o a n F e f u
       → answer_to o n e ≡ answer_of (decided o n e) → after o n e ≡ leaves o n e (decided o n e) → Goes
-  unfolding paper_of head_after
-  done f (Refuses k) p d b r s = goes (stays (Refused k) a.head) (Refused k) n p (r ∙ ap answer_of (sym d)) (s ∙ ap (leaves o n e) (sym d)) refl F
-  done f (Does c g) p d b r s =
+  unfolding changeless head_after
+  done f (Err k) p d b r s = goes (stays (Refused k) a.head) (Refused k) n p (r ∙ ap answer_of (sym d)) (s ∙ ap (leaves o n e) (sym d)) refl F
+  done f (Ok x) p d b r s =
       record {
         answer = ap (λ (w : Turn). w.answer) p ∙ ap answer_of d ∙ sym r;
         follows = subst (Follows o (step_of a e).auction) (sym (s ∙ ap (leaves o n e) (sym d))) next;
       }
     where
+      g : Ending
+      g = x.ending
+
       taken : is_taken (step_of a e).answer ≡ true
       taken = ap (λ (w : Turn). is_taken w.answer) p ∙ taken-any (is_open g)
 
@@ -441,19 +457,19 @@ module _ (o : Order) (a : Auction) (n : Now) (F : Follows o a n) (e : Event) whe
 
   step : Goes
   unfolding turns Both
-  step = go (eqb (event_refusal a.head e) 0) refl (leb a.head.terms.interval e.time) refl
+  step = go (event_refusal a.head e) refl (leb a.head.terms.interval e.time) refl
     where
-      go : (x : Bool) → eqb (event_refusal a.head e) 0 ≡ x → (y : Bool) → leb a.head.terms.interval e.time ≡ y → Goes
-      go false p y r = goes (stays (Refused (event_refusal a.head e)) a.head) (Refused (refusal_of o n e)) n (turn_is false y p r) (answer-is false y p r) (after_is false y p r) (ap Refused refusal_is) F
-      go true p true r =
-          goes (stays Late (ended_by_time a.head)) Late (by_time n) (turn_is true true p r) (answer-is true true p r) (after_is true true p r) refl
-          (timed o a n F (sound-turn (stays Late (ended_by_time a.head)) (turn_is true true p r)))
-      go true p false r =
-          let f : event_formed e ≡ true = formed a.head e p in
+      go : (q : Result (Unit {0}) Refusal) → event_refusal a.head e ≡ q → (y : Bool) → leb a.head.terms.interval e.time ≡ y → Goes
+      go (Err x) p y r = goes (stays (Refused x) a.head) (Refused x) n (turn_is (Err x) y p r) (refused-answer x p) (refused-after x p) refl F
+      go (Ok u) p true r =
+          goes (stays Late (ended_by_time a.head)) Late (by_time n) (turn_is (Ok u) true p r) (served-answer u true p r) (served-after u true p r) refl
+          (timed o a n F (sound-turn (stays Late (ended_by_time a.head)) (turn_is (Ok u) true p r)))
+      go (Ok u) p false r =
+          let f : event_formed e ≡ true = formed a.head e u p in
           let b = decided-is o a n F e f in
           let same = ap (λ (s : Bool). carried a.head e (outcome_of a.head.terms a.head.quotes (sight_of a.board e) (buy_event s e))) F.ours.sell in
-          done f (outcome_of a.head.terms a.head.quotes (sight_of a.board e) (buy_event (is_sell o) e)) (turn_is true false p r ∙ same) b.0 b.1
-          (answer-is true false p r) (after_is true false p r)
+          done f (outcome_of a.head.terms a.head.quotes (sight_of a.board e) (buy_event (is_sell o) e)) (turn_is (Ok u) false p r ∙ same) b.0 b.1
+          (served-answer u false p r) (served-after u false p r)
 
 -- ---- a run, from its opening to its end
 
@@ -482,14 +498,14 @@ follows-watch o (e ∷ es) a n F =
     (follows-watch o es (step_of a e).auction (after o n e) g.follows)
 
 -- closing by hand
-close-turn : (h : Head) (b : Bool) → is_open h.ending ≡ b → close_turn h ≡ cond b (stays Late (ended_by_time h)) (stays (Refused 31) h)
+close-turn : (h : Head) (b : Bool) → is_open h.ending ≡ b → close_turn h ≡ cond b (stays Late (ended_by_time h)) (stays (Refused AuctionEnded) h)
 unfolding close_turn
-close-turn h b z = ap (λ (x : Bool). cond x (stays Late (ended_by_time h)) (stays (Refused 31) h)) z
+close-turn h b z = ap (λ (x : Bool). cond x (stays Late (ended_by_time h)) (stays (Refused AuctionEnded) h)) z
 
 follows-close : (o : Order) (a : Auction) (n : Now) → Follows o a n → Follows o (closed a) (cond (is_open n.ending) (by_time n) n)
 follows-close o a n F = go (is_open a.head.ending) refl
   where
-    base : (b : Bool) → is_open a.head.ending ≡ b → Follows o (seated_on a.board (cond b (stays Late (ended_by_time a.head)) (stays (Refused 31) a.head))).auction (cond b (by_time n) n)
+    base : (b : Bool) → is_open a.head.ending ≡ b → Follows o (seated_on a.board (cond b (stays Late (ended_by_time a.head)) (stays (Refused AuctionEnded) a.head))).auction (cond b (by_time n) n)
     base true z = timed o a n F (subst (λ (w : Turn). Sound (seated_on a.board w).auction) (close-turn a.head true z) (sound-close a F.sound))
     base false z = F
 

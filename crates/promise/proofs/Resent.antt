@@ -5,6 +5,8 @@ use mathlib.Core.List.{List, [], ◌∷◌, ◌++◌}
 use Prim.Native.Nat.{ℕ, ◌≤◌, ◌<◌}
 use native.Mathlib.Nat.{le_trans}
 use native.Mathlib.Omega.{arith}
+use Rattle.base.specs.declared.refusal.Refusal.{Refusal}
+use Rattle.base.specs.declared.refusal.Refusal.TheVariants.{AuctionEnded, EventOutOfForm, SequenceTaken}
 use Rattle.base.specs.Lists.{In, Every, keep, filter}
 use Rattle.base.proofs.Bools.{by}
 use Rattle.base.proofs.ListLaws.{every_in}
@@ -62,18 +64,18 @@ taken-below (e ∷ es) a = go (is_taken (step_of a e).answer) refl (taken-below 
 -- ---- a record with the sequence of one that was taken, or a lower one
 
 pub refused : (a : Auction) (before : List Event) (e f : Event) → In e (taken_of a before) → f.sequence ≤ e.sequence
-    → step_of (run a before) f ≡ gives (Refused (cond (is_open (run a before).head.ending) (cond (event_formed f) 33 32) 31)) (run a before)
+    → step_of (run a before) f ≡ gives (Refused (cond (is_open (run a before).head.ending) (cond (event_formed f) SequenceTaken EventOutOfForm) AuctionEnded)) (run a before)
 refused a before e f i h = old-refused (sight_of (run a before).board f) (run a before) f (le_trans h (every_in (λ e. e.sequence ≤ (run a before).head.sequence) (taken_of a before) e (taken-below before a) i))
 
 -- a record that is refused where it is put in is not among those that are not
-refused-out : (before : List Event) (f : Event) (rest : List Event) (a : Auction) (n : ℕ) → step_of (run a before) f ≡ gives (Refused n) (run a before) → not_refused a (before ++ (f ∷ rest)) ≡ not_refused a (before ++ rest)
-refused-out [] f rest a n z = ap (λ (p : Stepped). keep (not (is_refused p.answer)) f (not_refused p.auction rest)) z
-refused-out (e ∷ before) f rest a n z = ap (keep (not (is_refused (step_of a e).answer)) e) (refused-out before f rest (step_of a e).auction n z)
+refused-out : (before : List Event) (f : Event) (rest : List Event) (a : Auction) (r : Refusal) → step_of (run a before) f ≡ gives (Refused r) (run a before) → not_refused a (before ++ (f ∷ rest)) ≡ not_refused a (before ++ rest)
+refused-out [] f rest a r z = ap (λ (p : Stepped). keep (not (is_refused p.answer)) f (not_refused p.auction rest)) z
+refused-out (e ∷ before) f rest a r z = ap (keep (not (is_refused (step_of a e).answer)) e) (refused-out before f rest (step_of a e).auction r z)
 
 pub same-records : (a : Auction) (es fs : List Event) → WithResent a es fs → not_refused a fs ≡ not_refused a es
 same-records a es fs none = refl
 same-records a es fs (more before e f rest i h r) = refused-out before f rest a _ (refused a before e f i h) ∙ same-records a es (before ++ rest) r
-same-records a es fs (past_end before f rest z r) = refused-out before f rest a 31 (keeps.ended (sight_of (run a before).board f) (run a before) f z) ∙ same-records a es (before ++ rest) r
+same-records a es fs (past_end before f rest z r) = refused-out before f rest a AuctionEnded (keeps.ended (sight_of (run a before).board f) (run a before) f z) ∙ same-records a es (before ++ rest) r
 
 -- so the auction comes out the same
 pub resends : (s t : List ℕ) (o : Order) (es fs : List Event) → Carries s o es → Carries t o fs → WithResent (auction_of o) es fs → end_of t ≡ end_of s

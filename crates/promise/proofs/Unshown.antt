@@ -6,9 +6,10 @@ use Prim.Native.Nat.{ℕ, zero, suc, ◌+◌, ◌-◌, ◌/◌, ◌%◌, min}
 use lib.Dec.{leb, ltb, eqb}
 use lib.ListN.{length, set, length-map, get_or-map}
 use Rattle.auction.proofs.Accepted.{opened}
-use Rattle.base.specs.declared.refusal.Refusal.{Refusal}
 use Rattle.std.specs.Prelude.{Err, Ok, Result}
 use Rattle.base.specs.Lists.{keep, filter, sum}
+use Rattle.base.specs.declared.refusal.Refusal.{Refusal}
+use Rattle.base.specs.declared.refusal.Refusal.TheVariants.{NoSuchResponse, BoardFull}
 use Rattle.base.proofs.Bools.{by}
 use Rattle.words.specs.rules.Bits.{with_bit}
 use Rattle.board.specs.declared.Response.{Response}
@@ -36,12 +37,10 @@ use Rattle.auction.specs.declared.Ending.TheVariants.{Open}
 use Rattle.decision.specs.declared.Sight.{Sight}
 use Rattle.decision.specs.declared.Change.{Change}
 use Rattle.decision.specs.declared.Change.TheVariants.{Nothing, Seat, Free, Quote, Sell}
-use Rattle.decision.specs.declared.Outcome.{Outcome}
-use Rattle.decision.specs.declared.Outcome.TheVariants.{Refuses, Does}
-use Rattle.decision.specs.rules.Decide.{is_cancel, is_amend, is_customer, is_non_routable, response_of, seats, amended_by, gtx_outcome, cancel_outcome, amend_outcome, sell_limit_outcome, bid_quotes, moves, buy_limit_outcome, limit_outcome, market_outcome, new_quotes, quotes_outcome, outcome_of}
+use Rattle.decision.specs.rules.Decide.{Outcome, does, is_cancel, is_amend, is_customer, is_non_routable, response_of, seats, amended_by, gtx_outcome, cancel_outcome, amend_outcome, sell_limit_outcome, bid_quotes, moves, buy_limit_outcome, limit_outcome, market_outcome, new_quotes, quotes_outcome, outcome_of}
 use Rattle.events.specs.declared.Turn.{Turn}
 use Rattle.events.specs.declared.Stepped.{Stepped}
-use Rattle.events.specs.rules.Step.{event_refusal, found_for, sight_of, board_after, head_after, carried, turn_of, close_turn, gives, seated_on, step_of}
+use Rattle.events.specs.rules.Step.{event_refusal, found_for, sight_of, board_after, head_after, unless_refused, carried, turn_of, close_turn, gives, seated_on, step_of}
 use Rattle.fills.specs.rules.Fills.{deal_of, auction_fills}
 use Rattle.run.specs.rules.Run.{Said, said, run, heard, closed, played, run_entry}
 use Rattle.listing.specs.rules.Listing.{auction_line, event_lines, end_line, fill_lines, total_line, end_lines, lines_of, listing_of}
@@ -71,8 +70,8 @@ bare_change (Quote q) = Quote q
 bare_change (Sell m) = Sell m
 
 abbrev bare_outcome : Outcome → Outcome
-bare_outcome (Refuses n) = Refuses n
-bare_outcome (Does c ending) = Does (bare_change c) ending
+bare_outcome (Err r) = Err r
+bare_outcome (Ok d) = does (bare_change d.change) d.ending
 
 abbrev bare_turn : Turn → Turn
 bare_turn t = record { answer = t.answer; head = t.head; change = bare_change t.change }
@@ -85,6 +84,10 @@ record Is {A : Type 0} (f : A → A) (u x : A) : Type 0 where
 each : {A : Type 0} {f : A → A} (b : Bool) {x y u v : A} → Is f u x → Is f v y → Is f (cond b u v) (cond b x y)
 each true p q = p
 each false p q = q
+
+unless-bare : (h : Head) (q : Result (Unit {0}) Refusal) {t u : Turn} → Is bare_turn t u → Is bare_turn (unless_refused h q t) (unless_refused h q u)
+unless-bare h (Err r) k = record { same = refl }
+unless-bare h (Ok x) k = k
 
 -- ---- the form of an event, and its mirror
 
@@ -108,8 +111,8 @@ buy-bare sell e = each sell (mirrored-bare e) (record { same = refl })
 
 -- ---- what is decided
 
-seats-bare : (place : ℕ) (r : Response) (gone : ℕ) (ending : Ending) (n : ℕ) → Is bare_outcome (seats place (bare r) gone ending n) (seats place r gone ending n)
-seats-bare place r gone ending n = each (ltb place 64) (record { same = refl }) (record { same = refl })
+seats-bare : (place : ℕ) (r : Response) (gone : ℕ) (ending : Ending) (none : Refusal) → Is bare_outcome (seats place (bare r) gone ending none) (seats place r gone ending none)
+seats-bare place r gone ending none = each (ltb place 64) (record { same = refl }) (record { same = refl })
 
 module _ (t : Terms) (q : Quotes) (s : Sight) (e : Event) where
   gtx-bare : Is bare_outcome (gtx_outcome t (bare_sight s) (unnamed e)) (gtx_outcome t s e)
@@ -117,7 +120,7 @@ module _ (t : Terms) (q : Quotes) (s : Sight) (e : Event) where
   gtx-bare =
       each (eqb e.side 1) (record { same = refl })
       (each (ltb t.initiating e.f16) (record { same = refl })
-      (seats-bare s.at (response_of true (min (size_of e) t.size) e) 0 Open 38))
+      (seats-bare s.at (response_of true (min (size_of e) t.size) e) 0 Open BoardFull))
 
   cancel-bare : Is bare_outcome (cancel_outcome (bare_sight s)) (cancel_outcome s)
   unfolding cancel_outcome
@@ -125,11 +128,11 @@ module _ (t : Terms) (q : Quotes) (s : Sight) (e : Event) where
 
   amend-bare : Is bare_outcome (amend_outcome t (bare_sight s) (unnamed e)) (amend_outcome t s e)
   unfolding amend_outcome
-  amend-bare = each (ltb t.initiating e.f20) (record { same = refl }) (seats-bare s.found (amended_by t s.old e) s.old.size Open 37)
+  amend-bare = each (ltb t.initiating e.f20) (record { same = refl }) (seats-bare s.found (amended_by t s.old e) s.old.size Open NoSuchResponse)
 
   sell-bare : Is bare_outcome (sell_limit_outcome t q (bare_sight s) (unnamed e)) (sell_limit_outcome t q s e)
   unfolding sell_limit_outcome
-  sell-bare = each (leb e.f16 t.initiating) (seats-bare s.at (response_of false (size_of e) e) 0 _ 38) (record { same = refl })
+  sell-bare = each (leb e.f16 t.initiating) (seats-bare s.at (response_of false (size_of e) e) 0 _ BoardFull) (record { same = refl })
 
   buy-limit-bare : Is bare_outcome (buy_limit_outcome t q (unnamed e)) (buy_limit_outcome t q e)
   unfolding buy_limit_outcome
@@ -164,12 +167,15 @@ module _ (t : Terms) (q : Quotes) (s : Sight) (e : Event) where
 module _ (h : Head) (s : Sight) (e : Event) where
   carried-bare : (o : Outcome) → carried h (unnamed e) (bare_outcome o) ≡ bare_turn (carried h e o)
   unfolding head_after
-  carried-bare (Refuses n) = refl
-  carried-bare (Does Nothing g) = refl
-  carried-bare (Does (Seat i r gone) g) = refl
-  carried-bare (Does (Free i gone) g) = refl
-  carried-bare (Does (Quote q) g) = refl
-  carried-bare (Does (Sell m) g) = refl
+  carried-bare (Err r) = refl
+  carried-bare (Ok d) = go d.change d.ending
+    where
+      go : (c : Change) (g : Ending) → carried h (unnamed e) (does (bare_change c) g) ≡ bare_turn (carried h e (does c g))
+      go Nothing g = refl
+      go (Seat i r gone) g = refl
+      go (Free i gone) g = refl
+      go (Quote q) g = refl
+      go (Sell m) g = refl
 
   decided-bare : outcome_of h.terms h.quotes (bare_sight s) (buy_event h.terms.sell (unnamed e)) ≡ bare_outcome (outcome_of h.terms h.quotes s (buy_event h.terms.sell e))
   decided-bare =
@@ -182,9 +188,7 @@ module _ (h : Head) (s : Sight) (e : Event) where
   turn-bare : Is bare_turn (turn_of h (bare_sight s) (unnamed e)) (turn_of h s e)
   unfolding turn_of event_refusal event_formed shape_tests
   turn-bare =
-      each (eqb (event_refusal h e) 0)
-      (each (leb h.terms.interval e.time) (record { same = refl }) taken-bare)
-      (record { same = refl })
+      unless-bare h (event_refusal h e) (each (leb h.terms.interval e.time) (record { same = refl }) taken-bare)
 
 -- ---- the board
 

@@ -10,6 +10,9 @@ use borrow.Author.Tests.{eq-eqb, ne_eqb, eqb-true, eqb-false, le-ltb, lt-leb}
 use Rattle.words.specs.rules.Bits.{bit_at}
 use Rattle.words.proofs.BitLaws.{without_other}
 use Rattle.base.specs.Lists.{Every, Inserts}
+use Rattle.base.specs.Refusal.{number_of}
+use Rattle.base.specs.declared.refusal.Refusal.{Refusal}
+use Rattle.base.specs.declared.refusal.Refusal.TheVariants.{OwnSide, AboveInitiating, NoSuchResponse, BoardFull}
 use Rattle.base.specs.Lists.Inserts.{here, there}
 use Rattle.base.proofs.Bools.{by, no}
 use Rattle.base.proofs.ListLaws.{every-inserts}
@@ -29,11 +32,9 @@ use Rattle.auction.specs.declared.Ending.TheVariants.{Open}
 use Rattle.events.specs.declared.Answer.{Answer}
 use Rattle.events.specs.declared.Answer.TheVariants.{Taken, Ended, Refused}
 use Rattle.decision.specs.declared.Change.TheVariants.{Seat}
-use Rattle.decision.specs.declared.Outcome.{Outcome}
-use Rattle.decision.specs.declared.Outcome.TheVariants.{Does}
 use Rattle.decision.specs.declared.Sight.{Sight}
 use Rattle.events.specs.declared.Stepped.{Stepped}
-use Rattle.decision.specs.rules.Decide.{is_amend, amended_by, amend_outcome, cancel_outcome, outcome_of}
+use Rattle.decision.specs.rules.Decide.{is_amend, amended_by, amend_outcome, cancel_outcome, Outcome, does as outcome, outcome_of}
 use Rattle.events.specs.rules.Step.{sight_of, event_refusal, head_after, carried, turn_of, seated_on, step_by}
 use Rattle.run.specs.rules.Run.{is_taken}
 use Rattle.run.specs.promises.Demands.{Stands, Sound, Ordinary, InTime, Names, named_place, is_above, SeesNamed, NewFor, Amended, Amends}
@@ -58,10 +59,10 @@ sees_named a e k = record { found = found-is a.board e k; old = ap (response_at 
 
 -- not 35, not 38, and not ended
 abbrev None : Answer → Type 0
-None r = (r ≡ Refused 35 → ⊥) × (r ≡ Refused 38 → ⊥) × (r ≡ Ended → ⊥)
+None x = (x ≡ Refused OwnSide → ⊥) × (x ≡ Refused BoardFull → ⊥) × (x ≡ Ended → ⊥)
 
-none : (n : ℕ) → (n ≡ 35 → ⊥) → (n ≡ 38 → ⊥) → None (Refused n)
-none n p q = (λ z. p cc, λ z. q cc, λ z. no cc)
+none : (r : Refusal) → (number_of r ≡ 35 → ⊥) → (number_of r ≡ 38 → ⊥) → None (Refused r)
+none r p q = (λ z. let k : r ≡ OwnSide = cc in p (ap number_of k), λ z. let k : r ≡ BoardFull = cc in q (ap number_of k), λ z. no cc)
 
 module _ (s : Sight) (a : Auction) (e : Event) where
   abbrev m : Event
@@ -85,20 +86,20 @@ module _ (s : Sight) (a : Auction) (e : Event) where
 
   -- ---- what an amend is answered
 
-  amend-step : e.kind ≡ 6 → InTime a.head e → (step_by s a e).answer ≡ cond (is_above a e) (Refused 36) (cond (ltb s.found 64) Taken (Refused 37))
+  amend-step : e.kind ≡ 6 → InTime a.head e → (step_by s a e).answer ≡ cond (is_above a e) (Refused AboveInitiating) (cond (ltb s.found 64) Taken (Refused NoSuchResponse))
   unfolding amend_outcome
   amend-step k t = ap (λ (p : Stepped). p.answer) (in-time t) ∙ ap (λ (u : Outcome). (carried a.head e u).answer) (amend-is k) ∙ go (is_above a e) (ltb s.found 64) refl refl
     where
-      go : (x y : Bool) → is_above a e ≡ x → ltb s.found 64 ≡ y → (carried a.head e (amend_outcome a.head.terms s m)).answer ≡ cond x (Refused 36) (cond y Taken (Refused 37))
+      go : (x y : Bool) → is_above a e ≡ x → ltb s.found 64 ≡ y → (carried a.head e (amend_outcome a.head.terms s m)).answer ≡ cond x (Refused AboveInitiating) (cond y Taken (Refused NoSuchResponse))
       go true y p q = simp p
       go false true p q = simp (p, q)
       go false false p q = simp (p, q)
 
-  cancel-step : e.kind ≡ 2 → InTime a.head e → (step_by s a e).answer ≡ cond (ltb s.found 64) Taken (Refused 37)
+  cancel-step : e.kind ≡ 2 → InTime a.head e → (step_by s a e).answer ≡ cond (ltb s.found 64) Taken (Refused NoSuchResponse)
   unfolding cancel_outcome
   cancel-step k t = ap (λ (p : Stepped). p.answer) (in-time t) ∙ ap (λ (u : Outcome). (carried a.head e u).answer) (cancel-is k) ∙ go (ltb s.found 64) refl
     where
-      go : (y : Bool) → ltb s.found 64 ≡ y → (carried a.head e (cancel_outcome s)).answer ≡ cond y Taken (Refused 37)
+      go : (y : Bool) → ltb s.found 64 ≡ y → (carried a.head e (cancel_outcome s)).answer ≡ cond y Taken (Refused NoSuchResponse)
       go true q = simp q
       go false q = simp q
 
@@ -112,8 +113,8 @@ module _ (s : Sight) (a : Auction) (e : Event) where
       in-time-none : InTime a.head e → None (step_by s a e).answer
       in-time-none t =
           subst None (sym (amend-step k t))
-          (by None (is_above a e) _ _ (λ _. none 36 (λ z. omega arith) (λ z. omega arith)) (λ _.
-          by None (ltb s.found 64) _ _ (λ _. (λ z. no cc, λ z. no cc, λ z. no cc)) (λ _. none 37 (λ z. omega arith) (λ z. omega arith))))
+          (by None (is_above a e) _ _ (λ _. none AboveInitiating (λ z. omega arith) (λ z. omega arith)) (λ _.
+          by None (ltb s.found 64) _ _ (λ _. (λ z. no cc, λ z. no cc, λ z. no cc)) (λ _. none NoSuchResponse (λ z. omega arith) (λ z. omega arith))))
 
 -- ---- an amend that is taken
 
@@ -221,10 +222,10 @@ does v a e s k6 sees =
     made-for : NewFor a.head.terms (response_at a.board.places (named_place a e)) e r
     made-for = record { sequence = buy-sequence e sell; size = ap (λ (n : ℕ). min n a.head.terms.size) (amend-size e sell k6); price = refl; participant = buy-participant e sell; customer = refl; gtx = refl }
 
-    amended : Ordinary a.head e → v.found < 64 → Amended a e (seated_on a.board (carried a.head e (Does (Seat v.found (amended_by a.head.terms v.old (buy_event sell e)) v.old.size) Open))).auction
+    amended : Ordinary a.head e → v.found < 64 → Amended a e (seated_on a.board (carried a.head e (outcome (Seat v.found (amended_by a.head.terms v.old (buy_event sell e)) v.old.size) Open))).auction
     amended o f =
-        subst (λ (i : ℕ). Amended a e (seated_on a.board (carried a.head e (Does (Seat i (amended_by a.head.terms v.old (buy_event sell e)) v.old.size) Open))).auction) (sym sees.found)
-        (subst (λ (x : Response). Amended a e (seated_on a.board (carried a.head e (Does (Seat (named_place a e) (amended_by a.head.terms x (buy_event sell e)) x.size) Open))).auction) (sym sees.old)
+        subst (λ (i : ℕ). Amended a e (seated_on a.board (carried a.head e (outcome (Seat i (amended_by a.head.terms v.old (buy_event sell e)) v.old.size) Open))).auction) (sym sees.found)
+        (subst (λ (x : Response). Amended a e (seated_on a.board (carried a.head e (outcome (Seat (named_place a e) (amended_by a.head.terms x (buy_event sell e)) x.size) Open))).auction) (sym sees.old)
         (record {
           named = at a e s newer found r made-for.sequence refl;
           stands = subst (NewFor a.head.terms (response_at a.board.places (named_place a e)) e) (sym (made a e s newer found r made-for.sequence refl).stands) made-for;
@@ -257,7 +258,7 @@ amends =
     record {
       sees_named = sees_named;
       does = does;
-      answers = λ s a e k n t. amend-step s a e k t ∙ ap (λ (i : ℕ). cond (is_above a e) (Refused 36) (cond (ltb i 64) Taken (Refused 37))) n.found;
+      answers = λ s a e k n t. amend-step s a e k t ∙ ap (λ (i : ℕ). cond (is_above a e) (Refused AboveInitiating) (cond (ltb i 64) Taken (Refused NoSuchResponse))) n.found;
       never = never;
-      cancel-answers = λ s a e k n t. cancel-step s a e k t ∙ ap (λ (i : ℕ). cond (ltb i 64) Taken (Refused 37)) n.found;
+      cancel-answers = λ s a e k n t. cancel-step s a e k t ∙ ap (λ (i : ℕ). cond (ltb i 64) Taken (Refused NoSuchResponse)) n.found;
     }

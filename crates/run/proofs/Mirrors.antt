@@ -9,6 +9,7 @@ use Rattle.std.specs.Prelude.{Result, Ok, Err}
 use Rattle.std.specs.Result.{result_and, result_map_both}
 use Rattle.base.specs.declared.refusal.Refusal.{Refusal}
 use Rattle.base.specs.Lists.{Every}
+use Rattle.base.specs.declared.refusal.Refusal.TheVariants.{AuctionEnded, EventOutOfForm}
 use Rattle.base.proofs.Bools.{by, no}
 use Rattle.base.proofs.Numbers.{mirror-twice}
 use Rattle.board.specs.rules.Board.{response_at, first_free, find_gtx}
@@ -28,8 +29,8 @@ use Rattle.base.specs.Price.{mirrored}
 use Rattle.mirror.specs.rules.Mirror.{mirrored_order, mirrored_event, buy_order, buy_event}
 use Rattle.auction.specs.rules.Accept.{order_refusal, terms_of, opened_by, auction_of, accept_of, Accepts}
 use Rattle.auction.specs.rules.Range.{is_open, bound_now, range_of}
-use Rattle.events.specs.rules.Step.{found_for, sight_of, event_refusal, stays, ended_by_time, head_after, board_after, carried, turn_of, close_turn, seated_on, step_by, step_of, close_of}
-use Rattle.decision.specs.rules.Decide.{is_cancel, is_amend, gtx_outcome, cancel_outcome, amend_outcome, sell_limit_outcome, buy_limit_outcome, limit_outcome, market_outcome, quotes_outcome, outcome_of}
+use Rattle.events.specs.rules.Step.{found_for, sight_of, event_refusal, stays, ended_by_time, head_after, board_after, unless_refused, carried, turn_of, close_turn, seated_on, step_by, step_of, close_of}
+use Rattle.decision.specs.rules.Decide.{is_cancel, is_amend, gtx_outcome, cancel_outcome, amend_outcome, sell_limit_outcome, buy_limit_outcome, limit_outcome, market_outcome, quotes_outcome, Outcome, outcome_of}
 use Rattle.fills.specs.rules.Fills.{deal_of, auction_fills}
 use Rattle.run.specs.rules.Run.{run, Said, said, heard, closed, played}
 use Rattle.run.specs.promises.Demands.{flipped_terms, flipped_head, flipped, mirrored_record, mirrored_records, mirrored_fills, mirrored_range, Sound, Mirrors}
@@ -43,8 +44,6 @@ use Rattle.events.specs.declared.Answer.{Answer}
 use Rattle.decision.specs.declared.Sight.{Sight}
 use Rattle.events.specs.declared.Turn.{Turn}
 use Rattle.decision.specs.declared.Change.{Change}
-use Rattle.decision.specs.declared.Outcome.{Outcome}
-use Rattle.decision.specs.declared.Outcome.TheVariants.{Refuses, Does}
 use Rattle.mirror.proofs.EventLaws.{mirror-sequence, mirror-time, mirror-kind, mirror-name}
 use Rattle.run.proofs.StepLaws.{names-is}
 use Rattle.tape.specs.rules.Fields.{name_of}
@@ -94,6 +93,13 @@ record Alike (x y : Turn) : Type 0 where
   head : x.head ≡ flipped_head y.head
   change : x.change ≡ y.change
 
+unless-alike : (h : Head) (p q : Result (Unit {0}) Refusal) (t u : Turn) → p ≡ q → Alike t u → Alike (unless_refused (flipped_head h) p t) (unless_refused h q u)
+unless-alike h p q t u z k = subst (λ (x : Result (Unit {0}) Refusal). Alike (unless_refused (flipped_head h) x t) (unless_refused h q u)) (sym z) (go q)
+  where
+    go : (x : Result (Unit {0}) Refusal) → Alike (unless_refused (flipped_head h) x t) (unless_refused h x u)
+    go (Err r) = record { answer = refl; head = refl; change = refl }
+    go (Ok u) = k
+
 alike-by : (b c : Bool) (x y u v : Turn) → b ≡ c → Alike x u → Alike y v → Alike (cond b x y) (cond c u v)
 alike-by true true x y u v h p q = p
 alike-by false false x y u v h p q = q
@@ -142,30 +148,30 @@ module _ (h : Head) (v : Sight) (e : Event) where
 
     carried_same : (u : Outcome) → Alike (carried (flipped_head h) (mirrored_event e) u) (carried h e u)
     unfolding head_after
-    carried_same (Refuses n) = record { answer = refl; head = refl; change = refl }
-    carried_same (Does c g) = record { answer = refl; head = simp (mirror-sequence e, mirror-time e); change = refl }
+    carried_same (Err r) = record { answer = refl; head = refl; change = refl }
+    carried_same (Ok d) = record { answer = refl; head = simp (mirror-sequence e, mirror-time e); change = refl }
 
-    number_same : event_refusal (flipped_head h) (mirrored_event e) ≡ event_refusal h e
+    refusal_same : event_refusal (flipped_head h) (mirrored_event e) ≡ event_refusal h e
     unfolding event_refusal
-    number_same = simp (f, event-form e f, mirror-sequence e, mirror-time e)
+    refusal_same = simp (f, event-form e f, mirror-sequence e, mirror-time e)
 
     turn-formed : Alike (turn_of (flipped_head h) v (mirrored_event e)) (turn_of h v e)
     unfolding turn_of decided
     turn-formed =
-        alike-by _ _ _ _ _ _ (ap (λ (n : ℕ). eqb n 0) number_same)
+        unless-alike h _ _ _ _ refusal_same
         (alike-by _ _ _ _ _ _ (ap (leb h.terms.interval) (mirror-time e)) (late-same h)
         (subst (λ (u : Outcome). Alike (carried (flipped_head h) (mirrored_event e) u) (carried h e decided)) (sym outcome-same) (carried_same decided)))
-        (subst (λ (n : ℕ). Alike (stays (No n) (flipped_head h)) (stays (No (event_refusal h e)) h)) (sym number_same) (stays_same (No (event_refusal h e)) h))
 
   -- a record out of form is refused, whatever the side
   turn-unformed : event_formed e ≡ false → Alike (turn_of (flipped_head h) v e) (turn_of h v e)
   unfolding turn_of event_refusal
   turn-unformed f = rw f (go (is_open h.ending))
     where
-      go : (b : Bool) → Alike (cond (eqb (cond (not b) 31 32) 0) (cond (leb h.terms.interval e.time) (stays Late (ended_by_time (flipped_head h))) (carried (flipped_head h) e (outcome_of (flipped_terms h.terms) h.quotes v (buy_event (cond s false true) e)))) (stays (No (cond (not b) 31 32)) (flipped_head h)))
-          (cond (eqb (cond (not b) 31 32) 0) (cond (leb h.terms.interval e.time) (stays Late (ended_by_time h)) (carried h e (outcome_of h.terms h.quotes v (buy_event s e)))) (stays (No (cond (not b) 31 32)) h))
-      go true = stays_same (No 32) h
-      go false = stays_same (No 31) h
+      go : (b : Bool)
+          → Alike (unless_refused (flipped_head h) (cond (not b) (Err AuctionEnded) (Err EventOutOfForm)) (cond (leb h.terms.interval e.time) (stays Late (ended_by_time (flipped_head h))) (carried (flipped_head h) e (outcome_of (flipped_terms h.terms) h.quotes v (buy_event (cond s false true) e)))))
+          (unless_refused h (cond (not b) (Err AuctionEnded) (Err EventOutOfForm)) (cond (leb h.terms.interval e.time) (stays Late (ended_by_time h)) (carried h e (outcome_of h.terms h.quotes v (buy_event s e)))))
+      go true = stays_same (No EventOutOfForm) h
+      go false = stays_same (No AuctionEnded) h
 
   turns : Alike (turn_of (flipped_head h) v (mirrored_record e)) (turn_of h v e)
   turns = go (event_formed e) refl
@@ -195,7 +201,7 @@ closes : (a : Auction) → ((close_of (flipped a)).answer ≡ (close_of a).answe
 unfolding close_turn
 closes a =
     seated-alike a.board (close_turn (flipped_head a.head)) (close_turn a.head)
-    (alike-by (is_open a.head.ending) (is_open a.head.ending) _ _ _ _ refl (late-same a.head) (stays_same (No 31) a.head))
+    (alike-by (is_open a.head.ending) (is_open a.head.ending) _ _ _ _ refl (late-same a.head) (stays_same (No AuctionEnded) a.head))
 
 run-same : (es : List Event) (a : Auction) → run (flipped a) (mirrored_records es) ≡ flipped (run a es)
 run-same [] a = refl

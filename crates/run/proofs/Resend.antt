@@ -3,6 +3,7 @@ use mathlib.Core.Path.{◌≡◌, refl, sym, ap, subst, ◌∙◌}
 use mathlib.Core.Bool.{Bool, true, false, cond}
 use mathlib.Core.List.{List, [], ◌∷◌}
 use mathlib.Core.Logic.{inl, inr}
+use Rattle.std.specs.Prelude.{Err}
 use Prim.Native.Nat.{ℕ, ◌≤◌, ◌<◌}
 use native.Mathlib.Nat.{le_refl, le_trans, le_of_lt}
 use native.Mathlib.Omega.{arith}
@@ -11,6 +12,7 @@ use Rattle.std.specs.Prelude.{Result, Err, IfErr}
 use Rattle.base.specs.Refusal.{number_of}
 use Rattle.base.specs.declared.refusal.Refusal.{Refusal}
 use Rattle.base.specs.Lists.{In, Every, keep}
+use Rattle.base.specs.declared.refusal.Refusal.TheVariants.{AuctionEnded, EventOutOfForm, SequenceTaken, BeforeClock}
 use Rattle.tape.specs.declared.event.Event.{Event}
 use Rattle.tape.specs.declared.order.Order.{Order}
 use Rattle.tape.specs.rules.Form.{event_formed}
@@ -32,12 +34,11 @@ use Rattle.decision.specs.declared.Sight.{Sight}
 use Rattle.events.specs.declared.Turn.{Turn}
 use Rattle.decision.specs.declared.Change.{Change}
 use Rattle.decision.specs.declared.Change.TheVariants.{Nothing, Seat, Free, Quote, Sell}
-use Rattle.decision.specs.declared.Outcome.{Outcome}
-use Rattle.decision.specs.declared.Outcome.TheVariants.{Refuses, Does}
-use Rattle.run.proofs.StepLaws.{KindNumber, Outcomes, Cases, cases}
+use Rattle.decision.specs.rules.Decide.{Outcome, does}
+use Rattle.run.proofs.StepLaws.{OfKind, Outcomes, Cases, cases}
 
 -- where only refusing or not matters: any change, any ending
-pub any-change : (t : Terms) (q : Quotes) (s : Sight) (m : Event) (P : Outcome → Type 0) → ((n : ℕ) → KindNumber n → P (Refuses n)) → ((c : Change) (g : Ending) → P (Does c g)) → Outcomes t q s m P
+pub any-change : (t : Terms) (q : Quotes) (s : Sight) (m : Event) (P : Outcome → Type 0) → ((r : Refusal) → OfKind r → P (Err r)) → ((c : Change) (g : Ending) → P (does c g)) → Outcomes t q s m P
 any-change t q s m P r d =
     record {
       refuses = r;
@@ -51,9 +52,9 @@ any-change t q s m P r d =
     }
 
 -- an event that was taken or ended the auction was not refused, and not late
-not-refused : {X : Type 0} (b : Bool) (n : ℕ) → cond b Taken Ended ≡ Refused n → X
-not-refused true n z = no cc
-not-refused false n z = no cc
+not-refused : {X : Type 0} (b : Bool) (r : Refusal) → cond b Taken Ended ≡ Refused r → X
+not-refused true r z = no cc
+not-refused false r z = no cc
 
 not_late : {X : Type 0} (b : Bool) → cond b Taken Ended ≡ Late → X
 not_late true z = no cc
@@ -68,13 +69,13 @@ module _ (s : Sight) (a : Auction) (e : Event) where
   abbrev by_cases : (P : Stepped → Type 0) → Cases a.head e s (λ t. P (seated_on a.board t)) → P (step_by s a e)
   by_cases P k = cases a.head e s (λ t. P (seated_on a.board t)) k
 
-  refused-stays : (n : ℕ) → (step_by s a e).answer ≡ Refused n → (step_by s a e).auction ≡ a
-  refused-stays n =
-      by_cases (λ p. p.answer ≡ Refused n → p.auction ≡ a)
+  refused-stays : (r : Refusal) → (step_by s a e).answer ≡ Refused r → (step_by s a e).auction ≡ a
+  refused-stays r =
+      by_cases (λ p. p.answer ≡ Refused r → p.auction ≡ a)
       (record {
         refused = λ k _ z. refl;
         late = λ o z. no cc;
-        does = λ o. any-change _ _ _ _ _ (λ k _ z. refl) (λ c g z. not-refused (is_open g) n z);
+        does = λ o. any-change _ _ _ _ _ (λ k _ z. refl) (λ c g z. not-refused (is_open g) r z);
       })
 
   late-ends : (step_by s a e).answer ≡ Late → (step_by s a e).auction ≡ timed a
@@ -87,11 +88,11 @@ module _ (s : Sight) (a : Auction) (e : Event) where
       })
 
   module _ (opened : is_open a.head.ending ≡ true) where
-    formless : event_formed e ≡ false → step_by s a e ≡ gives (Refused 32) a
+    formless : event_formed e ≡ false → step_by s a e ≡ gives (Refused EventOutOfForm) a
     unfolding turn_of event_refusal
     formless f = simp (opened, f)
 
-    before : event_formed e ≡ true → a.head.sequence < e.sequence → e.time < a.head.clock → step_by s a e ≡ gives (Refused 34) a
+    before : event_formed e ≡ true → a.head.sequence < e.sequence → e.time < a.head.clock → step_by s a e ≡ gives (Refused BeforeClock) a
     unfolding turn_of event_refusal
     before formed newer t = simp (opened, formed, lt-leb _ _ newer, lt-ltb _ _ t)
 
@@ -109,7 +110,7 @@ module _ (s : Sight) (a : Auction) (e : Event) where
         does = λ o. any-change _ _ _ _ _ (λ k _. le_refl _) (λ c g. le_of_lt o.ordinary.newer);
       })
 
-  ended-refuses : is_open a.head.ending ≡ false → step_by s a e ≡ gives (Refused 31) a
+  ended-refuses : is_open a.head.ending ≡ false → step_by s a e ≡ gives (Refused AuctionEnded) a
   unfolding turn_of event_refusal
   ended-refuses z = simp z
 
@@ -129,33 +130,33 @@ module _ (s : Sight) (a : Auction) (e : Event) where
       by_cases (λ p. is_taken p.answer ≡ true → InTime a.head e)
       (record { refused = λ k _ z. no (sym z); late = λ o z. no (sym z); does = λ o. any-change _ _ _ _ _ (λ k _ z. no (sym z)) (λ c g z. o) })
 
-  by_kind : (n : ℕ) → (step_by s a e).answer ≡ Refused n → 35 ≤ n → InTime a.head e
-  by_kind n =
-      by_cases (λ p. p.answer ≡ Refused n → 35 ≤ n → InTime a.head e)
+  by_kind : (r : Refusal) → (step_by s a e).answer ≡ Refused r → 35 ≤ number_of r → InTime a.head e
+  by_kind r =
+      by_cases (λ p. p.answer ≡ Refused r → 35 ≤ number_of r → InTime a.head e)
       (record {
-        refused = λ k h z l. let q : k ≡ n = cc in absurd (omega (arith, h.1, q, l));
+        refused = λ k h z l. let q : k ≡ r = cc in absurd (omega (arith, h.1, ap number_of q, l));
         late = λ o z. no cc;
-        does = λ o. any-change _ _ _ _ _ (λ k _ z l. o) (λ c g z. not-refused (is_open g) n z);
+        does = λ o. any-change _ _ _ _ _ (λ k _ z l. o) (λ c g z. not-refused (is_open g) r z);
       })
 
   -- an event whose sequence is not above the highest taken is refused, whatever else it says: 31 once ended; else 32 where it is out of form, and 33
-  pub old-refused : e.sequence ≤ a.head.sequence → step_by s a e ≡ gives (Refused (cond (is_open a.head.ending) (cond (event_formed e) 33 32) 31)) a
+  pub old-refused : e.sequence ≤ a.head.sequence → step_by s a e ≡ gives (Refused (cond (is_open a.head.ending) (cond (event_formed e) SequenceTaken EventOutOfForm) AuctionEnded)) a
   unfolding turn_of event_refusal
   old-refused h = go (is_open a.head.ending) (event_formed e) refl refl
     where
-      go : (x y : Bool) → is_open a.head.ending ≡ x → event_formed e ≡ y → step_by s a e ≡ gives (Refused (cond (is_open a.head.ending) (cond (event_formed e) 33 32) 31)) a
+      go : (x y : Bool) → is_open a.head.ending ≡ x → event_formed e ≡ y → step_by s a e ≡ gives (Refused (cond (is_open a.head.ending) (cond (event_formed e) SequenceTaken EventOutOfForm) AuctionEnded)) a
       go true true p q = simp (p, q, le-leb _ _ h)
       go true false p q = simp (p, q)
       go false y p q = simp p
 
   -- only 31 to 38 refuse an event
-  event-numbers : (n : ℕ) → (step_by s a e).answer ≡ Refused n → (31 ≤ n) × (n ≤ 38)
-  event-numbers n =
-      by_cases (λ p. p.answer ≡ Refused n → (31 ≤ n) × (n ≤ 38))
+  event-numbers : (r : Refusal) → (step_by s a e).answer ≡ Refused r → (31 ≤ number_of r) × (number_of r ≤ 38)
+  event-numbers r =
+      by_cases (λ p. p.answer ≡ Refused r → (31 ≤ number_of r) × (number_of r ≤ 38))
       (record {
-        refused = λ k h z. let q : k ≡ n = cc in (omega (arith, h.0), omega (arith, h.1));
+        refused = λ k h z. let q : k ≡ r = cc in (omega (arith, h.0, ap number_of q), omega (arith, h.1, ap number_of q));
         late = λ o z. no cc;
-        does = λ o. any-change _ _ _ _ _ (λ k h z. let q : k ≡ n = cc in (omega (arith, h.0), omega (arith, h.1))) (λ c g z. not-refused (is_open g) n z);
+        does = λ o. any-change _ _ _ _ _ (λ k h z. let q : k ≡ r = cc in (omega (arith, h.0, ap number_of q), omega (arith, h.1, ap number_of q))) (λ c g z. not-refused (is_open g) r z);
       })
 
 -- what the auction itself sees
@@ -171,20 +172,20 @@ older a e f es z formed h =
     let k = taken_is (seen a e) a e z in
     let b : Auction = run (step_of a e).auction es in
     let n : (step_of a e).auction.head.sequence ≤ b.head.sequence = run-rises es (step_of a e).auction in
-    old-refused (seen b f) b f (omega (arith, k.2)) ∙ ap (λ (t : Bool). gives (Refused (cond (is_open b.head.ending) (cond t 33 32) 31)) b) formed
+    old-refused (seen b f) b f (omega (arith, k.2)) ∙ ap (λ (t : Bool). gives (Refused (cond (is_open b.head.ending) (cond t SequenceTaken EventOutOfForm) AuctionEnded)) b) formed
 
 pub again : (a : Auction) (e : Event) (es : List Event) → is_taken (step_of a e).answer ≡ true → RefusedAgain (run (step_of a e).auction es) e
 again a e es z = older a e e es z (taken_is (seen a e) a e z).0 (le_refl _)
 
-closed-stays : (a : Auction) (n : ℕ) → (close_of a).answer ≡ Refused n → (close_of a).auction ≡ a
+closed-stays : (a : Auction) (r : Refusal) → (close_of a).answer ≡ Refused r → (close_of a).auction ≡ a
 unfolding close_turn
-closed-stays a n = by (λ (t : Turn). t.answer ≡ Refused n → (seated_on a.board t).auction ≡ a) (is_open a.head.ending) _ _ (λ _ z. no cc) (λ _ z. refl)
+closed-stays a r = by (λ (t : Turn). t.answer ≡ Refused r → (seated_on a.board t).auction ≡ a) (is_open a.head.ending) _ _ (λ _ z. no cc) (λ _ z. refl)
 
 closed-late : (a : Auction) → is_open a.head.ending ≡ true → close_of a ≡ gives Late (timed a)
 unfolding close_turn
 closed-late a z = simp z
 
-ended-stays : (a : Auction) → is_open a.head.ending ≡ false → close_of a ≡ gives (Refused 31) a
+ended-stays : (a : Auction) → is_open a.head.ending ≡ false → close_of a ≡ gives (Refused AuctionEnded) a
 unfolding close_turn
 ended-stays a z = simp z
 

@@ -2,10 +2,14 @@
 use mathlib.Core.Path.{◌≡◌, refl, sym, ap, ◌∙◌}
 use mathlib.Core.Bool.{Bool, true, false, cond, not, ◌&&◌, ◌||◌}
 use mathlib.Core.Logic.{inl, inr}
+use Rattle.std.specs.Prelude.{Result, Ok, Err}
 use Prim.Native.Nat.{ℕ, ◌+◌, ◌≤◌, ◌<◌, min, max}
 use native.Mathlib.Omega.{arith}
 use lib.Dec.{leb, ltb, eqb}
 use borrow.Author.Tests.{ltb-true, ltb-false, leb-true, leb-false, eqb-true, ne_eqb, not-false}
+use Rattle.base.specs.Refusal.{number_of}
+use Rattle.base.specs.declared.refusal.Refusal.{Refusal}
+use Rattle.base.specs.declared.refusal.Refusal.TheVariants.{OwnSide, AboveInitiating, NoSuchResponse, BoardFull}
 use Rattle.base.proofs.Bools.{by, no, and-no-right}
 use Rattle.tape.specs.declared.event.Event.{Event}
 use Rattle.tape.specs.rules.Form.{event_formed}
@@ -17,16 +21,14 @@ use Rattle.auction.specs.declared.Terms.{Terms}
 use Rattle.auction.specs.declared.Quotes.{Quotes}
 use Rattle.auction.specs.declared.Ending.{Ending}
 use Rattle.auction.specs.declared.Ending.TheVariants.{Open, Same, Opposite, Improve}
-use Rattle.events.specs.rules.Step.{event_refusal, stays, ended_by_time, carried, turn_of}
-use Rattle.decision.specs.rules.Decide.{is_cancel, is_amend, is_customer, is_non_routable, response_of, gtx_outcome, cancel_outcome, amended_by, amend_outcome, sell_limit_outcome, bid_quotes, moves, buy_limit_outcome, limit_outcome, market_outcome, new_quotes, quotes_outcome, outcome_of}
+use Rattle.events.specs.rules.Step.{event_refusal, stays, ended_by_time, unless_refused, carried, turn_of}
+use Rattle.decision.specs.rules.Decide.{is_cancel, is_amend, is_customer, is_non_routable, response_of, gtx_outcome, cancel_outcome, amended_by, amend_outcome, sell_limit_outcome, bid_quotes, moves, buy_limit_outcome, limit_outcome, market_outcome, new_quotes, quotes_outcome, Outcome, does, outcome_of}
 use Rattle.tape.specs.rules.Fields.{size_of, price_of, new_price_of}
 use Rattle.run.specs.promises.Demands.{Ordinary, InTime, Names}
 use Rattle.events.specs.declared.Answer.TheVariants.{Late, Refused}
 use Rattle.decision.specs.declared.Sight.{Sight}
 use Rattle.events.specs.declared.Turn.{Turn}
 use Rattle.decision.specs.declared.Change.TheVariants.{Nothing, Seat, Free, Quote, Sell}
-use Rattle.decision.specs.declared.Outcome.{Outcome}
-use Rattle.decision.specs.declared.Outcome.TheVariants.{Refuses, Does}
 
 -- ---- the decision
 
@@ -48,12 +50,12 @@ bid-still t q p c h = go (ltb q.bb p) (eqb p q.bb) c q.bidmark refl refl h
     go false false c true hl he z = same (omega (arith, ltb-false q.bb p hl)) true
     go false false c false hl he z = same (omega (arith, ltb-false q.bb p hl)) false
 
--- a number that refuses an event by its kind, and one that refuses any
-abbrev pub KindNumber : ℕ → Type 0
-KindNumber n = (35 ≤ n) × (n ≤ 38)
+-- a refusal of an event by its kind, and one of any event
+abbrev pub OfKind : Refusal → Type 0
+OfKind r = (35 ≤ number_of r) × (number_of r ≤ 38)
 
-abbrev pub FirstNumber : ℕ → Type 0
-FirstNumber n = (31 ≤ n) × (n ≤ 34)
+abbrev pub OfAny : Refusal → Type 0
+OfAny r = (31 ≤ number_of r) × (number_of r ≤ 34)
 
 -- an event that takes no place, frees none and amends none, and is no sell at the market
 pub record Leaves (t : Terms) (m : Event) : Type 0 where
@@ -65,14 +67,14 @@ pub record Leaves (t : Terms) (m : Event) : Type 0 where
 
 -- what is known of each outcome of an event m
 pub record Outcomes (t : Terms) (q : Quotes) (s : Sight) (m : Event) (P : Outcome → Type 0) : Type 0 where
-  pub refuses : (n : ℕ) → KindNumber n → P (Refuses n)
-  pub nothing : (g : Ending) → Leaves t m → P (Does Nothing g)
-  pub gtx : m.kind ≡ 1 → eqb m.side 1 ≡ false → s.at < 64 → price_of m ≤ t.initiating → P (Does (Seat s.at (response_of true (min (size_of m) t.size) m) 0) Open)
-  pub limit : (g : Ending) → m.kind ≡ 3 → eqb m.side 1 ≡ false → s.at < 64 → price_of m ≤ t.initiating → P (Does (Seat s.at (response_of false (size_of m) m) 0) g)
-  pub clear : m.kind ≡ 2 → s.found < 64 → P (Does (Free s.found s.old.size) Open)
-  pub amend : m.kind ≡ 6 → s.found < 64 → new_price_of m ≤ t.initiating → P (Does (Seat s.found (amended_by t s.old m) s.old.size) Open)
-  pub quote : (n : Quotes) → (bound_by t q ≤ t.initiating → bound_by t n ≤ t.initiating) → Leaves t m → P (Does (Quote n) Open)
-  pub sell : m.kind ≡ 4 → eqb m.side 1 ≡ false → P (Does (Sell (record { sequence = m.sequence; size = size_of m })) Opposite)
+  pub refuses : (r : Refusal) → OfKind r → P (Err r)
+  pub nothing : (g : Ending) → Leaves t m → P (does Nothing g)
+  pub gtx : m.kind ≡ 1 → eqb m.side 1 ≡ false → s.at < 64 → price_of m ≤ t.initiating → P (does (Seat s.at (response_of true (min (size_of m) t.size) m) 0) Open)
+  pub limit : (g : Ending) → m.kind ≡ 3 → eqb m.side 1 ≡ false → s.at < 64 → price_of m ≤ t.initiating → P (does (Seat s.at (response_of false (size_of m) m) 0) g)
+  pub clear : m.kind ≡ 2 → s.found < 64 → P (does (Free s.found s.old.size) Open)
+  pub amend : m.kind ≡ 6 → s.found < 64 → new_price_of m ≤ t.initiating → P (does (Seat s.found (amended_by t s.old m) s.old.size) Open)
+  pub quote : (n : Quotes) → (bound_by t q ≤ t.initiating → bound_by t n ≤ t.initiating) → Leaves t m → P (does (Quote n) Open)
+  pub sell : m.kind ≡ 4 → eqb m.side 1 ≡ false → P (does (Sell (record { sequence = m.sequence; size = size_of m })) Opposite)
 
 module _ (t : Terms) (q : Quotes) (s : Sight) (m : Event) (P : Outcome → Type 0) (k : Outcomes t q s m P) where
   -- a limit order that does not take a place, a buy at the market, and what is of no kind up to 4 and not of kind 6
@@ -88,25 +90,25 @@ module _ (t : Terms) (q : Quotes) (s : Sight) (m : Event) (P : Outcome → Type 
   gtx-case : m.kind ≡ 1 → P (gtx_outcome t s m)
   unfolding gtx_outcome
   gtx-case e =
-      by P (eqb m.side 1) _ _ (λ _. k.refuses 35 (omega arith, omega arith)) (λ d.
-      by P (ltb t.initiating (price_of m)) _ _ (λ _. k.refuses 36 (omega arith, omega arith)) (λ p.
-      by P (ltb s.at 64) _ _ (λ f. k.gtx e d (ltb-true _ _ f) (ltb-false _ _ p)) (λ _. k.refuses 38 (omega arith, omega arith))))
+      by P (eqb m.side 1) _ _ (λ _. k.refuses OwnSide (omega arith, omega arith)) (λ d.
+      by P (ltb t.initiating (price_of m)) _ _ (λ _. k.refuses AboveInitiating (omega arith, omega arith)) (λ p.
+      by P (ltb s.at 64) _ _ (λ f. k.gtx e d (ltb-true _ _ f) (ltb-false _ _ p)) (λ _. k.refuses BoardFull (omega arith, omega arith))))
 
   cancel-case : m.kind ≡ 2 → P (cancel_outcome s)
   unfolding cancel_outcome
-  cancel-case e = by P (ltb s.found 64) _ _ (λ h. k.clear e (ltb-true _ _ h)) (λ _. k.refuses 37 (omega arith, omega arith))
+  cancel-case e = by P (ltb s.found 64) _ _ (λ h. k.clear e (ltb-true _ _ h)) (λ _. k.refuses NoSuchResponse (omega arith, omega arith))
 
   amend-case : m.kind ≡ 6 → P (amend_outcome t s m)
   unfolding amend_outcome
   amend-case e =
-      by P (ltb t.initiating (new_price_of m)) _ _ (λ _. k.refuses 36 (omega arith, omega arith)) (λ p.
-      by P (ltb s.found 64) _ _ (λ h. k.amend e (ltb-true _ _ h) (ltb-false _ _ p)) (λ _. k.refuses 37 (omega arith, omega arith)))
+      by P (ltb t.initiating (new_price_of m)) _ _ (λ _. k.refuses AboveInitiating (omega arith, omega arith)) (λ p.
+      by P (ltb s.found 64) _ _ (λ h. k.amend e (ltb-true _ _ h) (ltb-false _ _ p)) (λ _. k.refuses NoSuchResponse (omega arith, omega arith)))
 
   sell-limit-case : m.kind ≡ 3 → eqb m.side 1 ≡ false → P (sell_limit_outcome t q s m)
   unfolding sell_limit_outcome
   sell-limit-case e d =
       by P (leb (price_of m) t.initiating) _ _
-      (λ p. by P (ltb s.at 64) _ _ (λ f. k.limit (cond (leb (price_of m) (cond (is_non_routable m) q.bb q.nbb)) Opposite Open) e d (ltb-true _ _ f) (leb-true _ _ p)) (λ _. k.refuses 38 (omega arith, omega arith)))
+      (λ p. by P (ltb s.at 64) _ _ (λ f. k.limit (cond (leb (price_of m) (cond (is_non_routable m) q.bb q.nbb)) Opposite Open) e d (ltb-true _ _ f) (leb-true _ _ p)) (λ _. k.refuses BoardFull (omega arith, omega arith)))
       (λ p. k.nothing (cond (leb (price_of m) (cond (is_non_routable m) q.bb q.nbb)) Opposite Open) (limit-leaves e (and-no-right (not (eqb m.side 1)) p)))
 
   buy-limit-case : Leaves t m → P (buy_limit_outcome t q m)
@@ -155,41 +157,33 @@ names-is m z = go (is_cancel m) (is_amend m) refl refl z
 -- ---- the turn
 
 module _ (h : Head) (e : Event) where
-  abbrev number : ℕ
-  number = event_refusal h e
+  -- what the first tests say of an event: it is ordinary, or refused by 31 to 34
+  abbrev Tested : Result (Unit {0}) Refusal → Type 0
+  Tested (Ok u) = Ordinary h e
+  Tested (Err r) = OfAny r
 
-  abbrev IfNone : ℕ → Type 0
-  IfNone k = eqb k 0 ≡ true → Ordinary h e
-
-  ordinary : eqb number 0 ≡ true → Ordinary h e
+  tested : Tested (event_refusal h e)
   unfolding event_refusal
-  ordinary =
-      by IfNone (not (is_open h.ending)) _ _ (λ _ z. no (sym z)) (λ o.
-      by IfNone (not (event_formed e)) _ _ (λ _ z. no (sym z)) (λ f.
-      by IfNone (leb e.sequence h.sequence) _ _ (λ _ z. no (sym z)) (λ s.
-      by IfNone (ltb e.time h.clock) _ _ (λ _ z. no (sym z)) (λ t z.
+  tested =
+      by Tested (not (is_open h.ending)) _ _ (λ _. (omega arith, omega arith)) (λ o.
+      by Tested (not (event_formed e)) _ _ (λ _. (omega arith, omega arith)) (λ f.
+      by Tested (leb e.sequence h.sequence) _ _ (λ _. (omega arith, omega arith)) (λ s.
+      by Tested (ltb e.time h.clock) _ _ (λ _. (omega arith, omega arith)) (λ t.
       record { opened = not-false _ o; formed = not-false _ f; newer = leb-false _ _ s; later = ltb-false _ _ t }))))
-
-  numbered : eqb number 0 ≡ false → FirstNumber number
-  unfolding event_refusal
-  numbered =
-      let P : ℕ → Type 0 = λ n. eqb n 0 ≡ false → FirstNumber n in
-      by P (not (is_open h.ending)) _ _ (λ _ _. (omega arith, omega arith)) (λ _.
-      by P (not (event_formed e)) _ _ (λ _ _. (omega arith, omega arith)) (λ _.
-      by P (leb e.sequence h.sequence) _ _ (λ _ _. (omega arith, omega arith)) (λ _.
-      by P (ltb e.time h.clock) _ _ (λ _ _. (omega arith, omega arith)) (λ _ z. no z))))
 
   module _ (s : Sight) where
     -- P holds of the turn where it holds of each of its outcomes
     pub record Cases (P : Turn → Type 0) : Type 0 where
-      pub refused : (k : ℕ) → FirstNumber k → P (stays (Refused k) h)
+      pub refused : (r : Refusal) → OfAny r → P (stays (Refused r) h)
       pub late : Ordinary h e → P (stays Late (ended_by_time h))
       pub does : InTime h e → Outcomes h.terms h.quotes s (buy_event h.terms.sell e) (λ o. P (carried h e o))
 
     pub cases : (P : Turn → Type 0) → Cases P → P (turn_of h s e)
     unfolding turn_of
-    cases P k =
-        by P (eqb number 0) _ _
-        (λ z. by P (leb h.terms.interval e.time) _ _ (λ _. k.late (ordinary z)) (λ l.
-        outcomes h.terms h.quotes s (buy_event h.terms.sell e) (λ o. P (carried h e o)) (k.does (record { ordinary = ordinary z; early = leb-false _ _ l }))))
-        (λ z. k.refused number (numbered z))
+    cases P k = go (event_refusal h e) tested
+      where
+        go : (q : Result (Unit {0}) Refusal) → Tested q → P (unless_refused h q (cond (leb h.terms.interval e.time) (stays Late (ended_by_time h)) (carried h e (outcome_of h.terms h.quotes s (buy_event h.terms.sell e)))))
+        go (Err r) n = k.refused r n
+        go (Ok u) o =
+            by P (leb h.terms.interval e.time) _ _ (λ _. k.late o) (λ l.
+            outcomes h.terms h.quotes s (buy_event h.terms.sell e) (λ o. P (carried h e o)) (k.does (record { ordinary = o; early = leb-false _ _ l })))

@@ -1,12 +1,14 @@
 -- What an event does (documents 01 and 02): what it sees of the board, one turn by what is decided of it, and the step.
-use Rattle.std.specs.Prelude.{cond, not, ◌||◌, ℕ, leb, ltb, eqb}
+use Rattle.std.specs.Prelude.{cond, not, ◌||◌, ℕ, leb, ltb, Result, Ok, Err}
+use Rattle.base.specs.declared.refusal.Refusal.{Refusal}
+use Rattle.base.specs.declared.refusal.Refusal.TheVariants.{AuctionEnded, EventOutOfForm, SequenceTaken, BeforeClock}
 use Rattle.board.specs.declared.Board.{Board}
 use Rattle.board.specs.rules.Board.{response_at, first_free, seated_at, cleared, find_gtx}
 use Rattle.tape.specs.declared.event.Event.{Event}
 use Rattle.tape.specs.rules.Form.{event_formed}
 use Rattle.tape.specs.rules.Fields.{name_of}
 use Rattle.mirror.specs.rules.Mirror.{buy_event}
-use Rattle.decision.specs.rules.Decide.{is_cancel, is_amend, outcome_of}
+use Rattle.decision.specs.rules.Decide.{is_cancel, is_amend, Outcome, outcome_of}
 use Rattle.auction.specs.rules.Range.{is_open}
 use Rattle.auction.specs.rules.Offer.{moved_offer}
 use Rattle.auction.specs.declared.Auction.{Auction}
@@ -22,18 +24,16 @@ use Rattle.decision.specs.declared.Sight.{Sight}
 use Rattle.events.specs.declared.Turn.{Turn}
 use Rattle.decision.specs.declared.Change.{Change}
 use Rattle.decision.specs.declared.Change.TheVariants.{Nothing, Seat, Free, Quote, Sell}
-use Rattle.decision.specs.declared.Outcome.{Outcome}
-use Rattle.decision.specs.declared.Outcome.TheVariants.{Refuses, Does}
 
--- ---- the refusals that every kind has, in their order; 0: none
+-- ---- the refusals that every kind has, in their order
 
-unfoldable pub event_refusal : Head → Event → ℕ
+unfoldable pub event_refusal : Head → Event → Result (Unit {0}) Refusal
 event_refusal h e =
-    cond (not (is_open h.ending)) 31
-    (cond (not (event_formed e)) 32
-    (cond (leb e.sequence h.sequence) 33
-    (cond (ltb e.time h.clock) 34
-    0)))
+    cond (not (is_open h.ending)) (Err AuctionEnded)
+    (cond (not (event_formed e)) (Err EventOutOfForm)
+    (cond (leb e.sequence h.sequence) (Err SequenceTaken)
+    (cond (ltb e.time h.clock) (Err BeforeClock)
+    (Ok tt))))
 
 -- ---- what the board tells of an event
 
@@ -100,22 +100,31 @@ head_after h e c ending =
       offered = offered_after h.offered c;
     }
 
+-- a turn, where nothing refuses it
+abbrev pub unless_refused : Head → Result (Unit {0}) Refusal → Turn → Turn
+unless_refused h (Err r) t = stays (Refused r) h
+unless_refused h (Ok u) t = t
+
 -- what is decided of an event, carried out
 abbrev pub carried : Head → Event → Outcome → Turn
-carried h e (Refuses n) = stays (Refused n) h
-carried h e (Does c ending) = record { answer = cond (is_open ending) Taken Ended; head = head_after h e c ending; change = c }
+carried h e (Err r) = stays (Refused r) h
+carried h e (Ok d) = record { answer = cond (is_open d.ending) Taken Ended; head = head_after h e d.change d.ending; change = d.change }
 
 -- 31 to 34, then late, then by its kind
 unfoldable pub turn_of : Head → Sight → Event → Turn
 turn_of h s e =
-    cond (eqb (event_refusal h e) 0)
+    unless_refused h (event_refusal h e)
     (cond (leb h.terms.interval e.time) (stays Late (ended_by_time h))
     (carried h e (outcome_of h.terms h.quotes s (buy_event h.terms.sell e))))
-    (stays (Refused (event_refusal h e)) h)
+
+-- the turn that comes of a turn or a refusal
+abbrev pub settled : Head → Result Turn Refusal → Turn
+settled h (Err r) = stays (Refused r) h
+settled h (Ok t) = t
 
 -- closing by hand, as an event at time L
 unfoldable pub close_turn : Head → Turn
-close_turn h = cond (is_open h.ending) (stays Late (ended_by_time h)) (stays (Refused 31) h)
+close_turn h = cond (is_open h.ending) (stays Late (ended_by_time h)) (stays (Refused AuctionEnded) h)
 
 -- ---- the step: the turn, seated on the board
 

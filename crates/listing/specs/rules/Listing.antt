@@ -1,6 +1,7 @@
 -- The runner's listing (document 01): from a tape's bytes to the listing's bytes.
 use Rattle.std.specs.Prelude.{Bool, cond, List, [], ◌∷◌, ◌++◌, ℕ, eqb, ltb, length, drop}
 use Prim.Native.String.{String}
+use Rattle.base.specs.Refusal.{number_of}
 use Rattle.share.specs.rules.Fills.{Fill}
 use Rattle.trade.specs.rules.Trade.{traded}
 use Rattle.auction.specs.declared.Auction.{Auction}
@@ -42,7 +43,7 @@ unfoldable pub answer_text : Answer → List ℕ
 answer_text Taken = text " taken"
 answer_text Ended = text " ended"
 answer_text Late = text " late"
-answer_text (Refused number) = field " refused " number
+answer_text (Refused r) = field " refused " (number_of r)
 
 -- the sequence and the answer
 unfoldable pub event_text : Said → List ℕ

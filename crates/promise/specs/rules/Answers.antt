@@ -31,7 +31,7 @@ abbrev pub answer_is : Answer → Paper String
 answer_is Taken = yes "taken"
 answer_is Ended = yes "ended"
 answer_is Late = yes "late"
-answer_is (NotTaken n) = no n
+answer_is (NotTaken r) = no (number_of r)
 
 -- why an auction ended, as the END line has it; document 01 has no word for an open one, and no END line has it
 abbrev pub ending_is : Ending → String

@@ -1,5 +1,7 @@
 -- What an event does, in the order's own prices, for buys and sells alike. No board and no mirror stand here.
-use Rattle.std.specs.Prelude.{Bool, cond, not, ◌&&◌, ◌||◌, List, [], ◌∷◌, ◌++◌, ℕ, ◌+◌, ◌-◌, leb, ltb, eqb, length}
+use Rattle.std.specs.Prelude.{Bool, cond, not, ◌&&◌, ◌||◌, List, [], ◌∷◌, ◌++◌, ℕ, ◌+◌, ◌-◌, leb, ltb, eqb, length, Result, Ok, Err}
+use Rattle.base.specs.declared.refusal.Refusal.{Refusal}
+use Rattle.base.specs.declared.refusal.Refusal.TheVariants.{AuctionEnded, EventOutOfForm, SequenceTaken, BeforeClock, OwnSide, AboveInitiating, NoSuchResponse, BoardFull}
 use Rattle.board.specs.declared.Response.{Response}
 use Rattle.tape.specs.declared.order.Order.{Order}
 use Rattle.tape.specs.declared.event.Event.{Event}
@@ -20,7 +22,6 @@ use Rattle.trade.specs.rules.Trade.{traded}
 use Rattle.run.specs.rules.Run.{Said, said, is_taken}
 use Rattle.listing.specs.rules.Listing.{field, side_text, range_text, event_lines, event_line_with, end_text, fill_lines, total_line}
 use Rattle.exact.specs.rules.EitherSide.{better, worse_of}
-use Rattle.promise.specs.rules.Answers.{Paper, no, yes}
 use Rattle.promise.specs.rules.Sides.{is_sell, other_side, opening_range, initiating_price, takes_place, stands_after, has_named}
 
 -- ---- the quotes
@@ -127,51 +128,51 @@ by_time n =
       ending = Time;
     }
 
--- the answer where a number, or the ending after the event, is decided
-abbrev pub answer_of : Paper Ending → Answer
-answer_of (no n) = Refused n
-answer_of (yes g) = cond (is_open g) Taken Ended
+-- the answer where a refusal, or the ending after the event, is decided
+abbrev pub answer_of : Result Ending Refusal → Answer
+answer_of (Err r) = Refused r
+answer_of (Ok g) = cond (is_open g) Taken Ended
 
 module _ (o : Order) where
   abbrev pub opening : Now
   opening = record { sequence = 0; clock = 0; quoted = first_quoted o; standing = []; market = no_market; ending = Open }
 
-  -- 31 to 34, in their order; 0: none
-  abbrev pub refusal_of : Now → Event → ℕ
+  -- 31 to 34, in their order
+  abbrev pub refusal_of : Now → Event → Result (Unit {0}) Refusal
   refusal_of n e =
-      cond (not (is_open n.ending)) 31
-      (cond (not (event_formed e)) 32
-      (cond (leb e.sequence n.sequence) 33
-      (cond (ltb e.time n.clock) 34
-      0)))
+      cond (not (is_open n.ending)) (Err AuctionEnded)
+      (cond (not (event_formed e)) (Err EventOutOfForm)
+      (cond (leb e.sequence n.sequence) (Err SequenceTaken)
+      (cond (ltb e.time n.clock) (Err BeforeClock)
+      (Ok tt))))
 
-  -- then, before time L, by its kind: a number, or the ending after it
-  abbrev pub decided : Now → Event → Paper Ending
+  -- then, before time L, by its kind: 35 to 38, or the ending after it
+  abbrev pub decided : Now → Event → Result Ending Refusal
   decided n e =
       let room = ltb (length n.standing) 64 in
       let own = eqb e.side (own_side o) in
       let named = has_named (name_of e) n.standing in
       -- a GTX response, a cancel
       cond (eqb e.kind 1)
-      (cond own (no 35) (cond (better (is_sell o) (initiating_price o) (price_of e)) (no 36) (cond room (yes Open) (no 38))))
-      (cond (eqb e.kind 2) (cond named (yes Open) (no 37))
+      (cond own (Err OwnSide) (cond (better (is_sell o) (initiating_price o) (price_of e)) (Err AboveInitiating) (cond room (Ok Open) (Err BoardFull))))
+      (cond (eqb e.kind 2) (cond named (Ok Open) (Err NoSuchResponse))
       -- a limit order, of the own side and of the other
       (cond (eqb e.kind 3 && own)
-      (cond (marketable o n.quoted e) (yes Same)
-      (cond (raises o n.quoted e && passes o (outbid o n.quoted e)) (yes Improve) (yes Open)))
+      (cond (marketable o n.quoted e) (Ok Same)
+      (cond (raises o n.quoted e && passes o (outbid o n.quoted e)) (Ok Improve) (Ok Open)))
       (cond (eqb e.kind 3)
-      (cond (takes_place o e && not room) (no 38) (cond (marketable o n.quoted e) (yes Opposite) (yes Open)))
+      (cond (takes_place o e && not room) (Err BoardFull) (cond (marketable o n.quoted e) (Ok Opposite) (Ok Open)))
       -- a market order, an amend, quotes
-      (cond (eqb e.kind 4) (cond own (yes Same) (yes Opposite))
+      (cond (eqb e.kind 4) (cond own (Ok Same) (Ok Opposite))
       (cond (eqb e.kind 6)
-      (cond (better (is_sell o) (initiating_price o) (new_price_of e)) (no 36) (cond named (yes Open) (no 37)))
-      (cond (passes o (brought o e)) (yes Improve) (yes Open)))))))
+      (cond (better (is_sell o) (initiating_price o) (new_price_of e)) (Err AboveInitiating) (cond named (Ok Open) (Err NoSuchResponse)))
+      (cond (passes o (brought o e)) (Ok Improve) (Ok Open)))))))
 
   -- what it leaves: a record that is taken, or ends the auction, moves the highest sequence and the clock; one that ends
   -- it leaves the quotes as they are
-  abbrev pub leaves : Now → Event → Paper Ending → Now
-  leaves n e (no k) = n
-  leaves n e (yes g) =
+  abbrev pub leaves : Now → Event → Result Ending Refusal → Now
+  leaves n e (Err r) = n
+  leaves n e (Ok g) =
       record {
         sequence = e.sequence;
         clock = e.time;
@@ -182,13 +183,19 @@ module _ (o : Order) where
       }
 
   -- 31 to 34, then late, then by its kind
+  abbrev pub answer_by : Now → Event → Result (Unit {0}) Refusal → Answer
+  answer_by n e (Err r) = Refused r
+  answer_by n e (Ok u) = cond (leb o.interval e.time) Late (answer_of (decided n e))
+
   abbrev pub answer_to : Now → Event → Answer
-  answer_to n e =
-      let refusal = refusal_of n e in
-      cond (eqb refusal 0) (cond (leb o.interval e.time) Late (answer_of (decided n e))) (Refused refusal)
+  answer_to n e = answer_by n e (refusal_of n e)
+
+  abbrev pub after_by : Now → Event → Result (Unit {0}) Refusal → Now
+  after_by n e (Err r) = n
+  after_by n e (Ok u) = cond (leb o.interval e.time) (by_time n) (leaves n e (decided n e))
 
   abbrev pub after : Now → Event → Now
-  after n e = cond (eqb (refusal_of n e) 0) (cond (leb o.interval e.time) (by_time n) (leaves n e (decided n e))) n
+  after n e = after_by n e (refusal_of n e)
 
   -- record by record: the answers, those that are taken or end the auction, and what all of them leave
   abbrev pub answers_from : Now → List Event → List Said

@@ -4,6 +4,7 @@ use Rattle.std.specs.Result.{result_map_both}
 use Rattle.base.specs.Refusal.{number_of}
 use Rattle.base.specs.declared.refusal.Refusal.{Refusal}
 use Rattle.base.specs.Lists.{In, Every, sum}
+use Rattle.base.specs.declared.refusal.Refusal.TheVariants.{AuctionEnded, EventOutOfForm, SequenceTaken, BeforeClock, OwnSide, AboveInitiating, NoSuchResponse, BoardFull}
 use Rattle.board.specs.rules.Board.{response_at, is_live, live_count, live_of, find_gtx}
 use Rattle.board.specs.promises.Board.{Good, GtxAt}
 use Rattle.board.specs.declared.Board.{Board}
@@ -61,18 +62,18 @@ timed a = record { head = ended_by_time a.head; board = a.board }
 
 pub record Keeps : Type 0 where
   -- a refusal changes nothing
-  pub refused : (s : Sight) (a : Auction) (e : Event) (n : ℕ) → (step_by s a e).answer ≡ Refused n → (step_by s a e).auction ≡ a
-  pub not-closed : (a : Auction) (n : ℕ) → (close_of a).answer ≡ Refused n → (close_of a).auction ≡ a
+  pub refused : (s : Sight) (a : Auction) (e : Event) (r : Refusal) → (step_by s a e).answer ≡ Refused r → (step_by s a e).auction ≡ a
+  pub not-closed : (a : Auction) (r : Refusal) → (close_of a).answer ≡ Refused r → (close_of a).auction ≡ a
   -- orders are refused by 1 to 13 alone, events by 31 to 38 alone
   pub order-numbers : (o : Order) (r : Refusal) → accept_of o ≡ Err r → (1 ≤ number_of r) × (number_of r ≤ 13)
-  pub event-numbers : (s : Sight) (a : Auction) (e : Event) (n : ℕ) → (step_by s a e).answer ≡ Refused n → (31 ≤ n) × (n ≤ 38)
+  pub event-numbers : (s : Sight) (a : Auction) (e : Event) (r : Refusal) → (step_by s a e).answer ≡ Refused r → (31 ≤ number_of r) × (number_of r ≤ 38)
   -- one that is taken is in time, and moves the highest sequence up to its own; so one is that 35 to 38 refuse
   pub taken : (s : Sight) (a : Auction) (e : Event) → is_taken (step_by s a e).answer ≡ true → InTime a.head e × ((step_by s a e).auction.head.sequence ≡ e.sequence)
-  pub by_kind : (s : Sight) (a : Auction) (e : Event) (n : ℕ) → (step_by s a e).answer ≡ Refused n → 35 ≤ n → InTime a.head e
+  pub by_kind : (s : Sight) (a : Auction) (e : Event) (r : Refusal) → (step_by s a e).answer ≡ Refused r → 35 ≤ number_of r → InTime a.head e
   -- 31 once ended (below); 32 out of form; 33 where the sequence is not above the highest, whatever else it says; 34 before the last event's time
-  pub formless : (s : Sight) (a : Auction) (e : Event) → is_open a.head.ending ≡ true → event_formed e ≡ false → step_by s a e ≡ gives (Refused 32) a
-  pub old : (s : Sight) (a : Auction) (e : Event) → e.sequence ≤ a.head.sequence → step_by s a e ≡ gives (Refused (cond (is_open a.head.ending) (cond (event_formed e) 33 32) 31)) a
-  pub before : (s : Sight) (a : Auction) (e : Event) → is_open a.head.ending ≡ true → event_formed e ≡ true → a.head.sequence < e.sequence → e.time < a.head.clock → step_by s a e ≡ gives (Refused 34) a
+  pub formless : (s : Sight) (a : Auction) (e : Event) → is_open a.head.ending ≡ true → event_formed e ≡ false → step_by s a e ≡ gives (Refused EventOutOfForm) a
+  pub old : (s : Sight) (a : Auction) (e : Event) → e.sequence ≤ a.head.sequence → step_by s a e ≡ gives (Refused (cond (is_open a.head.ending) (cond (event_formed e) SequenceTaken EventOutOfForm) AuctionEnded)) a
+  pub before : (s : Sight) (a : Auction) (e : Event) → is_open a.head.ending ≡ true → event_formed e ≡ true → a.head.sequence < e.sequence → e.time < a.head.clock → step_by s a e ≡ gives (Refused BeforeClock) a
   -- the highest sequence never falls
   pub rises : (s : Sight) (a : Auction) (e : Event) → a.head.sequence ≤ (step_by s a e).auction.head.sequence
   -- one at L or after it is late, whatever it is: it ends the auction by time, and is not applied
@@ -81,8 +82,8 @@ pub record Keeps : Type 0 where
   -- closing by hand, while the auction is open, acts as an event at L
   pub when-closed : (a : Auction) → is_open a.head.ending ≡ true → close_of a ≡ gives Late (timed a)
   -- an ended auction never changes again, and answers 31 to all
-  pub ended : (s : Sight) (a : Auction) (e : Event) → is_open a.head.ending ≡ false → step_by s a e ≡ gives (Refused 31) a
-  pub ended-close : (a : Auction) → is_open a.head.ending ≡ false → close_of a ≡ gives (Refused 31) a
+  pub ended : (s : Sight) (a : Auction) (e : Event) → is_open a.head.ending ≡ false → step_by s a e ≡ gives (Refused AuctionEnded) a
+  pub ended-close : (a : Auction) → is_open a.head.ending ≡ false → close_of a ≡ gives (Refused AuctionEnded) a
 
 -- ---- a response that stands on the board is never counted twice
 
@@ -103,7 +104,7 @@ Rising m [] = Unit {0}
 Rising m (e ∷ es) = (m < e.sequence) × Rising e.sequence es
 
 abbrev pub RefusedAgain : Auction → Event → Type 0
-RefusedAgain a e = step_of a e ≡ gives (Refused (cond (is_open a.head.ending) 33 31)) a
+RefusedAgain a e = step_of a e ≡ gives (Refused (cond (is_open a.head.ending) SequenceTaken AuctionEnded)) a
 
 pub record Resend : Type 0 where
   -- once an event was taken, every event in form with its sequence or a lower one, met after any events between, is refused: by 33 while the auction is open and by 31 after; it changes nothing
@@ -219,10 +220,10 @@ pub record Amends : Type 0 where
   -- what an amend that is taken does
   pub does : (s : Sight) (a : Auction) (e : Event) → Sound a → e.kind ≡ 6 → SeesNamed s a e → is_taken (step_by s a e).answer ≡ true → Amended a e (step_by s a e).auction
   -- 36, then 37; never 35 and never 38, and it is never answered `ended`
-  pub answers : (s : Sight) (a : Auction) (e : Event) → e.kind ≡ 6 → SeesNamed s a e → InTime a.head e → (step_by s a e).answer ≡ cond (is_above a e) (Refused 36) (cond (ltb (named_place a e) 64) Taken (Refused 37))
-  pub never : (s : Sight) (a : Auction) (e : Event) → e.kind ≡ 6 → ((step_by s a e).answer ≡ Refused 35 → ⊥) × ((step_by s a e).answer ≡ Refused 38 → ⊥) × ((step_by s a e).answer ≡ Ended → ⊥)
+  pub answers : (s : Sight) (a : Auction) (e : Event) → e.kind ≡ 6 → SeesNamed s a e → InTime a.head e → (step_by s a e).answer ≡ cond (is_above a e) (Refused AboveInitiating) (cond (ltb (named_place a e) 64) Taken (Refused NoSuchResponse))
+  pub never : (s : Sight) (a : Auction) (e : Event) → e.kind ≡ 6 → ((step_by s a e).answer ≡ Refused OwnSide → ⊥) × ((step_by s a e).answer ≡ Refused BoardFull → ⊥) × ((step_by s a e).answer ≡ Ended → ⊥)
   -- a cancel: 37, else taken
-  pub cancel-answers : (s : Sight) (a : Auction) (e : Event) → e.kind ≡ 2 → SeesNamed s a e → InTime a.head e → (step_by s a e).answer ≡ cond (ltb (named_place a e) 64) Taken (Refused 37)
+  pub cancel-answers : (s : Sight) (a : Auction) (e : Event) → e.kind ≡ 2 → SeesNamed s a e → InTime a.head e → (step_by s a e).answer ≡ cond (ltb (named_place a e) 64) Taken (Refused NoSuchResponse)
 
 -- ---- the contracts on offer
 

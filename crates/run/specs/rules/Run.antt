@@ -46,7 +46,7 @@ abbrev pub is_taken : Answer → Bool
 is_taken Taken = true
 is_taken Ended = true
 is_taken Late = false
-is_taken (Refused n) = false
+is_taken (Refused r) = false
 
 -- those of a list that are taken
 abbrev pub taken_of : Auction → List Event → List Event

@@ -1,7 +1,7 @@
-use mathlib.Core.Path.{sym, ap}
+use mathlib.Core.Path.{sym, ap, ◌∙◌}
 use native.Mathlib.Omega.{arith}
 use Rattle.words.proofs.WroteLaws.{wrote-same}
-use Rattle.listing.specs.rules.Listing.{answer_text}
+use Rattle.listing.specs.rules.Listing.{field, answer_text}
 use Rattle.listing.proofs.lines.put_answer.Goals as goal
 
 pub returns-in-Taken : goal.returns-in-Taken
@@ -18,4 +18,4 @@ returns-in-Late c = record { wrote_bytes = wrote-same c.put_text-in-Late.ensures
 
 pub returns-in-Refused : goal.returns-in-Refused
 unfolding answer_text
-returns-in-Refused c = record { wrote_bytes = wrote-same c.put_word.ensures.wrote_bytes (ap answer_text (sym c.in-Refused.is)); upper_bound = omega arith }
+returns-in-Refused c = record { wrote_bytes = wrote-same c.put_word.ensures.wrote_bytes (ap (field " refused ") c.number.ensures ∙ ap answer_text (sym c.in-Refused.is)); upper_bound = omega arith }

@@ -1,4 +1,0 @@
-use Rattle.decision.proofs.exceeds.Goals as goal
-
-pub returns : goal.returns
-returns c = cc
