@@ -25,10 +25,10 @@ fn follow_events(
     let mut auction = opened;
     for _ in 0..u64::MAX {
         let n = input::read_tape(stdin, record)?;
-        let open = is_open(&auction);
         if n == 0 {
             break;
         }
+        let open = is_open(&auction);
         if n < size {
             return Err(Trouble::Cut { open });
         }

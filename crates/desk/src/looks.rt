@@ -25,14 +25,7 @@ impl<'a> Tape<'a> {
 
 // ---- opening
 
-fn opened(bytes: &[u8]) -> Result<Tape, u32> {
-    match tape::open_tape(bytes) {
-        Opened::Tape(trailer) => Ok(Tape { bytes, trailer }),
-        Opened::Refused(number) => Err(number),
-    }
-}
-
-// An order's auction; else the refusal's number.
+// The auction that an order opens; else the refusal's number.
 pub(crate) fn entered(order: ReadOrder) -> Result<Auction, u32> {
     let order = match order {
         ReadOrder::Order(order) => order,
@@ -43,6 +36,16 @@ pub(crate) fn entered(order: ReadOrder) -> Result<Auction, u32> {
         Entry::Accepted => Ok(opening.auction),
         Entry::Refused(number) => Err(number),
     }
+}
+
+// A tape, and the auction that its order opens; else the refusal's number.
+fn open(bytes: &[u8]) -> Result<(Tape, Auction), u32> {
+    let trailer = match tape::open_tape(bytes) {
+        Opened::Tape(trailer) => trailer,
+        Opened::Refused(number) => return Err(number),
+    };
+    let auction = entered(tape::order_in(bytes, trailer))?;
+    Ok((Tape { bytes, trailer }, auction))
 }
 
 // ---- where the auction stands
@@ -126,12 +129,8 @@ pub(crate) fn look_at(rt: &impl Print, stdin: &mut impl Read, look: Look) -> Res
     let mut bytes = [0u8; MOST];
     let n = input::read_tape(stdin, &mut bytes)?;
     let mut screen = Screen::new(rt);
-    let tape = match opened(&bytes[..n]) {
-        Ok(tape) => tape,
-        Err(number) => return Ok(screen.refused(number)?),
-    };
-    let auction = match entered(tape::order_in(tape.bytes, tape.trailer)) {
-        Ok(auction) => auction,
+    let (tape, auction) = match open(&bytes[..n]) {
+        Ok(opened) => opened,
         Err(number) => return Ok(screen.refused(number)?),
     };
     match look {
