@@ -14,28 +14,29 @@ import sys
 
 
 # The functions that read, open a file or write: what a file holds, or the system says, no contract can say. docs/STATEMENTS.md names them.
-OUTSIDE = {"crates/input": ["last_error", "read_tape", "open", "fail"]}
+OUTSIDE = {"crates/input": ["read_tape", "open", "read_file", "fail"]}
 
 
-# What a program's function promises: `runner` writes what `listing` wrote, `evening` counts what came of each tape.
+# What a program's function promises, by the file that it stands in: `runner` writes what `listing` wrote, `evening` counts what came of each tape.
 LISTS = ["result ≡ length_in (listed_of tape.now out.old)", "out.new ≡ bytes_of tape.now out.old"]
 PROGRAMS = {
-    "crates/runner": {"answer": LISTS},
+    "crates/runner": {"main.answer": LISTS},
     "crates/evening": {
-        "one_more": ["result ≡ one_more n"],
-        "no_tapes": ["result ≡ no_tapes"],
-        "count_tape": ["result ≡ counted_tape t"],
-        "count_unreadable": ["result ≡ counted_unreadable t"],
-        "count_ending": ["result ≡ counted_ending t g"],
-        "count_listed": ["result ≡ counted_listed t l"],
+        "tally.one_more": ["result ≡ one_more n"],
+        "tally.new": ["result ≡ no_tapes"],
+        "tally.count_tape": ["self.new ≡ counted_tape self.old"],
+        "tally.count_unreadable": ["self.new ≡ counted_unreadable self.old"],
+        "tally.count_ending": ["self.new ≡ counted_ending self.old ending"],
+        "tally.count_listed": ["self.new ≡ counted_listed self.old listed"],
     },
 }
 
 
 def contract(crate, name):
-    """The contract of a program's function, as it stands in src/main.rt."""
-    with open(crate + "/src/main.rt") as f:
-        found = re.search(r"^fn %s\(.*?^\{" % name, f.read(), re.M | re.S)
+    """The contract of a program's function or method, as it stands in the file of src/ that its name begins with."""
+    file, name = name.split(".")
+    with open("%s/src/%s.rt" % (crate, file)) as f:
+        found = re.search(r"^ *(?:pub\(crate\) )?fn %s\(.*?^ *\{$" % name, f.read(), re.M | re.S)
     return found.group(0) if found else ""
 
 

@@ -3,78 +3,48 @@
 
 #![tactic(auto)]
 
-ghost use Rattle.std.specs.Prelude.{◌≡◌, ◌≤◌, length};
-
 use input::MOST;
 use lines::print_name;
 use play::play_tape;
 use std::rt::Files;
+use wrong::Wrong;
 
 mod lines;
 mod loans;
 mod play;
 mod results;
 mod seen;
+mod wrong;
 
-fn tape_buffer() -> [u8; MOST]
-    ensures { 65537 ≡ length result }
-{
-    [0; MOST]
-}
-
-// The end of the line that begins at a place.
-fn line_end(names: &[u8], at: usize) -> usize
-    requires { at ≤ length names.now }
-    ensures { (at ≤ result) × (result ≤ length names.now) }
-{
-    let mut i = at;
-    while i < names.len() {
-        if names[i] == b'\n' {
-            return i;
+// One tape by its name. A file that can't be read is nothing wrong with the forms.
+fn serve(rt: &(impl Files + Print), name: &[u8], tape: &mut [u8]) -> Result<(), Wrong> {
+    print_name(rt, "TAPE ", name);
+    match input::read_file(rt, name, tape) {
+        Ok(n) => play_tape(rt, &tape[..n]),
+        Err(_) => {
+            print_name(rt, "UNREADABLE ", name);
+            Ok(())
         }
-        i += 1;
     }
-    i
-}
-
-// A file that can't be read is nothing wrong with the forms.
-fn unreadable(rt: &impl Print, name: &[u8]) -> bool {
-    print_name(rt, b"UNREADABLE ", name);
-    true
-}
-
-// One tape by its name; whether nothing was wrong.
-fn serve(rt: &(impl Files + Print), name: &[u8], tape: &mut [u8]) -> bool {
-    print_name(rt, b"TAPE ", name);
-    let Ok(mut file) = input::open(rt, name) else {
-        return unreadable(rt, name);
-    };
-    let c = input::read_tape(&mut file, tape);
-    if !c.whole {
-        return unreadable(rt, name);
-    }
-    let n = c.length;
-    play_tape(rt, &tape[..n])
 }
 
 // Each line in turn.
-fn serve_all(rt: &(impl Files + Print), names: &[u8], tape: &mut [u8]) {
-    let mut at = 0;
-    while at < names.len() {
-        let end = line_end(names, at);
-        if !serve(rt, &names[at..end], tape) {
-            return;
-        }
-        if end == names.len() {
-            return;
-        }
-        at = end + 1;
+fn serve_all(rt: &(impl Files + Print), names: &[u8], tape: &mut [u8]) -> Result<(), Wrong> {
+    for line in names.split_inclusive(|byte| *byte == b'\n') {
+        serve(rt, line.strip_suffix(b"\n").unwrap_or(line), tape)?;
     }
+    Ok(())
 }
 
 fn main(rt: HostRuntime) {
     let mut names = [0u8; 65536];
-    let mut tape = tape_buffer();
-    let n = input::read_tape(&mut rt.stdin(), &mut names).length;
-    serve_all(&rt, &names[..n], &mut tape);
+    let mut tape = [0u8; MOST];
+    // where the names end, or can be read no further
+    let n = match input::read_tape(&mut rt.stdin(), &mut names) {
+        Ok(n) => n,
+        Err(stopped) => stopped.length,
+    };
+    if let Err(wrong) = serve_all(&rt, &names[..n], &mut tape) {
+        let _ = println!(rt; "{wrong}");
+    }
 }

@@ -1,121 +1,95 @@
 // A tape played by the forms that document 01 names: the tape is held; a cancel, and every second other event, goes to a lent auction, the
 // others to the step by value; the auction is closed by hand.
-ghost use Rattle.std.specs.Prelude.{◌≡◌, true};
+ghost use Rattle.std.specs.Prelude.{◌≡◌};
 ghost use Rattle.events.specs.rules.Step.{step_of};
-ghost use Rattle.steps.specs.rules.Lent.{cancel_event};
 
-use crate::lines::{print_auction, print_end, print_event, print_last, print_refused};
+use crate::lines::{print_auction, print_end, print_event, print_refused};
 use crate::loans::{applied, cancelled};
 use crate::results::print_results;
 use crate::seen::is_right;
+use crate::wrong::Wrong;
 use auction::Auction;
-use base::wide;
+use base::Refusal;
 use events::Stepped;
-use tape::{Event, Order, Trailer};
+use tape::{Event, Trailer};
 
-// A cancel that its numbers tell whole.
-fn is_cancel(e: Event) -> bool
-    ensures { result ≡ true → e ≡ cancel_event e.sequence e.time e.f12 }
+// One event by the form that is its turn: a cancel that its numbers tell whole, else by the place.
+#[tactic(auto, unfolding(steps::specs::rules::Lent::cancel_event))]
+fn played(auction: Auction, event: Event, place: usize) -> Stepped
+    ensures { result ≡ step_of auction event }
 {
-    (e.kind == 2)
-        & (e.marks == 0)
-        & (e.side == 0)
-        & (e.f16 == 0)
-        & (e.f20 == 0)
-        & (e.f24 == 0)
-        & (e.participant == 0)
-}
-
-// One event by the form that is its turn.
-fn played(a: Auction, e: Event, place: usize) -> Stepped
-    ensures { result ≡ step_of a e }
-{
-    if is_cancel(e) {
-        return cancelled(a, e.sequence, e.time, e.f12);
-    }
-    if place % 2 == 0 {
-        return steps::step(a, e);
-    }
-    applied(a, e)
-}
-
-// The auction after its events, and whether nothing was wrong.
-#[derive(Clone, Copy)]
-struct Heard {
-    right: bool,
-    auction: Auction,
-}
-
-// One event, with its line.
-fn play_event(rt: &impl Print, a: Auction, e: Event, place: usize) -> Heard {
-    let s = played(a, e, place);
-    let answer = s.answer;
-    let auction = s.auction;
-    print_event(rt, e.sequence, answer);
-    Heard {
-        right: is_right(a.board, auction.board, e.kind, answer),
-        auction,
+    match event {
+        Event {
+            kind: 2,
+            marks: 0,
+            side: 0,
+            f16: 0,
+            f20: 0,
+            f24: 0,
+            participant: 0,
+            sequence,
+            time,
+            f12: named,
+        } => cancelled(auction, sequence, time, named),
+        _ if place % 2 == 0 => steps::step(auction, event),
+        _ => applied(auction, event),
     }
 }
 
-// The events up to the end of the tape.
-fn play_events(rt: &impl Print, bytes: &[u8], t: Trailer, a: Auction) -> Heard {
-    let mut last = a;
+// One event, with its line; the auction after it.
+fn play_event(
+    rt: &impl Print,
+    before: Auction,
+    event: Event,
+    place: usize,
+) -> Result<Auction, Wrong> {
+    let Stepped { answer, auction } = played(before, event, place);
+    print_event(rt, event.sequence, answer);
+    if !is_right(before.board, auction.board, event.kind, answer) {
+        return Err(Wrong::Board {
+            sequence: event.sequence,
+        });
+    }
+    Ok(auction)
+}
+
+// The events up to the end of the tape; the auction after them.
+fn play_events(
+    rt: &impl Print,
+    bytes: &[u8],
+    trailer: Trailer,
+    opened: Auction,
+) -> Result<Auction, Wrong> {
+    let mut auction = opened;
     let mut place = 0;
-    let mut current = reader::tape_event(bytes, t, place);
-    loop {
-        let Some(e) = current else {
-            return Heard {
-                right: true,
-                auction: last,
-            };
-        };
-        let p = play_event(rt, last, e, place);
-        if !p.right {
-            print_last(rt, b"WRONG board after event ", wide(e.sequence));
-            return p;
-        }
-        last = p.auction;
-        current = reader::tape_next(bytes, t, place);
+    let mut current = reader::tape_event(bytes, trailer, place);
+    while let Some(event) = current {
+        auction = play_event(rt, auction, event, place)?;
+        current = reader::tape_next(bytes, trailer, place);
         place += 1;
     }
+    Ok(auction)
 }
 
-fn play_auction(rt: &impl Print, bytes: &[u8], t: Trailer, a: Auction) -> bool {
-    print_auction(rt, a.head);
-    let p = play_events(rt, bytes, t, a);
-    if !p.right {
-        return false;
-    }
-    let s = steps::close(p.auction);
-    let last = s.auction;
-    print_end(rt, last.head);
-    print_results(rt, last)
+// The auction that the tape's order opens.
+fn open(bytes: &[u8]) -> Result<(Trailer, Auction), Refusal> {
+    let trailer = tape::open_tape(bytes)?;
+    let auction = auction::accept(reader::tape_order(bytes, trailer)?)?;
+    Ok((trailer, auction))
 }
 
-fn play_refused(rt: &impl Print, number: u32) -> bool {
-    print_refused(rt, number);
-    true
-}
-
-fn play_order(rt: &impl Print, bytes: &[u8], t: Trailer, o: Order) -> bool {
-    match auction::accept(o) {
-        Ok(a) => play_auction(rt, bytes, t, a),
-        Err(r) => play_refused(rt, r.number()),
-    }
-}
-
-fn play_opened(rt: &impl Print, bytes: &[u8], t: Trailer) -> bool {
-    match reader::tape_order(bytes, t) {
-        Ok(o) => play_order(rt, bytes, t, o),
-        Err(refusal) => play_refused(rt, refusal.number()),
-    }
-}
-
-// The listing of a tape; whether nothing was wrong.
-pub(crate) fn play_tape(rt: &impl Print, bytes: &[u8]) -> bool {
-    match tape::open_tape(bytes) {
-        Ok(t) => play_opened(rt, bytes, t),
-        Err(refusal) => play_refused(rt, refusal.number()),
-    }
+// The listing of a tape.
+pub(crate) fn play_tape(rt: &impl Print, bytes: &[u8]) -> Result<(), Wrong> {
+    let (trailer, opened) = match open(bytes) {
+        Ok(opened) => opened,
+        Err(refusal) => {
+            print_refused(rt, refusal);
+            return Ok(());
+        }
+    };
+    print_auction(rt, opened.head);
+    let heard = play_events(rt, bytes, trailer, opened)?;
+    let closed = steps::close(heard).auction;
+    print_end(rt, closed.head);
+    print_results(rt, closed)
 }

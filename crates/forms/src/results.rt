@@ -1,47 +1,29 @@
 // The end of a listing: the fills, which are written from a place of lent words that is not the first, and their sum.
-ghost use Rattle.std.specs.Prelude.{◌*◌, ◌≤◌, length};
+ghost use Rattle.std.specs.Prelude.{◌≤◌, length};
 
-use crate::lines::{print, print_fill, print_last};
+use crate::lines::{print_fill, print_total};
+use crate::wrong::Wrong;
 use auction::Auction;
-use base::{Refusal, wide};
 use fills::write_fills;
 
-// A line for each of n fills; the sum of their quantities.
-fn print_fills(rt: &impl Print, words: &[u32], n: usize) -> u64
-    requires { (n ≤ 130) × (3 * n ≤ length words.now) }
+// A line for each fill; the sum of their quantities.
+fn print_fills(rt: &impl Print, fills: &[[u32; 3]]) -> u64
+    requires { length fills.now ≤ 130 }
 {
     let mut sum = 0;
-    let mut i = 0;
-    while i < n {
-        let k = 3 * i;
-        print_fill(rt, words[k], words[k + 1], words[k + 2]);
-        sum += wide(words[k + 2]);
-        i += 1;
+    for [party, price, quantity] in fills {
+        print_fill(rt, *party, *price, *quantity);
+        sum += u64::from(*quantity);
     }
     sum
 }
 
-// The fills that were counted, if there can be so many.
-fn print_counted(rt: &impl Print, words: &[u32], f: Result<u32, Refusal>) -> bool
-    requires { 390 ≤ length words.now }
-{
-    let Ok(n) = f else {
-        print(rt, b"WRONG fills refused\n");
-        return false;
-    };
-    let n = n as usize;
-    if 130 < n {
-        print(rt, b"WRONG count of fills\n");
-        return false;
-    }
-    print_last(rt, b"TOTAL ", print_fills(rt, words, n));
-    true
-}
-
-// Whether nothing was wrong.
-pub(crate) fn print_results(rt: &impl Print, a: Auction) -> bool {
+pub(crate) fn print_results(rt: &impl Print, auction: Auction) -> Result<(), Wrong> {
     let mut words = [0u32; 400];
     let start = 3;
-    let f = write_fills(a, &mut words, start);
-    print_counted(rt, &words[start..], f)
+    let n = write_fills(auction, &mut words, start).map_err(|_| Wrong::FillsRefused)?;
+    let (fills, _) = words[start..start + 390].as_chunks::<3>();
+    let fills = fills.get(..n as usize).ok_or(Wrong::FillCount)?;
+    print_total(rt, print_fills(rt, fills));
+    Ok(())
 }

@@ -1,43 +1,33 @@
 // Whether the board's own functions tell what an event did to it.
-use base::wide;
 use board::{Board, first_free, is_live, live_count};
 use events::Answer;
 
 // The lowest free place, looked for place by place; 64 where none is free.
-fn looked_for(b: Board) -> u32 {
-    let mut i: u32 = 0;
-    while i < 64 {
-        if !is_live(b, i as usize) {
-            return i;
-        }
-        i += 1;
-    }
-    64
+fn looked_for(board: Board) -> u32 {
+    (0..64)
+        .find(|place| !is_live(board, *place as usize))
+        .unwrap_or(64)
 }
 
 // A response was taken: one more place is live, the lowest that was free.
 fn one_more(before: Board, after: Board) -> bool {
     let at = first_free(before) as usize;
-    (wide(live_count(after)) == wide(live_count(before)) + 1) & is_live(after, at)
+    u64::from(live_count(after)) == u64::from(live_count(before)) + 1 && is_live(after, at)
 }
 
 // A response was cancelled: one place fewer is live.
 fn one_fewer(before: Board, after: Board) -> bool {
-    wide(live_count(after)) + 1 == wide(live_count(before))
+    u64::from(live_count(after)) + 1 == u64::from(live_count(before))
 }
 
 // Of an event that was taken, by its kind: an amend takes no place and frees none, a limit order may take a place or none.
 fn is_taken(before: Board, after: Board, kind: u8) -> bool {
-    if kind == 1 {
-        return one_more(before, after);
+    match kind {
+        1 => one_more(before, after),
+        2 => one_fewer(before, after),
+        6 => before.live == after.live,
+        _ => true,
     }
-    if kind == 2 {
-        return one_fewer(before, after);
-    }
-    if kind == 6 {
-        return before.live == after.live;
-    }
-    true
 }
 
 pub(crate) fn is_right(before: Board, after: Board, kind: u8, answer: Answer) -> bool {
@@ -47,7 +37,6 @@ pub(crate) fn is_right(before: Board, after: Board, kind: u8, answer: Answer) ->
     match answer {
         Answer::Taken => is_taken(before, after, kind),
         Answer::Ended => true,
-        Answer::Late => before.live == after.live,
-        Answer::Refused(_) => before.live == after.live,
+        Answer::Late | Answer::Refused(_) => before.live == after.live,
     }
 }

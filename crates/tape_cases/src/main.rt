@@ -7,173 +7,129 @@
 
 use base::Refusal;
 use std::io::Read;
+use std::ops::Range;
 use words::bytes::read_word;
 
-// ---- printing
+// ---- printing: a write that fails is left at that
 
-fn text(rt: &impl Print, s: &[u8]) {
-    let _ = rt.write_all(s);
+fn text(rt: &impl Print, s: &str) {
+    let _ = rt.print(s);
 }
 
 fn number(rt: &impl Print, n: u32) {
     let _ = print!(rt; " {n}");
 }
 
-fn refused(rt: &impl Print, r: Refusal) {
-    text(rt, b"refused");
-    number(rt, r.number());
-}
-
-fn small(rt: &impl Print, b: u8) {
-    number(rt, b as u32);
+fn refused(rt: &impl Print, refusal: Refusal) {
+    let _ = print!(rt; "refused {refusal}");
 }
 
 // All bytes, in decimal.
 fn bytes(rt: &impl Print, s: &[u8]) {
-    let mut i = 0;
-    while i < s.len() {
-        small(rt, s[i]);
-        i += 1;
+    for byte in s {
+        number(rt, u32::from(*byte));
     }
 }
 
-// Do the first bytes of one stand at the start of the other?
-fn starts(s: &[u8], front: &[u8]) -> bool {
-    if s.len() < front.len() {
-        return false;
-    }
-    let mut i = 0;
-    while i < front.len() {
-        if s[i] != front[i] {
-            return false;
-        }
-        i += 1;
-    }
-    true
-}
-
-fn same(rt: &impl Print, yes: bool) {
-    if yes {
-        text(rt, b" same");
+// Are the first bytes of a case those that were written back?
+fn same(rt: &impl Print, s: &[u8], back: &[u8]) {
+    let word = if s.starts_with(back) {
+        " same"
     } else {
-        text(rt, b" differs");
-    }
+        " differs"
+    };
+    text(rt, word);
 }
 
-fn written(rt: &impl Print, w: Result<(), Refusal>) {
-    match w {
-        Ok(()) => text(rt, b"done"),
-        Err(r) => refused(rt, r),
+fn written(rt: &impl Print, answer: Result<(), Refusal>) {
+    match answer {
+        Ok(()) => text(rt, "done"),
+        Err(refusal) => refused(rt, refusal),
     }
 }
 
 // ---- reading: the values, and whether they write back to the same bytes
 
 fn order_values(rt: &impl Print, o: tape::Order) {
-    text(rt, b"order");
-    small(rt, o.side);
-    small(rt, o.mode);
-    small(rt, o.marks);
-    number(rt, o.size);
-    number(rt, o.limit);
-    number(rt, o.stop);
-    number(rt, o.nbb);
-    number(rt, o.nbo);
-    number(rt, o.bb);
-}
-
-fn order_rest(rt: &impl Print, o: tape::Order) {
-    number(rt, o.bo);
-    number(rt, o.time);
-    number(rt, o.opens);
-    number(rt, o.closes);
-    number(rt, o.interval);
-    number(rt, o.displayed);
-    number(rt, o.collar);
+    text(rt, "order");
+    bytes(rt, &[o.side, o.mode, o.marks]);
+    let values = [
+        o.size,
+        o.limit,
+        o.stop,
+        o.nbb,
+        o.nbo,
+        o.bb,
+        o.bo,
+        o.time,
+        o.opens,
+        o.closes,
+        o.interval,
+        o.displayed,
+        o.collar,
+    ];
+    for value in values {
+        number(rt, value);
+    }
 }
 
 fn order(rt: &impl Print, s: &[u8]) {
     match tape::read_order(s) {
         Ok(o) => {
             order_values(rt, o);
-            order_rest(rt, o);
             let mut back = [0u8; 64];
             let _ = tape::write_order(o, &mut back);
-            same(rt, starts(s, &back));
+            same(rt, s, &back);
         }
-        Err(r) => refused(rt, r),
+        Err(refusal) => refused(rt, refusal),
     }
 }
 
 fn event_values(rt: &impl Print, e: tape::Event) {
-    text(rt, b"event");
+    text(rt, "event");
     number(rt, e.sequence);
     number(rt, e.time);
-    small(rt, e.kind);
-    small(rt, e.marks);
-    small(rt, e.side);
-    number(rt, e.f12);
-    number(rt, e.f16);
-    number(rt, e.f20);
-    number(rt, e.f24);
-    number(rt, e.participant);
-}
-
-// Of which form a case is, for those that have one for each: the new one's numbers are ten higher.
-fn is_wide(what: u32) -> bool {
-    10 < what
-}
-
-fn event_back(rt: &impl Print, wide: bool, e: tape::Event, s: &[u8], back: &mut [u8]) {
-    let _ = tape::write_event(wide, e, back);
-    same(rt, starts(s, back));
+    bytes(rt, &[e.kind, e.marks, e.side]);
+    for value in [e.f12, e.f16, e.f20, e.f24, e.participant] {
+        number(rt, value);
+    }
 }
 
 fn event(rt: &impl Print, wide: bool, s: &[u8]) {
     match tape::read_event(wide, s) {
         Ok(e) => {
             event_values(rt, e);
-            let mut back = [0u8; 40];
-            let start = 0;
+            let mut longest = [0u8; 40];
             let n = tape::event_bytes(wide);
-            event_back(rt, wide, e, s, &mut back[start..n]);
+            let back = &mut longest[..n];
+            let _ = tape::write_event(wide, e, back);
+            same(rt, s, back);
         }
-        Err(r) => refused(rt, r),
+        Err(refusal) => refused(rt, refusal),
     }
 }
 
-fn form(rt: &impl Print, wide: bool) {
-    if wide {
-        text(rt, b" new");
-    } else {
-        text(rt, b" old");
-    }
+fn trailer_values(rt: &impl Print, word: &str, t: tape::Trailer) {
+    let form = if t.wide { "new" } else { "old" };
+    let _ = print!(rt; "{word} {form} {} {}", t.order, t.events);
 }
 
 fn trailer(rt: &impl Print, s: &[u8]) {
     match tape::read_trailer(s) {
         Ok(t) => {
-            text(rt, b"trailer");
-            form(rt, t.wide);
-            number(rt, t.order);
-            number(rt, t.events);
+            trailer_values(rt, "trailer", t);
             let mut back = [0u8; 16];
             let _ = tape::write_trailer(t, &mut back);
-            same(rt, starts(s, &back));
+            same(rt, s, &back);
         }
-        Err(r) => refused(rt, r),
+        Err(refusal) => refused(rt, refusal),
     }
 }
 
 fn opened(rt: &impl Print, s: &[u8]) {
     match tape::open_tape(s) {
-        Ok(t) => {
-            text(rt, b"tape");
-            form(rt, t.wide);
-            number(rt, t.order);
-            number(rt, t.events);
-        }
-        Err(r) => refused(rt, r),
+        Ok(t) => trailer_values(rt, "tape", t),
+        Err(refusal) => refused(rt, refusal),
     }
 }
 
@@ -241,98 +197,56 @@ fn put_trailer(rt: &impl Print, wide: bool, v: &[u8], lent: &mut [u8]) {
 
 // ---- moving the tape that the lent bytes are: the answer, and all bytes of a room of as many bytes as the first value says
 
-fn moved(rt: &impl Print, m: Result<u64, Refusal>) {
-    match m {
+fn moved(rt: &impl Print, answer: Result<u64, Refusal>) {
+    match answer {
         Ok(n) => {
             let _ = print!(rt; "moved {n}");
         }
-        Err(r) => refused(rt, r),
-    }
-}
-
-// A 7 in each byte.
-fn sevens(room: &mut [u8]) {
-    let mut i = 0;
-    while i < room.len() {
-        room[i] = 7;
-        i += 1;
+        Err(refusal) => refused(rt, refusal),
     }
 }
 
 // The bytes of the room, which are sevens before it is moved into; of a long one only those at its end.
-fn move_into(rt: &impl Print, wide: bool, s: &[u8], room: &mut [u8]) {
-    sevens(room);
-    moved(rt, moving::move_tape(wide, s, room));
-    let n = room.len();
-    if n < 400 {
-        return bytes(rt, room);
-    }
-    bytes(rt, &room[n - 24..]);
-}
-
 fn move_to(rt: &impl Print, wide: bool, v: &[u8], s: &[u8]) {
-    let mut room = [0u8; 65540];
-    let start = 0;
+    let mut longest = [7u8; 65540];
     let n = read_word(v, 0) as usize;
-    if n <= 65540 {
-        move_into(rt, wide, s, &mut room[start..n]);
-    }
+    let Some(room) = longest.get_mut(..n) else {
+        return;
+    };
+    moved(rt, moving::move_tape(wide, s, room));
+    let shown = if n < 400 { 0 } else { n - 24 };
+    bytes(rt, &room[shown..]);
 }
 
 // ---- a case
 
+// Where there is one for each form, the new one's number is ten higher.
 fn run(rt: &impl Print, what: u32, v: &[u8], lent: &mut [u8]) {
-    let wide = is_wide(what);
-    if what == 1 {
-        return order(rt, lent);
+    let wide = 10 < what;
+    match what {
+        1 => order(rt, lent),
+        2 | 12 => event(rt, wide, lent),
+        3 => trailer(rt, lent),
+        4 => opened(rt, lent),
+        5 => put_order(rt, v, lent),
+        6 | 16 => put_event(rt, wide, v, lent),
+        8 | 18 => move_to(rt, wide, v, lent),
+        _ => put_trailer(rt, wide, v, lent),
     }
-    if (what == 2) | (what == 12) {
-        return event(rt, wide, lent);
-    }
-    if what == 3 {
-        return trailer(rt, lent);
-    }
-    if what == 4 {
-        return opened(rt, lent);
-    }
-    if what == 5 {
-        return put_order(rt, v, lent);
-    }
-    if (what == 6) | (what == 16) {
-        return put_event(rt, wide, v, lent);
-    }
-    if (what == 8) | (what == 18) {
-        return move_to(rt, wide, v, lent);
-    }
-    put_trailer(rt, wide, v, lent);
 }
 
-// Bytes of standard input into a part of a slice.
-fn fill(stdin: &mut impl Read, s: &mut [u8], from: usize, to: usize) {
-    if to < from {
-        return;
+// Bytes of standard input into a part of a slice, if it has that part; what a case that is cut off lacks stays zero.
+fn fill(stdin: &mut impl Read, s: &mut [u8], part: Range<usize>) {
+    if let Some(part) = s.get_mut(part) {
+        let _ = input::read_tape(stdin, part);
     }
-    if s.len() < to {
-        return;
-    }
-    input::read_tape(stdin, &mut s[from..to]);
 }
 
-// Runs a case on the first n bytes.
-fn run_on(rt: &impl Print, what: u32, v: &[u8], lent: &mut [u8], n: usize) {
-    if lent.len() < n {
-        return;
-    }
-    let start = 0;
-    run(rt, what, v, &mut lent[start..n]);
-    text(rt, b"\n");
-}
-
-// Reads a case and runs it; false where there is none.
-fn next_case(rt: &impl Print, stdin: &mut impl Read) -> bool {
+// Reads a case and runs it; none at the input's end.
+fn next_case(rt: &impl Print, stdin: &mut impl Read) -> Option<()> {
     let mut head = [0u8; 20];
-    if input::read_tape(stdin, &mut head).length < 20 {
-        return false;
+    if input::read_tape(stdin, &mut head).ok()? < 20 {
+        return None;
     }
     let what = read_word(&head, 0);
     let v = read_word(&head, 4) as usize;
@@ -340,21 +254,23 @@ fn next_case(rt: &impl Print, stdin: &mut impl Read) -> bool {
     let h = read_word(&head, 12) as usize;
     let t = read_word(&head, 16) as usize;
     let mut values = [0u8; 64];
-    let mut lent = [0u8; 65540];
-    if n < t {
-        return false;
+    let mut longest = [0u8; 65540];
+    let end = n.checked_sub(t)?;
+    fill(stdin, &mut values, 0..v);
+    fill(stdin, &mut longest, 0..h);
+    fill(stdin, &mut longest, end..n);
+    if let Some(lent) = longest.get_mut(..n) {
+        run(rt, what, &values, lent);
+        text(rt, "\n");
     }
-    fill(stdin, &mut values, 0, v);
-    fill(stdin, &mut lent, 0, h);
-    fill(stdin, &mut lent, n - t, n);
-    run_on(rt, what, &values, &mut lent, n);
-    true
+    Some(())
 }
 
 fn main(rt: HostRuntime) {
     let mut stdin = rt.stdin();
-    let mut turns: u32 = 100000;
-    while turns > 0 && next_case(&rt, &mut stdin) {
-        turns -= 1;
+    for _ in 0..100000 {
+        if next_case(&rt, &mut stdin).is_none() {
+            break;
+        }
     }
 }

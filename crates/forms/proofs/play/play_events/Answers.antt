@@ -19,14 +19,14 @@ below s t k x e is there = ⊎_elim (λ l. absurd (true≢false (not_end e (sym 
 
 pub overflow_add-place : goal.overflow_add-place
 overflow_add-place g c =
-    let there = below c.args.bytes.now c.args.t c.loop-current.place c.loop-current.current c.in-Some.e c.loop-current.invariant c.in-Some.is in
-    let few : c.args.t.events < 2 ^ 32 = search rules in
+    let there = below c.args.bytes.now c.args.trailer c.loop-current.place c.loop-current.current c.in-Some.event c.loop-current.invariant c.in-Some.is in
+    let few : c.args.trailer.events < 2 ^ 32 = search rules in
     omega (arith, there, few)
 
 pub loop-current-smaller : goal.loop-current-smaller
-loop-current-smaller g c = omega (arith, below c.args.bytes.now c.args.t c.loop-current.place c.loop-current.current c.in-Some.e c.loop-current.invariant c.in-Some.is)
+loop-current-smaller g c = omega (arith, below c.args.bytes.now c.args.trailer c.loop-current.place c.loop-current.current c.in-Some.event c.loop-current.invariant c.in-Some.is)
 
 pub loop-current-preserved : goal.loop-current-preserved
 loop-current-preserved g c =
-    let there = below c.args.bytes.now c.args.t c.loop-current.place c.loop-current.current c.in-Some.e c.loop-current.invariant c.in-Some.is in
-    c.tape_next-current.ensures ∙ ap (current_of c.args.bytes.now c.args.t) (goes_on c.args.t c.loop-current.place there)
+    let there = below c.args.bytes.now c.args.trailer c.loop-current.place c.loop-current.current c.in-Some.event c.loop-current.invariant c.in-Some.is in
+    c.tape_next-current.ensures ∙ ap (current_of c.args.bytes.now c.args.trailer) (goes_on c.args.trailer c.loop-current.place there)

@@ -1,9 +1,0 @@
--- Of `desk::print_standing`: the place lies within the board.
-use Rattle.std.proofs.Common.{◌-◌, ◌≤◌}
-use Rattle.desk.proofs.print_standing.Given as goal
-
-abbrev pub invariant-loop-i : goal.invariant-loop-i
-invariant-loop-i g l = l.i ≤ 64
-
-abbrev pub decreases-loop-i : goal.decreases-loop-i
-decreases-loop-i g l = 64 - l.i

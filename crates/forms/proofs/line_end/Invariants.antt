@@ -1,9 +1,0 @@
--- Of `forms::line_end`: the place lies within the names.
-use Rattle.std.proofs.Common.{length, ◌-◌, ◌≤◌}
-use Rattle.forms.proofs.line_end.Given as goal
-
-abbrev pub invariant-loop-i : goal.invariant-loop-i
-invariant-loop-i l = (l.at ≤ l.i) × (l.i ≤ length l.names)
-
-abbrev pub decreases-loop-i : goal.decreases-loop-i
-decreases-loop-i l = length l.names - l.i

@@ -1,9 +1,0 @@
--- Of `forms::seen::looked_for`: the place lies within the board.
-use Rattle.std.proofs.Common.{◌-◌, ◌≤◌}
-use Rattle.forms.proofs.seen.looked_for.Given as goal
-
-abbrev pub invariant-loop-i : goal.invariant-loop-i
-invariant-loop-i l = l.i ≤ 64
-
-abbrev pub decreases-loop-i : goal.decreases-loop-i
-decreases-loop-i l = 64 - l.i
