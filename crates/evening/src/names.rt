@@ -7,7 +7,7 @@ use std::io::Read;
 
 const BUFFER: usize = 65536;
 
-// The bytes that were read and not yet taken stand in the buffer from `at` up to `got`.
+// The bytes that were read and not yet taken stand in the buffer from `at` up to `got`. It is no `BufReader`: that one takes an allocator.
 #[derive(Drop)]
 pub(crate) struct Names<R: Read + Drop> {
     stdin: R,

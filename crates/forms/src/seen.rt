@@ -2,11 +2,9 @@
 use board::{Board, first_free, is_live, live_count};
 use events::Answer;
 
-// The lowest free place, looked for place by place; 64 where none is free.
-fn looked_for(board: Board) -> u32 {
-    (0..64)
-        .find(|place| !is_live(board, *place as usize))
-        .unwrap_or(64)
+// The lowest free place, looked for place by place.
+fn looked_for(board: Board) -> Option<u32> {
+    (0..64).find(|place| !is_live(board, *place as usize))
 }
 
 // A response was taken: one more place is live, the lowest that was free.
@@ -31,7 +29,8 @@ fn is_taken(before: Board, after: Board, kind: u8) -> bool {
 }
 
 pub(crate) fn is_right(before: Board, after: Board, kind: u8, answer: Answer) -> bool {
-    if first_free(after) != looked_for(after) {
+    // `first_free` has 64 for none
+    if first_free(after) != looked_for(after).unwrap_or(64) {
         return false;
     }
     match answer {
