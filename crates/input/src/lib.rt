@@ -37,11 +37,25 @@ impl From<io::Error> for SystemError {
     }
 }
 
-// Without what std adds to the system's words, as in `Broken pipe (os error 32)`.
+impl From<SystemError> for u64 {
+    fn from(error: SystemError) -> u64 {
+        u64::from(error.number)
+    }
+}
+
 impl fmt::Display for SystemError {
     fn fmt<W: fmt::Write>(&self, f: &mut fmt::Formatter<W>) -> fmt::Result {
-        let error = io::Error::from_raw_os_error(i32::from(self.number));
-        let text = InlineText::<256>::of(error);
+        write!(f, "{}", Words(i32::from(self.number)))
+    }
+}
+
+// The system's words for a number, without what std adds to them, as in `Broken pipe (os error 32)`.
+#[derive(Clone, Copy, Debug)]
+struct Words(i32);
+
+impl fmt::Display for Words {
+    fn fmt<W: fmt::Write>(&self, f: &mut fmt::Formatter<W>) -> fmt::Result {
+        let text = InlineText::<256>::of(io::Error::from_raw_os_error(self.0));
         match text.as_str().split_once(" (os error ") {
             Some((words, _)) => f.write_str(words),
             None => f.write_str(text.as_str()),
@@ -107,7 +121,8 @@ pub fn read_file<R: Files>(rt: &R, name: &[u8], tape: &mut [u8]) -> Result<usize
     Ok(read_tape(&mut file, tape)?)
 }
 
-// A line on standard error: what failed, and why. Where that line can't be written, nothing says so.
-pub fn fail<R: Eprint>(rt: &R, what: &str, error: SystemError) {
-    let _ = eprintln!(rt; "{what}: {error}");
+// A line on standard error: what failed, and the system's words for the number of why. Where that line can't be written, nothing says so.
+pub fn fail<R: Eprint>(rt: &R, what: &str, error: impl Into<u64>) {
+    let words = Words(i32::try_from(error.into()).unwrap_or(0));
+    let _ = eprintln!(rt; "{what}: {words}");
 }

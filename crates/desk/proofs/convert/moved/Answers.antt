@@ -6,5 +6,5 @@ use Rattle.desk.proofs.convert.moved.Goals as goal
 
 pub returns : goal.returns
 returns c =
-    let done = all-moves.done c.is_wide.result c.args.tape.now c.args.out.now c.move_tape-ok.x (sym c.move_tape.ensures.value ∙ c.move_tape-ok.is) in
+    let done = all-moves.done c.is_wide.result c.args.tape.now c.args.out.now c.in_ok-length.length (sym c.move_tape.ensures.value ∙ c.in_ok-length.was) in
     prefix_len_of_le _ _ (omega (arith, done.room))
