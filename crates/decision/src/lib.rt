@@ -9,7 +9,7 @@ ghost use Rattle.auction.specs.rules.Range.{bound_by};
 use auction::{Ending, Market, Quotes, Terms, bound_by};
 use base::{Refusal, higher, lower, wide};
 use board::Response;
-use tape::Event;
+use tape::{Event, Kind};
 use words::bits::mark;
 
 // What the board tells of an event: the place that a response would take (64: none), the place of the GTX that is named (64: none), and what stands there.
@@ -266,25 +266,17 @@ fn quotes(t: Terms, e: Event) -> Result<Deed, Refusal>
     does(Change::Quote(n), Ending::Open)
 }
 
-// The decision on an event, by its kind.
+// The decision on an event, by its kind; what is of no kind never gets here, and is taken as quotes.
 #[tactic(auto, unfolding(crate::specs::rules::Decide::outcome_of))]
 pub fn decide(t: Terms, q: Quotes, s: Sight, e: Event) -> Result<Deed, Refusal>
     ensures { result ≡ outcome_of t q s e }
 {
-    if e.kind == 1 {
-        return gtx(t, s, e);
+    match Kind::try_from(e.kind) {
+        Ok(Kind::Gtx) => gtx(t, s, e),
+        Ok(Kind::Cancel) => cancel(s),
+        Ok(Kind::Limit) => limit(t, q, s, e),
+        Ok(Kind::Market) => market(e),
+        Ok(Kind::Amend) => amend(t, s, e),
+        Ok(Kind::Quotes) | Err(_) => quotes(t, e),
     }
-    if e.kind == 2 {
-        return cancel(s);
-    }
-    if e.kind == 3 {
-        return limit(t, q, s, e);
-    }
-    if e.kind == 4 {
-        return market(e);
-    }
-    if e.kind == 6 {
-        return amend(t, s, e);
-    }
-    quotes(t, e)
 }

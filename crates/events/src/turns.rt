@@ -11,13 +11,13 @@ use base::Refusal;
 use board::{Board, Found};
 use decision::{Change, Deed, Sight, decide};
 use mirror::buy_event;
-use tape::Event;
+use tape::{Event, Kind};
 
 // Whether the event names a response: a cancel and an amend do.
 pub fn names(e: Event) -> bool
     ensures { result ≡ (is_cancel e || is_amend e) }
 {
-    (e.kind == 2) | (e.kind == 6)
+    matches!(Kind::try_from(e.kind), Ok(Kind::Cancel | Kind::Amend))
 }
 
 // What the word of live places tells of an event, and the response that it names, as it was found.
@@ -31,6 +31,7 @@ pub fn sight_of(live: u64, named: Found) -> Sight
 }
 
 // What the board tells of an event: it is looked over for a cancel and an amend alone.
+#[tactic(auto, unfolding(crate::specs::rules::Step::sight_of))]
 pub fn sight(b: Board, e: Event) -> Sight
     ensures { result ≡ sight_of b e }
 {

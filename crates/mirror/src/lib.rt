@@ -6,7 +6,7 @@ ghost use Rattle.std.specs.Prelude.{◌≡◌};
 ghost use Rattle.mirror.specs.rules.Mirror.{with_mark, mirrored_marks, mirrored_side, mirrored_unless, mirrored_order, mirrored_priced, mirrored_market, mirrored_quotes, mirrored_amend, mirrored_event, buy_order, buy_event};
 
 use base::mirror;
-use tape::{Event, Order};
+use tape::{Event, Kind, Order};
 use words::bits::{test, with_bit, without_bit};
 
 // The marks with mark i set or clear.
@@ -28,6 +28,7 @@ fn mirror_marks(m: u8) -> u8
 }
 
 // The other side.
+#[tactic(auto, unfolding(crate::specs::rules::Mirror::mirrored_side))]
 fn mirror_side(s: u8) -> u8
     ensures { result ≡ mirrored_side s }
 {
@@ -51,6 +52,7 @@ fn mirror_unless(none: bool, p: u32) -> u32
 }
 
 // There is no stop in mode 2, and no collared order where the displayed price is 0. The collar is a difference of prices.
+#[tactic(auto, unfolding(crate::specs::rules::Mirror::mirrored_order))]
 fn mirror_order(o: Order) -> Order
     ensures { result ≡ mirrored_order o }
 {
@@ -75,6 +77,7 @@ fn mirror_order(o: Order) -> Order
 }
 
 // A response, an order or a quote with a price.
+#[tactic(auto, unfolding(crate::specs::rules::Mirror::mirrored_priced))]
 fn mirror_priced(e: Event) -> Event
     ensures { result ≡ mirrored_priced e }
 {
@@ -84,6 +87,7 @@ fn mirror_priced(e: Event) -> Event
     n
 }
 
+#[tactic(auto, unfolding(crate::specs::rules::Mirror::mirrored_market))]
 fn mirror_market(e: Event) -> Event
     ensures { result ≡ mirrored_market e }
 {
@@ -92,6 +96,7 @@ fn mirror_market(e: Event) -> Event
     n
 }
 
+#[tactic(auto, unfolding(crate::specs::rules::Mirror::mirrored_quotes))]
 fn mirror_quotes(e: Event) -> Event
     ensures { result ≡ mirrored_quotes e }
 {
@@ -104,6 +109,7 @@ fn mirror_quotes(e: Event) -> Event
     n
 }
 
+#[tactic(auto, unfolding(crate::specs::rules::Mirror::mirrored_amend))]
 fn mirror_amend(e: Event) -> Event
     ensures { result ≡ mirrored_amend e }
 {
@@ -112,28 +118,22 @@ fn mirror_amend(e: Event) -> Event
     n
 }
 
+// A cancel has nothing to mirror, and what is of no kind has no sides.
+#[tactic(auto, unfolding(crate::specs::rules::Mirror::mirrored_event))]
 fn mirror_event(e: Event) -> Event
     ensures { result ≡ mirrored_event e }
 {
-    if e.kind == 1 {
-        return mirror_priced(e);
+    match Kind::try_from(e.kind) {
+        Ok(Kind::Gtx | Kind::Limit) => mirror_priced(e),
+        Ok(Kind::Market) => mirror_market(e),
+        Ok(Kind::Quotes) => mirror_quotes(e),
+        Ok(Kind::Amend) => mirror_amend(e),
+        Ok(Kind::Cancel) | Err(_) => e,
     }
-    if e.kind == 3 {
-        return mirror_priced(e);
-    }
-    if e.kind == 4 {
-        return mirror_market(e);
-    }
-    if e.kind == 5 {
-        return mirror_quotes(e);
-    }
-    if e.kind == 6 {
-        return mirror_amend(e);
-    }
-    e
 }
 
 // The buy that an order is for the engine.
+#[tactic(auto, unfolding(crate::specs::rules::Mirror::buy_order))]
 pub fn buy_order(o: Order) -> Order
     ensures { result ≡ buy_order o }
 {
@@ -144,6 +144,7 @@ pub fn buy_order(o: Order) -> Order
 }
 
 // An event as the buy's auction sees it.
+#[tactic(auto, unfolding(crate::specs::rules::Mirror::buy_event))]
 pub fn buy_event(sell: bool, e: Event) -> Event
     ensures { result ≡ buy_event sell e }
 {

@@ -6,7 +6,7 @@ ghost use Rattle.steps.specs.rules.Lent.{cancel_event};
 use crate::by_value::step;
 use auction::Auction;
 use events::{Answer, Stepped};
-use tape::Event;
+use tape::{Event, Kind};
 
 // One event: the lent auction becomes the one after it.
 pub fn apply(a: &mut Auction, e: Event) -> Answer
@@ -18,13 +18,14 @@ pub fn apply(a: &mut Auction, e: Event) -> Answer
 }
 
 // The step of a cancel that is given by its numbers.
+#[tactic(auto, unfolding(crate::specs::rules::Lent::cancel_event))]
 fn cancel_step(a: Auction, sequence: u32, time: u32, named: u32) -> Stepped
     ensures { result ≡ step_of a (cancel_event sequence time named) }
 {
     let e = Event {
         sequence,
         time,
-        kind: 2,
+        kind: Kind::Cancel as u8,
         marks: 0,
         side: 0,
         f12: named,

@@ -3,6 +3,7 @@ ghost use Rattle.std.specs.Prelude.{◌≡◌, true};
 ghost use Rattle.tape.specs.rules.Form.{all_from, collar_formed, order_formed, inside, shape_tests, event_formed};
 
 use crate::event::Event;
+use crate::kind::Kind;
 use crate::order::Order;
 use words::bits::mark;
 
@@ -86,7 +87,7 @@ const OFFERS: Range = Range {
     high: 1000000,
 };
 
-// The rows of the table of kinds, and the row that nothing fits.
+// The rows of the table of kinds.
 const GTX: Shape = Shape {
     marks: Range { low: 0, high: 1 },
     low: true,
@@ -147,16 +148,6 @@ const AMEND: Shape = Shape {
     f24: UNUSED,
 };
 
-const NOTHING: Shape = Shape {
-    marks: Range { low: 1, high: 0 },
-    low: true,
-    side: UNUSED,
-    f12: UNUSED,
-    f16: UNUSED,
-    f20: UNUSED,
-    f24: UNUSED,
-};
-
 fn within(x: u32, r: Range) -> bool
     ensures { result ≡ inside x r }
 {
@@ -184,27 +175,18 @@ fn fits(e: Event, s: Shape) -> bool
         & within(e.f24, s.f24)
 }
 
-// An event is in the form of its kind: the kind is told first, so that each row is tested on constants.
+// An event is in the form of its kind, and in none where its byte names no kind: the kind is told first, so that each row is tested on constants.
+#[tactic(auto, using(crate::proofs::KindLaws::unknown_unformed), unfolding(crate::specs::rules::Form::event_formed, crate::specs::rules::Form::shape_of))]
 pub fn event_form(e: Event) -> bool
     ensures { result ≡ event_formed e }
 {
-    if e.kind == 1 {
-        return fits(e, GTX);
+    match Kind::try_from(e.kind) {
+        Ok(Kind::Gtx) => fits(e, GTX),
+        Ok(Kind::Cancel) => fits(e, CANCEL),
+        Ok(Kind::Limit) => fits(e, LIMIT),
+        Ok(Kind::Market) => fits(e, MARKET),
+        Ok(Kind::Quotes) => fits(e, QUOTES),
+        Ok(Kind::Amend) => fits(e, AMEND),
+        Err(_) => false,
     }
-    if e.kind == 2 {
-        return fits(e, CANCEL);
-    }
-    if e.kind == 3 {
-        return fits(e, LIMIT);
-    }
-    if e.kind == 4 {
-        return fits(e, MARKET);
-    }
-    if e.kind == 5 {
-        return fits(e, QUOTES);
-    }
-    if e.kind == 6 {
-        return fits(e, AMEND);
-    }
-    fits(e, NOTHING)
 }

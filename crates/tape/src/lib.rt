@@ -4,12 +4,14 @@
 
 mod event;
 mod form;
+mod kind;
 mod order;
 mod records;
 mod trailer;
 
 pub use event::{Event, event_bytes, read_event, record_at, write_event};
 pub use form::{event_form, order_form};
+pub use kind::{Kind, UnknownKind};
 pub use order::{Order, read_order, write_order};
 pub use records::{order_in, record_in};
 pub use trailer::{Trailer, last_trailer, length_of, open_tape, read_trailer, write_trailer};
