@@ -1,4 +1,7 @@
 // The range that holds in an auction, and whether it is open.
+
+#![tactic(auto, unfolding(crate::specs::rules::Range::bound_now, crate::specs::rules::Range::range_of))]
+
 ghost use Rattle.std.specs.Prelude.{◌≡◌, ◌≤◌};
 ghost use Rattle.auction.specs.rules.Range.{is_open, word, bound_by, bound_now, range_of};
 
@@ -9,13 +12,7 @@ use base::mirror;
 pub fn is_open(g: Ending) -> bool
     ensures { result ≡ is_open g }
 {
-    match g {
-        Ending::Open => true,
-        Ending::Time => false,
-        Ending::Same => false,
-        Ending::Opposite => false,
-        Ending::Improve => false,
-    }
+    matches!(g, Ending::Open)
 }
 
 // The lower bound that quotes make.
@@ -28,7 +25,7 @@ pub fn bound_by(t: Terms, q: Quotes) -> u64
 pub(crate) fn to_word(x: u64) -> u32
     ensures { result ≡ word x }
 {
-    if x < 4294967295 { x as u32 } else { 4294967295 }
+    u32::try_from(x).unwrap_or(u32::MAX)
 }
 
 // The lower bound as it stands.

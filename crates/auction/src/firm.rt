@@ -1,4 +1,7 @@
 // The firm behind a response that stands on the board.
+
+#![tactic(auto, unfolding(crate::specs::rules::Firm::participant_of))]
+
 ghost use Rattle.std.specs.Prelude.{◌≡◌};
 ghost use Rattle.auction.specs.rules.Firm.{participant_of};
 

@@ -4,7 +4,6 @@ ghost use Rattle.auction.specs.rules.Offer.{on_offer, moved_offer};
 
 use crate::Auction;
 use crate::bounds::to_word;
-use base::{less, wide};
 
 // The contracts on offer. The board is not looked at.
 pub fn on_offer(a: Auction) -> u32
@@ -18,5 +17,5 @@ pub fn on_offer(a: Auction) -> u32
 pub fn moved_offer(n: u32, gone: u32, come: u32) -> u32
     ensures { result ≡ moved_offer n gone come }
 {
-    to_word(wide(less(n, gone)) + wide(come))
+    to_word(u64::from(n.saturating_sub(gone)) + u64::from(come))
 }

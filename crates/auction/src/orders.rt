@@ -1,9 +1,12 @@
 // Acceptance: the numbers 1 to 13, and the auction that an accepted order opens.
+
+#![tactic(auto, unfolding(crate::specs::rules::Accept::counted_offer, crate::specs::rules::Accept::initiating_of, crate::specs::rules::Accept::tick_of, crate::specs::rules::Accept::bound_of, crate::specs::rules::Accept::guaranteed_of, crate::specs::rules::Accept::range_refusal, crate::specs::rules::Accept::buy_refusal, crate::specs::rules::Accept::order_refusal, crate::specs::rules::Accept::terms_of, crate::specs::rules::Accept::quotes_of, crate::specs::rules::Accept::opened_by, crate::specs::rules::Accept::accept_of))]
+
 ghost use Rattle.std.specs.Prelude.{◌≡◌, cond, ◌+◌, ◌≤◌, eqb};
 ghost use Rattle.auction.specs.rules.Accept.{counted_offer, initiating_of, tick_of, bound_of, first_bound, guaranteed_of, range_refusal, buy_refusal, order_refusal, terms_of, quotes_of, opened_by, accept_of};
 
 use crate::{Auction, Ending, Head, Market, Quotes, Terms};
-use base::{Refusal, greater, less, lower, wide};
+use base::Refusal;
 use mirror::buy_order;
 use tape::Order;
 use words::bits::mark;
@@ -13,7 +16,7 @@ fn offer(o: Order, counted: bool) -> u32
     ensures { result ≡ cond counted (counted_offer o) o.bo }
 {
     if counted & (o.displayed != 0) {
-        return less(o.displayed, o.collar);
+        return o.displayed.saturating_sub(o.collar);
     }
     o.bo
 }
@@ -22,25 +25,25 @@ fn initiating(o: Order) -> u32
     ensures { result ≡ initiating_of o }
 {
     if o.size < 50 {
-        return lower(lower(o.limit, o.nbo), less(offer(o, true), 1));
+        return o.limit.min(o.nbo).min(offer(o, true).saturating_sub(1));
     }
-    lower(o.limit, o.nbo)
+    o.limit.min(o.nbo)
 }
 
 // The added cent.
 fn tick(size: u32, bidmark: bool) -> u64
     ensures { (result ≡ tick_of size bidmark) × (result ≤ 1) }
 {
-    if (size < 50) | bidmark { 1 } else { 0 }
+    u64::from((size < 50) | bidmark)
 }
 
 // The lower bound of the range.
 pub(crate) fn bound(size: u32, floor: u32, bb: u32, bidmark: bool) -> u64
     ensures { (result ≡ bound_of size floor bb bidmark) × (result ≤ 4294967296) }
 {
-    let f = wide(floor);
-    let b = wide(bb) + tick(size, bidmark);
-    if f < b { b } else { f }
+    let f = u64::from(floor);
+    let b = u64::from(bb) + tick(size, bidmark);
+    f.max(b)
 }
 
 fn first_bound(o: Order) -> u64
@@ -53,9 +56,9 @@ fn guaranteed(o: Order) -> u64
     ensures { (result ≡ guaranteed_of o) × (result ≤ 4294967296) }
 {
     if o.mode == 2 {
-        return wide(initiating(o));
+        return u64::from(initiating(o));
     }
-    greater(wide(o.stop), first_bound(o))
+    u64::from(o.stop).max(first_bound(o))
 }
 
 // Is y the price one cent above x?
@@ -63,7 +66,7 @@ fn is_next(x: u64, y: u32) -> bool
     requires { x ≤ 4294967296 }
     ensures { result ≡ eqb y (x + 1) }
 {
-    wide(y) == x + 1
+    u64::from(y) == x + 1
 }
 
 // 10, 13, 11 and 12.
@@ -71,9 +74,9 @@ fn range_refusal(o: Order) -> Result<(), Refusal>
     ensures { result ≡ range_refusal o }
 {
     let low = first_bound(o);
-    let high = wide(initiating(o));
-    let limit = wide(o.limit);
-    let stop = wide(o.stop);
+    let high = u64::from(initiating(o));
+    let limit = u64::from(o.limit);
+    let stop = u64::from(o.stop);
     if limit < low {
         return Err(Refusal::LimitBelowRange);
     }
@@ -83,7 +86,7 @@ fn range_refusal(o: Order) -> Result<(), Refusal>
     if high < stop {
         return Err(Refusal::StopAboveRange);
     }
-    if (o.size < 50) & is_next(wide(o.nbb), o.nbo) & !is_next(guaranteed(o), o.nbo) {
+    if (o.size < 50) & is_next(u64::from(o.nbb), o.nbo) & !is_next(guaranteed(o), o.nbo) {
         return Err(Refusal::NationalCentWide);
     }
     Ok(())
@@ -102,7 +105,7 @@ fn buy_refusal(o: Order) -> Result<(), Refusal>
     if o.time < o.opens {
         return Err(Refusal::BeforeOpen);
     }
-    if wide(o.closes) <= wide(o.time) + 1000 {
+    if u64::from(o.closes) <= u64::from(o.time) + 1000 {
         return Err(Refusal::NearClose);
     }
     if mark(o.marks, 0) {
@@ -114,7 +117,7 @@ fn buy_refusal(o: Order) -> Result<(), Refusal>
     if o.nbo <= o.nbb {
         return Err(Refusal::NationalCrossed);
     }
-    if (o.size < 50) & is_next(wide(o.bb), offer(o, false)) {
+    if (o.size < 50) & is_next(u64::from(o.bb), offer(o, false)) {
         return Err(Refusal::ExchangeCentWide);
     }
     range_refusal(o)
