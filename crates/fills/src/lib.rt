@@ -1,6 +1,6 @@
 // The fills of an auction that has ended, into lent words.
 
-#![tactic(auto)]
+#![tactic(auto, unfolding(crate::specs::rules::Fills::deal_of))]
 
 ghost use Rattle.std.specs.Prelude.{◌≡◌};
 ghost use Rattle.fills.specs.rules.Fills.{has_ended, deal_of, fills_answer, fills_after};
@@ -13,8 +13,7 @@ use trade::Deal;
 fn has_ended(h: Head) -> bool
     ensures { result ≡ has_ended h }
 {
-    let g = h.ending;
-    !is_open(g)
+    !is_open(h.ending)
 }
 
 // The terms at the ending.
