@@ -12,6 +12,7 @@ use Rattle.board.specs.rules.Board.{empty_board, seated_at}
 use Rattle.share.specs.rules.Fills.{Fill}
 use Rattle.tape.specs.declared.event.Event.{Event}
 use Rattle.tape.specs.declared.order.Order.{Order}
+use Rattle.tape.specs.declared.trailer.Trailer.{Trailer}
 use Rattle.tape.specs.declared.trailer.Opened.{Opened}
 use Rattle.tape.specs.declared.trailer.Opened.TheVariants.{Tape, Refused as NoTape}
 use Rattle.tape.specs.declared.order.ReadOrder.{ReadOrder}
@@ -188,6 +189,10 @@ entry-short es a Accepted h p =
       heard-length es a,
       end-lines-short last (closed-kept (run a es) ∙ run-kept es a ∙ p),
     )
+
+pub auction-fits : (s : List ℕ) (t : Trailer) (a : Auction) → t.events ≤ 2045 → a.board ≡ empty_board → length (lines_of (run_entry (records_of s t) a Accepted)) ≤ room_of
+unfolding empty_board
+auction-fits s t a h e = entry-short (records_of s t) a Accepted (omega (arith, h, records-length s t)) (ap (λ (b : Board). length b.places) e)
 
 order-short : (es : List Event) (r : ReadOrder) → length es ≤ 2045 → length (lines_of (run_order es r)) ≤ room_of
 order-short es (NoOrder number) h = omega (arith, refused-short number)

@@ -25,14 +25,6 @@ wrote-lists {xs} {ys} {n} run a =
 pub lists-same : {xs ys : List ℕ} {r : Listed} {other : Run} (run : Run) → Lists run xs r ys → run ≡ other → Lists other xs r ys
 lists-same {xs} {ys} {r} run l e = subst (λ u. Lists u xs r ys) e l
 
--- an auction: its opening, its records, and the end of what closing by hand gave
-pub auction-lists : {ws xs ys zs : List ℕ} {u v n : ℕ} {a : Auction} {es : List Said} (g : Ending) (b c : Auction) → WroteBytes ws 0 (auction_line a.head) u xs → WroteBytes xs u (event_lines es) v ys
-    → WroteBytes ys v (end_lines b) n zs → g ≡ b.head.ending → b ≡ c → Lists (ended a es c) ws (Auctioned g n) zs
-auction-lists {ws} {xs} {ys} {zs} {u} {v} {n} {a} {es} g b c p q r eg eb =
-    subst (λ h. Lists (ended a es c) ws (Auctioned h n) zs) (sym eg)
-    (subst (λ x. Lists (ended a es x) ws (Auctioned b.head.ending n) zs) eb
-    (wrote-lists (ended a es b) (wrote-append p (wrote-append q r))))
-
 -- ---- the whole listing
 
 module _ (s xs : List ℕ) where

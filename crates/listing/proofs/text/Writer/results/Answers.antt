@@ -1,0 +1,52 @@
+use mathlib.Core.Path.{refl, sym, ap, ◌∙◌}
+use native.Mathlib.Omega.{arith}
+use Rattle.std.proofs.Common.{rules, length-take-le}
+use Rattle.listing.specs.inside.Code.{count_in}
+use mathlib.Core.Path.{◌≡◌}
+use mathlib.Core.List.{List}
+use Prim.Native.Nat.{ℕ, ◌*◌}
+use lib.ListN.{length, take}
+use Rattle.trade.specs.rules.Trade.{traded}
+use Rattle.listing.specs.rules.Listing.{fill_lines, total_line, end_lines}
+use Rattle.listing.proofs.FillLaws.{Reported, reported}
+use Rattle.listing.proofs.WriterLaws.{writes-append, writes-same, fits-first, fits-rest}
+use Rattle.listing.proofs.text.Writer.results.Goals as goal
+use Rattle.listing.proofs.text.Writer.results.Goals.{After-count_of-n}
+
+found : (c : goal.After-count_of-n) → Reported (record { head = c.args.h; board = c.args.b.now }) c.count_of-n.result c.write_lent.new.out
+found c = reported _ _ c.count_of-n.result c.write_lent.new.out c.requires.ended.0 c.requires.ended.1 (search rules) (c.count_of-n.ensures ∙ ap count_in c.write_lent.ensures.value) c.write_lent.ensures.out_after
+
+pub slice_bounds-words-end : goal.slice_bounds-words-end
+slice_bounds-words-end c = let f = found c in omega (arith, f.few, f.long)
+
+pub slice_bounds-fills-end : goal.slice_bounds-fills-end
+slice_bounds-fills-end c =
+    let f = found (goal.at.slice_bounds-fills-end c).After-count_of-n in
+    sym (length-take-le (3 * c.count_of-n.result) c.write_lent.new.out (omega (arith, f.few, f.long)))
+
+pub end-requires : goal.end-requires
+unfolding end_lines
+end-requires c = fits-first c.args.self.now _ _ c.requires.room
+
+pub fills-requires : goal.fills-requires
+unfolding end_lines
+fills-requires c =
+    let f = found (goal.at.fills-requires c).After-count_of-n in
+    rw f.fills (fits-first c.end.new.self _ _ (fits-rest _ c.end.ensures c.requires.room))
+
+pub sum_of-requires : goal.sum_of-requires
+sum_of-requires c =
+    let f = found (goal.at.sum_of-requires c).After-count_of-n in
+    omega (arith, f.few, f.long, length-take-le (3 * c.count_of-n.result) c.write_lent.new.out (omega (arith, f.few, f.long)))
+
+pub total-requires : goal.total-requires
+unfolding end_lines
+total-requires c =
+    let f = found (goal.at.total-requires c).After-count_of-n in
+    rw (c.sum_of.ensures, f.fills) (fits-rest _ (writes-same c.fills.ensures (ap fill_lines f.fills)) (fits-rest _ c.end.ensures c.requires.room))
+
+pub returns : goal.returns
+unfolding end_lines
+returns c =
+    let f = found (goal.at.returns c).After-count_of-n in
+    writes-append c.end.ensures (writes-append (writes-same c.fills.ensures (ap fill_lines f.fills)) (writes-same c.total.ensures (ap total_line (c.sum_of.ensures ∙ ap traded f.fills))))
