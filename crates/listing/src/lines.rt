@@ -19,7 +19,6 @@ impl Writer<'_> {
         self.text(b"\n");
     }
 
-    #[inline(always)]
     fn range(&mut self, r: Range)
         requires { Fits self.old (range_text r) }
         ensures { Writes self.old self.new (range_text r) }

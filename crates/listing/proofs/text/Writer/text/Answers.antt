@@ -3,4 +3,4 @@ use Rattle.listing.proofs.WriterLaws.{part-writes}
 use Rattle.listing.proofs.text.Writer.text.Goals as goal
 
 pub returns : goal.returns
-returns c = let a = c.args in part-writes a.self.now a.s.now _ _ c.requires refl c.copy_from_slice.ensures.after
+returns c = let a = c.args in part-writes a.self.now a.s.now _ _ c.requires refl c.copy.ensures
