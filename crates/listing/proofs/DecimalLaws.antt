@@ -1,18 +1,17 @@
 -- Laws of plain decimal.
-use mathlib.Core.Path.{◌≡◌, refl, sym, ap, ◌∙◌}
+use mathlib.Core.Path.{◌≡◌, refl, sym, ap, ap₂, ◌∙◌}
 use mathlib.Core.Bool.{Bool, true, false, cond}
-use mathlib.Core.List.{List, [], ◌∷◌, ◌++◌}
+use mathlib.Core.List.{List, [], ◌∷◌, ◌++◌, append-nil}
 use mathlib.Core.Logic.{◌≢◌}
 use Prim.Native.Nat.{ℕ, zero, suc, ◌+◌, ◌-◌, ◌*◌, ◌/◌, ◌%◌, ◌^◌, ◌≤◌, ◌<◌}
 use native.Mathlib.Nat.{pow-suc}
 use native.Mathlib.Omega.{arith}
+use Rattle.std.proofs.lemmas.List.{append_assoc, drop_all, drop-set}
 use borrow.Author.Tests.{ne_eqb, eqb-true}
 use lib.Dec.{eqb}
-use lib.ListN.{length, set, length-append, length-set}
-use lib.Seq.{sets}
+use lib.ListN.{length, set, drop, length-append, length-set}
 use Rattle.listing.specs.rules.Text.{digit, digits, decimal}
 use Rattle.listing.specs.promises.Demands.{value_from}
-use Rattle.base.proofs.SetsLaws.{sets-append, sets-set}
 
 digits-none : (k : ℕ) → digits k 0 ≡ []
 unfolding digits
@@ -60,6 +59,10 @@ decimal-more n h small =
 
 -- ---- how many digits
 
+pub digits-some : (n : ℕ) → 1 ≤ length (decimal n)
+unfolding decimal
+digits-some n = omega (arith, length-append (digits 19 (n / 10)) (digit n ∷ []))
+
 length_more : (n : ℕ) → 10 ≤ n → n < 2 ^ 64 → length (decimal n) ≡ 1 + length (decimal (n / 10))
 length_more n h small = ap length (decimal-more n h small) ∙ omega (arith, length-append (decimal (n / 10)) (digit n ∷ []))
 
@@ -88,28 +91,36 @@ four-fewer n h small =
       ap (λ (m : ℕ). length (decimal m)) e,
     )
 
--- ---- the digits are written from the last on: to write those of `rest` in ys comes to the same as to write those of n in xs
+-- ---- the digits are written from the last on: those of `rest` are still to come, and the others stand in ys from w on
 
-pub record DigitsLeft (xs : List ℕ) (at n : ℕ) (ys : List ℕ) (w rest : ℕ) : Type 0 where
+pub record DigitsLeft (n : ℕ) (ys : List ℕ) (w rest : ℕ) : Type 0 where
   pub small : rest < 2 ^ 64
-  pub room : length ys ≡ length xs
-  pub place : w ≡ at + length (decimal rest)
-  pub bytes : sets ys at (decimal rest) ≡ sets xs at (decimal n)
+  pub place : w ≡ length (decimal rest)
+  pub within : w ≤ length ys
+  pub digits : decimal n ≡ decimal rest ++ drop w ys
 
-pub left-turn : {xs : List ℕ} {at n : ℕ} {ys : List ℕ} {w rest : ℕ} → 10 ≤ rest → DigitsLeft xs at n ys w rest → DigitsLeft xs at n (set ys (w - 1) (digit rest)) (w - 1) (rest / 10)
-left-turn {xs} {at} {n} {ys} {w} {rest} h l =
+pub left-all : (n : ℕ) (ys : List ℕ) → n < 2 ^ 64 → length ys ≡ length (decimal n) → DigitsLeft n ys (length ys) n
+left-all n ys small e =
+    record {
+      small = small;
+      place = e;
+      within = omega arith;
+      digits = sym (ap {B = List ℕ} (λ r. decimal n ++ r) (drop_all (length ys) ys (omega arith)) ∙ append-nil (decimal n));
+    }
+
+pub left-turn : {n : ℕ} {ys : List ℕ} {w rest : ℕ} → 10 ≤ rest → DigitsLeft n ys w rest → DigitsLeft n (set ys (w - 1) (digit rest)) (w - 1) (rest / 10)
+left-turn {n} {ys} {w} {rest} h l =
     let t = decimal (rest / 10) in
-    let e : w - 1 ≡ at + length t = omega (arith, l.place, length_more rest h l.small) in
+    let e : w ≡ w - 1 + 1 = omega (arith, l.place, length_more rest h l.small) in
     record {
       small = omega (arith, l.small);
-      room = length-set ys (w - 1) (digit rest) ∙ l.room;
-      place = e;
-      bytes =
-          ap (λ (k : ℕ). sets (set ys k (digit rest)) at t) e
-          ∙ sym (sets-set ys at t (at + length t) (digit rest) (omega arith))
-          ∙ sym (sets-append ys at t (digit rest ∷ []))
-          ∙ ap (λ (s : List ℕ). sets ys at s) (sym (decimal-more rest h l.small))
-          ∙ l.bytes;
+      place = omega (arith, l.place, length_more rest h l.small);
+      within = omega (arith, l.within, length-set ys (w - 1) (digit rest));
+      digits =
+          l.digits
+          ∙ ap₂ {C = List ℕ} (λ s k. s ++ drop k ys) (decimal-more rest h l.small) e
+          ∙ append_assoc t (digit rest ∷ []) (drop (w - 1 + 1) ys)
+          ∙ ap {B = List ℕ} (λ r. t ++ r) (sym (drop-set ys (w - 1) (digit rest) (omega (arith, l.within, e))));
     }
 
 -- the tens of a number are those of what it has past the hundreds
@@ -120,25 +131,27 @@ tens n =
     omega (arith, x, y)
 
 -- two digits
-pub left-pair : {xs : List ℕ} {at n : ℕ} {ys : List ℕ} {w rest : ℕ} → 100 ≤ rest → DigitsLeft xs at n ys w rest → DigitsLeft xs at n (set (set ys (w - 1) (digit (rest % 100))) (w - 1 - 1) (digit (rest % 100 / 10))) (w - 1 - 1) (rest / 100)
-left-pair {xs} {at} {n} {ys} {w} {rest} h l =
+pub left-pair : {n : ℕ} {ys : List ℕ} {w rest : ℕ} → 100 ≤ rest → DigitsLeft n ys w rest → DigitsLeft n (set (set ys (w - 1) (digit (rest % 100))) (w - 1 - 1) (digit (rest % 100 / 10))) (w - 1 - 1) (rest / 100)
+left-pair {n} {ys} {w} {rest} h l =
     let e : digit (rest % 100) ≡ digit rest = omega arith in
     let f : digit (rest % 100 / 10) ≡ digit (rest / 10) = omega (arith, tens rest) in
     let g : rest / 100 ≡ rest / 10 / 10 = omega arith in
     rw (e, f, g) (left-turn (omega arith) (left-turn (omega arith) l))
 
--- the byte before the last that was written
-pub left-some : {xs : List ℕ} {at n : ℕ} {ys : List ℕ} {w rest : ℕ} → 10 ≤ rest → DigitsLeft xs at n ys w rest → (at < w) × (w ≤ at + 20)
-left-some {xs} {at} {n} {ys} {w} {rest} h l = (omega (arith, l.place, length_more rest h l.small), omega (arith, l.place, decimal-short rest))
+-- there is a byte before the last that was written
+pub left-some : {n : ℕ} {ys : List ℕ} {w rest : ℕ} → 10 ≤ rest → DigitsLeft n ys w rest → 2 ≤ w
+left-some {n} {ys} {w} {rest} h l = omega (arith, l.place, length_more rest h l.small, digits-some (rest / 10))
 
-pub left-last : {xs : List ℕ} {at n : ℕ} {ys : List ℕ} {w rest : ℕ} → rest < 10 → DigitsLeft xs at n ys w rest → set ys at (digit rest) ≡ sets xs at (decimal n)
-left-last {xs} {at} {n} {ys} {w} {rest} h l = ap (λ (s : List ℕ). sets ys at s) (sym (decimal-one rest h)) ∙ l.bytes
+pub left-last : {n : ℕ} {ys : List ℕ} {w rest : ℕ} → rest < 10 → DigitsLeft n ys w rest → set ys 0 (digit rest) ≡ decimal n
+left-last {n} {ys} {w} {rest} h l =
+    let e : w ≡ 1 = omega (arith, l.place, digits_1 rest h) in
+    drop-set ys 0 (digit rest) (omega (arith, l.within, e)) ∙ sym (l.digits ∙ ap₂ {C = List ℕ} (λ s k. s ++ drop k ys) (decimal-one rest h) e)
 
 -- the last two at once
-pub left-two : {xs : List ℕ} {at n : ℕ} {ys : List ℕ} {w rest : ℕ} → 10 ≤ rest → rest < 100 → DigitsLeft xs at n ys w rest → set (set ys (at + 1) (digit rest)) at (digit (rest / 10)) ≡ sets xs at (decimal n)
-left-two {xs} {at} {n} {ys} {w} {rest} h small l =
-    let e : at + 1 ≡ w - 1 = omega (arith, l.place, digits_2 rest h small) in
-    ap (λ (k : ℕ). set (set ys k (digit rest)) at (digit (rest / 10))) e ∙ left-last (omega arith) (left-turn h l)
+pub left-two : {n : ℕ} {ys : List ℕ} {w rest : ℕ} → 10 ≤ rest → rest < 100 → DigitsLeft n ys w rest → set (set ys 1 (digit rest)) 0 (digit (rest / 10)) ≡ decimal n
+left-two {n} {ys} {w} {rest} h small l =
+    let e : 1 ≡ w - 1 = omega (arith, l.place, digits_2 rest h small) in
+    ap (λ (k : ℕ). set (set ys k (digit rest)) 0 (digit (rest / 10))) e ∙ left-last (omega arith) (left-turn h l)
 
 -- ---- digits read back
 

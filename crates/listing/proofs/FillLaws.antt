@@ -1,16 +1,22 @@
 -- Laws of the fills as the writer of fills leaves them.
-use mathlib.Core.Path.{◌≡◌, refl, sym, ap, ap₂, ◌∙◌}
+use mathlib.Core.Path.{◌≡◌, refl, sym, ap, ◌∙◌}
 use mathlib.Core.Bool.{true}
 use mathlib.Core.List.{List, [], ◌∷◌, ◌++◌}
-use Prim.Native.Nat.{ℕ, suc, ◌+◌, ◌-◌, ◌*◌, ◌≤◌, ◌<◌}
-use native.Mathlib.Nat.{sub-zero}
+use Prim.Native.Nat.{ℕ, ◌+◌, ◌*◌, ◌≤◌, ◌<◌}
 use native.Mathlib.Omega.{arith}
-use lib.ListN.{length, get_or, drop, length-append, length-drop}
-use lib.Seq.{get_or-drop, drop-drop}
+use lib.ListN.{length, get_or, take, drop, length-append, length-drop}
 use Rattle.std.specs.Prelude.{Result, Ok}
 use Rattle.std.specs.Result.{result_unwrap_or}
+use Rattle.std.specs.List.{sum_by}
+use Rattle.std.specs.Slice.Iter.{chunks_exact_rest, chunks_exact_size, chunks_exact_steps}
+use Rattle.std.proofs.lemmas.Iterator.{YieldsList}
+use Rattle.std.proofs.lemmas.Iterator.Splits.{YieldsList-from_shown_while}
+use Rattle.std.proofs.lemmas.List.{take_at}
+use Rattle.std.proofs.lemmas.List.Recursion.{is_sum_by}
+use denote.Ref.{Bor}
 use Rattle.base.specs.declared.refusal.Refusal.{Refusal}
 use Rattle.share.specs.rules.Fills.{Fill, fill, words}
+use Rattle.trade.specs.rules.Trade.{traded}
 use Rattle.share.proofs.FillsLaws.{length-words}
 use Rattle.trade.proofs.WholeLaws.{fills-few, counted, words-after}
 use Rattle.auction.specs.declared.Auction.{Auction}
@@ -18,39 +24,50 @@ use Rattle.fills.specs.rules.Fills.{has_ended, deal_of, auction_fills, fills_ans
 use Rattle.listing.specs.inside.Code.{fills_in}
 
 -- the fills of the words are the fills
-pub fills-back : (fs : List Fill) (rest : List ℕ) → fills_in (length fs) (words fs ++ rest) ≡ fs
-unfolding fills_in
-fills-back [] rest = refl
-fills-back (f ∷ fs) rest = ap {B = List Fill} (λ r. f ∷ r) (fills-back fs rest)
+fills-back : (fs : List Fill) → fills_in (words fs) ≡ fs
+fills-back [] = refl
+fills-back (f ∷ fs) = ap {B = List Fill} (λ r. f ∷ r) (fills-back fs)
 
--- fill i, and those after it
-abbrev pub fill_at : List ℕ → ℕ → Fill
-fill_at ws i = fill (get_or ws (3 * i) 0) (get_or ws (3 * i + 1) 0) (get_or ws (3 * i + 2) 0)
+-- three words, and those after them
+pub fills-more : (ws xs rest : List ℕ) → ws ≡ xs ++ rest → length xs ≡ 3 → fills_in ws ≡ fill (get_or xs 0 0) (get_or xs 1 0) (get_or xs 2 0) ∷ fills_in rest
+fills-more ws [] rest e l = absurd (omega arith)
+fills-more ws (_ ∷ []) rest e l = absurd (omega arith)
+fills-more ws (_ ∷ _ ∷ []) rest e l = absurd (omega arith)
+fills-more ws (party ∷ price ∷ quantity ∷ []) rest e l = ap fills_in e
+fills-more ws (_ ∷ _ ∷ _ ∷ _ ∷ _) rest e l = absurd (omega arith)
 
-abbrev pub fills_from : ℕ → List ℕ → ℕ → List Fill
-fills_from n ws i = fills_in (n - i) (drop (3 * i) ws)
+pub fills-none : (ws : List ℕ) → length ws < 3 → fills_in ws ≡ []
+fills-none [] h = refl
+fills-none (_ ∷ []) h = refl
+fills-none (_ ∷ _ ∷ []) h = refl
+fills-none (_ ∷ _ ∷ _ ∷ _) h = absurd (omega arith)
 
-pub fills-more : (n : ℕ) (ws : List ℕ) (i : ℕ) → i < n → fills_from n ws i ≡ fill_at ws i ∷ fills_from n ws (i + 1)
-unfolding fills_in
-fills-more n ws i h =
-    let e : n - i ≡ suc (n - (i + 1)) = omega arith in
-    let d : 3 * i + 3 ≡ 3 * (i + 1) = omega arith in
-    let z : 3 * i + 0 ≡ 3 * i = omega arith in
-    rw (e, get_or-drop (3 * i) ws 0 0, get_or-drop (3 * i) ws 1 0, get_or-drop (3 * i) ws 2 0, drop-drop 3 (3 * i) ws, d, z)
+-- three words at a time
+abbrev three : Bor (List ℕ) → Fill
+three xs = fill (get_or xs.now 0 0) (get_or xs.now 1 0) (get_or xs.now 2 0)
 
-pub fills-none : (n : ℕ) (ws : List ℕ) (i : ℕ) → n ≤ i → fills_from n ws i ≡ []
-unfolding fills_in
-fills-none n ws i h = let e : n - i ≡ 0 = omega arith in rw e
+pub threes-yield : {s : _} (ws : List ℕ) → chunks_exact_size {T = ℕ} s ≡ 3 → chunks_exact_rest s ≡ ws → YieldsList chunks_exact_steps three s (fills_in ws)
+threes-yield {s} ws e f =
+    rw (← f) (YieldsList-from_shown_while chunks_exact_steps three (λ s. fills_in (chunks_exact_rest s)) (λ s. chunks_exact_size s ≡ 3)
+    (λ s t h k. ap length (fills-none (chunks_exact_rest s) (omega (arith, h, k.1.0))))
+    (λ s x t h k. (k.0 ∙ h, fills-more (chunks_exact_rest s) x.now (chunks_exact_rest t) k.1.0 (k.1.1 ∙ h)))
+    s e)
 
-pub fills-all : (n : ℕ) (ws : List ℕ) → fills_in n ws ≡ fills_from n ws 0
-fills-all n ws = rw (sub-zero n)
+pub traded-sum : (fs : List Fill) → traded fs ≡ sum_by (λ f. f.quantity) fs
+traded-sum fs = is_sum_by traded (λ f. f.quantity) refl (λ _ _. refl) fs
+
+pub fills-few-words : (ws : List ℕ) → 3 * length (fills_in ws) ≤ length ws
+fills-few-words [] = omega arith
+fills-few-words (_ ∷ []) = omega arith
+fills-few-words (_ ∷ _ ∷ []) = omega arith
+fills-few-words (_ ∷ _ ∷ _ ∷ ws) = omega (arith, fills-few-words ws)
 
 -- ---- the fills of an auction that has ended, as `write_fills` leaves them
 
 pub record Reported (a : Auction) (n : ℕ) (ws : List ℕ) : Type 0 where
   pub few : n ≤ 130
   pub long : length ws ≡ 390
-  pub fills : fills_in n ws ≡ auction_fills a
+  pub fills : fills_in (take (3 * n) ws) ≡ auction_fills a
 
 -- they are written, and not refused
 pub written : (a : Auction) (xs : List ℕ) → has_ended a.head ≡ true → length xs ≡ 390 → fills_answer a xs 0 ≡ Ok (length (auction_fills a))
@@ -67,5 +84,7 @@ reported a xs n ws e l r en ew =
     record {
       few = omega arith;
       long = ap length are ∙ length-append (words fs) rest ∙ omega (arith, length-words fs, length-drop (0 + 3 * length fs) xs);
-      fills = ap₂ fills_in count are ∙ fills-back fs rest;
+      fills =
+          ap fills_in (ap (λ (r : List ℕ). take (3 * n) r) are ∙ take_at (words fs) rest (3 * n) (omega (arith, count, length-words fs)))
+          ∙ fills-back fs;
     }

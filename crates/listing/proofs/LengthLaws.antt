@@ -187,6 +187,10 @@ entry-short es (Ok a) h p =
       end-lines-short last (closed-kept (run a es) ∙ run-kept es a ∙ p a refl),
     )
 
+pub auction-fits : (s : List ℕ) (t : Trailer) (a : Auction) → t.events ≤ 2045 → a.board ≡ empty_board → length (lines_of (run_entry (records_of s t) (Ok a))) ≤ room_of
+unfolding empty_board
+auction-fits s t a h e = entry-short (records_of s t) (Ok a) (omega (arith, h, records-length s t)) (λ b i. let q : b ≡ a = cc in ap (λ (x : Auction). length x.board.places) q ∙ ap (λ (x : Board). length x.places) e)
+
 order-short : (es : List Event) (r : Result Order Refusal) → length es ≤ 2045 → length (lines_of (run_order es r)) ≤ room_of
 order-short es (Err r) h = omega (arith, refused-short (number_of r))
 order-short es (Ok o) h = entry-short es (accept_of o) h (accept-places o)

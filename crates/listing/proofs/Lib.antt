@@ -1,4 +1,5 @@
 -- Laws and theorems of `listing`.
+pub mod WriterLaws
 pub mod DecimalLaws
 pub mod FillLaws
 pub mod LookLaws

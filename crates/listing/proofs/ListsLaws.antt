@@ -1,18 +1,15 @@
 -- Laws of the writers of a run's lines.
-use mathlib.Core.Path.{◌≡◌, refl, sym, subst, ap, ◌∙◌}
+use mathlib.Core.Path.{◌≡◌, refl, subst, ap, ◌∙◌}
 use mathlib.Core.List.{List}
 use Prim.Native.Nat.{ℕ, ◌≤◌, ◌<◌}
 use native.Mathlib.Omega.{arith}
 use borrow.Author.Tests.{lt-ltb, le-ltb}
 use lib.ListN.{length}
 use Rattle.base.proofs.SetsLaws.{sets-front}
-use Rattle.auction.specs.declared.Auction.{Auction}
-use Rattle.auction.specs.declared.Ending.{Ending}
 use Rattle.listing.specs.declared.Listed.{Listed}
-use Rattle.listing.specs.declared.Listed.TheVariants.{Refused as NoAuction, Ended as Auctioned}
-use Rattle.run.specs.rules.Run.{Said, Run, ended, run_of}
-use Rattle.listing.specs.rules.Listing.{auction_line, event_lines, end_lines, lines_of, listing_of, room_of, answer_of, listed_of, bytes_of}
-use Rattle.words.proofs.WroteLaws.{wrote-append}
+use Rattle.listing.specs.declared.Listed.TheVariants.{Refused as NoAuction}
+use Rattle.run.specs.rules.Run.{Run, run_of}
+use Rattle.listing.specs.rules.Listing.{lines_of, listing_of, room_of, answer_of, listed_of, bytes_of}
 use Rattle.listing.proofs.LengthLaws.{listing-fits}
 use Rattle.listing.specs.inside.Code.{Lists}
 use Rattle.words.specs.inside.Writing.{WroteBytes}
@@ -24,14 +21,6 @@ wrote-lists {xs} {ys} {n} run a =
 
 pub lists-same : {xs ys : List ℕ} {r : Listed} {other : Run} (run : Run) → Lists run xs r ys → run ≡ other → Lists other xs r ys
 lists-same {xs} {ys} {r} run l e = subst (λ u. Lists u xs r ys) e l
-
--- an auction: its opening, its records, and the end of what closing by hand gave
-pub auction-lists : {ws xs ys zs : List ℕ} {u v n : ℕ} {a : Auction} {es : List Said} (g : Ending) (b c : Auction) → WroteBytes ws 0 (auction_line a.head) u xs → WroteBytes xs u (event_lines es) v ys
-    → WroteBytes ys v (end_lines b) n zs → g ≡ b.head.ending → b ≡ c → Lists (ended a es c) ws (Auctioned g n) zs
-auction-lists {ws} {xs} {ys} {zs} {u} {v} {n} {a} {es} g b c p q r eg eb =
-    subst (λ h. Lists (ended a es c) ws (Auctioned h n) zs) (sym eg)
-    (subst (λ x. Lists (ended a es x) ws (Auctioned b.head.ending n) zs) eb
-    (wrote-lists (ended a es b) (wrote-append p (wrote-append q r))))
 
 -- ---- the whole listing
 

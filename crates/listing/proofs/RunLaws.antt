@@ -10,7 +10,7 @@ use lib.ListN.{set}
 use Rattle.std.specs.Prelude.{Ok}
 use Rattle.base.specs.declared.refusal.Refusal.TheVariants.{AuctionEnded}
 use Rattle.words.specs.rules.Bits.{with_bit, without_bit}
-use Rattle.board.specs.rules.Board.{seated_at}
+use Rattle.board.specs.rules.Board.{empty_board, seated_at}
 use Rattle.board.specs.promises.Board.{Good}
 use Rattle.board.proofs.BoardLaws.{seated-good, cleared-good}
 use Rattle.board.specs.declared.Board.{Board}
@@ -112,3 +112,14 @@ module _ (s : List ℕ) (t : Trailer) where
 
     pub run-turn : k < t.events → run (whole u.head after) (rest (k + 1)) ≡ run (whole h b) (rest k)
     run-turn l = ap (λ (v : Stepped). run v.auction (rest (k + 1))) did ∙ ap (run (whole h b)) (sym (rest_more k l))
+
+-- the loop begins with the whole auction, before all the records
+module _ (s : List ℕ) (t : Trailer) (a : Auction) (b : Board) (empty : (a.board ≡ empty_board) × (b ≡ empty_board)) where
+  first : whole a.head b ≡ a
+  first = ap (whole a.head) (empty.1 ∙ sym empty.0)
+
+  pub begin-lines : event_lines (heard a (records_of s t)) ≡ event_lines (heard (whole a.head b) (rest s t 0))
+  begin-lines = ap₂ {C = List ℕ} (λ (x : Auction) (es : List Event). event_lines (heard x es)) (sym first) (rest_all s t)
+
+  pub begin-run : run (whole a.head b) (rest s t 0) ≡ run a (records_of s t)
+  begin-run = ap₂ (λ (x : Auction) (es : List Event). run x es) first (sym (rest_all s t))

@@ -8,16 +8,15 @@ ghost use Rattle.tape.specs.rules.Tape.{order_in, records_of};
 ghost use Rattle.run.specs.rules.Run.{run, heard, closed, refused, run_entry, run_order};
 ghost use Rattle.listing.specs.rules.Listing.{event_lines, room_of, length_in, listed_of, bytes_of};
 ghost use Rattle.listing.specs.inside.Code.{Lists};
-ghost use Rattle.words.specs.inside.Writing.{WroteBytes};
+ghost use Rattle.listing.specs.inside.Writes.{Fits, Writes};
 ghost use Rattle.words.specs.rules.Bits.{count_trailing_zeros};
 
 use auction::{Auction, Ending, Head};
 use board::{Board, Found};
 use decision::Change;
 use events::turns;
-use lines::{put_auction, put_event, put_refused};
-use results::put_results;
 use tape::{Order, Trailer};
+use text::Writer;
 use words::bits;
 
 mod lines;
@@ -48,13 +47,6 @@ pub fn length_of(l: Listed) -> usize
 }
 
 // ---- the events
-
-// The auction's head after its events, closed, and the place after their lines.
-#[derive(Clone, Copy)]
-struct Heard {
-    next: usize,
-    head: Head,
-}
 
 // The places to look over for the response that an event names: the live ones where it names one.
 fn sought(names: bool, live: u64) -> u64
@@ -92,24 +84,15 @@ fn which(sequence: u32, first: u32, second: u32, third: u32) -> usize
 }
 
 // A line for each of the tape's events. The board is lent, and begins empty: what a turn says is seated on it in place.
-fn put_events(
-    tape: &[u8],
-    t: Trailer,
-    a: Auction,
-    b: &mut Board,
-    out: &mut [u8],
-    start: usize,
-) -> Heard
-    requires events_bound { (t.events ≤ 2045) × (start + 56 * t.events ≤ length out.old) }
+fn put_events(tape: &[u8], t: Trailer, a: Auction, b: &mut Board, w: &mut Writer) -> Head
+    requires room { Fits w.old (event_lines (heard a (records_of tape.now t))) }
     requires board_value { (a.board ≡ empty_board) × (b.old ≡ empty_board) }
-    ensures wrote_bytes { WroteBytes out.old start (event_lines (heard a (records_of tape.now t))) result.next out.new }
-    ensures auction_value { (record { head = result.head; board = b.new } ≡ closed (run a (records_of tape.now t))) × (result.next ≤ start + 56 * t.events) × (length b.new.places ≡ 64) }
+    ensures lines { Writes w.old w.new (event_lines (heard a (records_of tape.now t))) }
+    ensures auction_value { (record { head = result; board = b.new } ≡ closed (run a (records_of tape.now t))) × (length b.new.places ≡ 64) }
 {
     let n = t.events as usize;
     let mut h = a.head;
-    let mut w = start;
-    let mut k = 0;
-    while k < n {
+    for k in 0..n {
         let e = tape::record_in(tape, t, k);
         // A cancel or an amend names a response. It is looked for on the board itself, four places at a time, and a gap is skipped at once. `rest` is the word of live places from place i on.
         let nobody = board::response_at(*b, 64);
@@ -174,7 +157,7 @@ fn put_events(
         let v = turns::sight_of(b.live, named);
         let u = turns::turn(h, v, e);
         let answer = u.answer;
-        w = put_event(out, w, e.sequence, answer);
+        w.event(e.sequence, answer);
         let c = u.change;
         match c {
             Change::Seat(i, r, _) => {
@@ -191,11 +174,9 @@ fn put_events(
             Change::Sell(_) => {}
         }
         h = u.head;
-        k += 1;
     }
     let last = turns::close_turn(h);
-    let head = last.head;
-    Heard { next: w, head }
+    last.head
 }
 
 // ---- the tape
@@ -204,8 +185,12 @@ fn list_refused(out: &mut [u8], number: u32) -> Listed
     requires { room_of ≤ length out.old }
     ensures { Lists (refused number) out.old result out.new }
 {
-    let n = put_refused(out, 0, number);
-    Listed::Refused { number, length: n }
+    let mut w = Writer::new(out);
+    w.refused(number);
+    Listed::Refused {
+        number,
+        length: w.at,
+    }
 }
 
 // An open auction, with the tape's events.
@@ -215,13 +200,16 @@ fn list_auction(tape: &[u8], t: Trailer, a: Auction, out: &mut [u8]) -> Listed
     ensures { Lists (run_entry (records_of tape.now t) (Ok a)) out.old result out.new }
 {
     let opened = a.head;
-    let w = put_auction(out, 0, opened);
+    let mut w = Writer::new(out);
+    w.auction(opened);
     let mut b = board::empty();
-    let h = put_events(tape, t, a, &mut b, out, w);
-    let end = h.head;
-    let n = put_results(out, h.next, end, &b);
+    let end = put_events(tape, t, a, &mut b, &mut w);
+    w.results(end, &b);
     let ending = end.ending;
-    Listed::Ended { ending, length: n }
+    Listed::Ended {
+        ending,
+        length: w.at,
+    }
 }
 
 fn list_order(tape: &[u8], t: Trailer, o: Order, out: &mut [u8]) -> Listed

@@ -1,153 +1,140 @@
-// The lines of a listing, each written at a place of lent bytes; each writer answers the next place.
-ghost use Rattle.std.specs.Prelude.{◌+◌, ◌≤◌, length};
+// The lines of a listing.
 ghost use Rattle.auction.specs.rules.Range.{range_of};
 ghost use Rattle.run.specs.rules.Run.{said};
 ghost use Rattle.listing.specs.rules.Listing.{refused_line, range_text, side_text, auction_line, answer_text, event_text, event_line, event_line_with, end_text, end_line, party_text, fill_line, total_line};
 ghost use Rattle.share.specs.rules.Fills.{fill};
-ghost use Rattle.words.specs.inside.Writing.{WroteBytes};
+ghost use Rattle.listing.specs.inside.Writes.{Fits, Writes};
 
-use crate::text::{put_field, put_text, put_word};
+use crate::text::Writer;
 use auction::{Ending, Head, Range, price_range};
 use events::Answer;
 
-pub(crate) fn put_refused(out: &mut [u8], at: usize, number: u32) -> usize
-    requires { at + 29 ≤ length out.old }
-    ensures { WroteBytes out.old at (refused_line number) result out.new }
-{
-    let w = put_word(out, at, b"REFUSED ", number);
-    put_text(out, w, b"\n")
-}
-
-fn put_range(out: &mut [u8], at: usize, r: Range) -> usize
-    requires { at + 52 ≤ length out.old }
-    ensures wrote_bytes { WroteBytes out.old at (range_text r) result out.new }
-    ensures upper_bound { result ≤ at + 52 }
-{
-    let low = put_word(out, at, b" range ", r.low);
-    let high = put_word(out, low, b" to ", r.high);
-    put_text(out, high, b"\n")
-}
-
-fn put_side(out: &mut [u8], at: usize, sell: bool) -> usize
-    requires { at + 12 ≤ length out.old }
-    ensures wrote_bytes { WroteBytes out.old at (side_text sell) result out.new }
-    ensures upper_bound { result ≤ at + 12 }
-{
-    if sell {
-        return put_text(out, at, b"AUCTION sell");
+#[tactic(auto, using(crate::proofs::WriterLaws::writing), unfolding(crate::specs::rules::Listing::refused_line, crate::specs::rules::Listing::range_text, crate::specs::rules::Listing::auction_line, crate::specs::rules::Listing::answer_text, crate::specs::rules::Listing::event_text, crate::specs::rules::Listing::event_line, crate::specs::rules::Listing::event_line_with, crate::specs::rules::Listing::end_text, crate::specs::rules::Listing::end_line, crate::specs::rules::Listing::party_text, crate::specs::rules::Listing::fill_line, crate::specs::rules::Listing::total_line))]
+impl Writer<'_> {
+    pub(crate) fn refused(&mut self, number: u32)
+        requires { Fits self.old (refused_line number) }
+        ensures { Writes self.old self.new (refused_line number) }
+    {
+        self.field(b"REFUSED ", number);
+        self.text(b"\n");
     }
-    put_text(out, at, b"AUCTION buy")
-}
 
-pub(crate) fn put_auction(out: &mut [u8], at: usize, h: Head) -> usize
-    requires { at + 90 ≤ length out.old }
-    ensures wrote_bytes { WroteBytes out.old at (auction_line h) result out.new }
-    ensures upper_bound { result ≤ at + 90 }
-{
-    let t = h.terms;
-    let side = put_side(out, at, t.sell);
-    let size = put_word(out, side, b" size ", t.size);
-    put_range(out, size, price_range(h))
-}
-
-fn put_answer(out: &mut [u8], at: usize, answer: Answer) -> usize
-    requires { at + 29 ≤ length out.old }
-    ensures wrote_bytes { WroteBytes out.old at (answer_text answer) result out.new }
-    ensures upper_bound { result ≤ at + 29 }
-{
-    match answer {
-        Answer::Taken => put_text(out, at, b" taken"),
-        Answer::Ended => put_text(out, at, b" ended"),
-        Answer::Late => put_text(out, at, b" late"),
-        Answer::Refused(r) => put_word(out, at, b" refused ", r.number()),
+    fn range(&mut self, r: Range)
+        requires { Fits self.old (range_text r) }
+        ensures { Writes self.old self.new (range_text r) }
+    {
+        self.field(b" range ", r.low);
+        self.field(b" to ", r.high);
+        self.text(b"\n");
     }
-}
 
-// An EVENT line up to its end.
-fn put_said(out: &mut [u8], at: usize, sequence: u32, answer: Answer) -> usize
-    requires { at + 55 ≤ length out.old }
-    ensures wrote_bytes { WroteBytes out.old at (event_text (said sequence answer)) result out.new }
-    ensures upper_bound { result ≤ at + 55 }
-{
-    let w = put_word(out, at, b"EVENT ", sequence);
-    put_answer(out, w, answer)
-}
-
-pub(crate) fn put_event(out: &mut [u8], at: usize, sequence: u32, answer: Answer) -> usize
-    requires { at + 56 ≤ length out.old }
-    ensures wrote_bytes { WroteBytes out.old at (event_line (said sequence answer)) result out.new }
-    ensures upper_bound { result ≤ at + 56 }
-{
-    let w = put_said(out, at, sequence, answer);
-    put_text(out, w, b"\n")
-}
-
-// An EVENT line of a watch, with the contracts on offer at its end.
-pub(crate) fn put_watched(
-    out: &mut [u8],
-    at: usize,
-    sequence: u32,
-    answer: Answer,
-    offered: u32,
-) -> usize
-    requires { at + 86 ≤ length out.old }
-    ensures { WroteBytes out.old at (event_line_with (said sequence answer) offered) result out.new }
-{
-    let w = put_said(out, at, sequence, answer);
-    let n = put_word(out, w, b" on offer ", offered);
-    put_text(out, n, b"\n")
-}
-
-fn put_ending(out: &mut [u8], at: usize, ending: Ending) -> usize
-    requires { at + 12 ≤ length out.old }
-    ensures wrote_bytes { WroteBytes out.old at (end_text ending) result out.new }
-    ensures upper_bound { result ≤ at + 12 }
-{
-    match ending {
-        Ending::Time => put_text(out, at, b"END time"),
-        Ending::Same => put_text(out, at, b"END same"),
-        Ending::Opposite => put_text(out, at, b"END opposite"),
-        Ending::Improve => put_text(out, at, b"END improve"),
-        Ending::Open => put_text(out, at, b"END open"),
+    fn side(&mut self, sell: bool)
+        requires { Fits self.old (side_text sell) }
+        ensures { Writes self.old self.new (side_text sell) }
+    {
+        if sell {
+            return self.text(b"AUCTION sell");
+        }
+        self.text(b"AUCTION buy");
     }
-}
 
-pub(crate) fn put_end(out: &mut [u8], at: usize, h: Head) -> usize
-    requires { at + 64 ≤ length out.old }
-    ensures wrote_bytes { WroteBytes out.old at (end_line h) result out.new }
-    ensures upper_bound { result ≤ at + 64 }
-{
-    let ending = h.ending;
-    let w = put_ending(out, at, ending);
-    put_range(out, w, price_range(h))
-}
-
-fn put_party(out: &mut [u8], at: usize, party: u32) -> usize
-    requires { at + 25 ≤ length out.old }
-    ensures wrote_bytes { WroteBytes out.old at (party_text party) result out.new }
-    ensures upper_bound { result ≤ at + 25 }
-{
-    if party == 0 {
-        return put_text(out, at, b"FILL contra");
+    pub(crate) fn auction(&mut self, h: Head)
+        requires { Fits self.old (auction_line h) }
+        ensures { Writes self.old self.new (auction_line h) }
+    {
+        let t = h.terms;
+        self.side(t.sell);
+        self.field(b" size ", t.size);
+        self.range(price_range(h));
     }
-    put_word(out, at, b"FILL ", party)
-}
 
-pub(crate) fn put_fill(out: &mut [u8], at: usize, party: u32, price: u32, quantity: u32) -> usize
-    requires { at + 68 ≤ length out.old }
-    ensures wrote_bytes { WroteBytes out.old at (fill_line (fill party price quantity)) result out.new }
-    ensures upper_bound { result ≤ at + 68 }
-{
-    let p = put_party(out, at, party);
-    let q = put_word(out, p, b" ", price);
-    let w = put_word(out, q, b" ", quantity);
-    put_text(out, w, b"\n")
-}
+    fn answer(&mut self, answer: Answer)
+        requires { Fits self.old (answer_text answer) }
+        ensures { Writes self.old self.new (answer_text answer) }
+    {
+        match answer {
+            Answer::Taken => self.text(b" taken"),
+            Answer::Ended => self.text(b" ended"),
+            Answer::Late => self.text(b" late"),
+            Answer::Refused(refusal) => self.field(b" refused ", refusal.number()),
+        }
+    }
 
-pub(crate) fn put_total(out: &mut [u8], at: usize, n: u64) -> usize
-    requires { at + 27 ≤ length out.old }
-    ensures { WroteBytes out.old at (total_line n) result out.new }
-{
-    let w = put_field(out, at, b"TOTAL ", n);
-    put_text(out, w, b"\n")
+    // An EVENT line up to its end.
+    fn said(&mut self, sequence: u32, answer: Answer)
+        requires { Fits self.old (event_text (said sequence answer)) }
+        ensures { Writes self.old self.new (event_text (said sequence answer)) }
+    {
+        self.field(b"EVENT ", sequence);
+        self.answer(answer);
+    }
+
+    pub(crate) fn event(&mut self, sequence: u32, answer: Answer)
+        requires { Fits self.old (event_line (said sequence answer)) }
+        ensures { Writes self.old self.new (event_line (said sequence answer)) }
+    {
+        self.said(sequence, answer);
+        self.text(b"\n");
+    }
+
+    // An EVENT line of a watch, with the contracts on offer at its end.
+    pub(crate) fn watched(&mut self, sequence: u32, answer: Answer, offered: u32)
+        requires { Fits self.old (event_line_with (said sequence answer) offered) }
+        ensures { Writes self.old self.new (event_line_with (said sequence answer) offered) }
+    {
+        self.said(sequence, answer);
+        self.field(b" on offer ", offered);
+        self.text(b"\n");
+    }
+
+    fn ending(&mut self, ending: Ending)
+        requires { Fits self.old (end_text ending) }
+        ensures { Writes self.old self.new (end_text ending) }
+    {
+        match ending {
+            Ending::Time => self.text(b"END time"),
+            Ending::Same => self.text(b"END same"),
+            Ending::Opposite => self.text(b"END opposite"),
+            Ending::Improve => self.text(b"END improve"),
+            Ending::Open => self.text(b"END open"),
+        }
+    }
+
+    pub(crate) fn end(&mut self, h: Head)
+        requires { Fits self.old (end_line h) }
+        ensures { Writes self.old self.new (end_line h) }
+    {
+        let ending = h.ending;
+        self.ending(ending);
+        self.range(price_range(h));
+    }
+
+    fn party(&mut self, party: u32)
+        requires { Fits self.old (party_text party) }
+        ensures { Writes self.old self.new (party_text party) }
+    {
+        if party == 0 {
+            return self.text(b"FILL contra");
+        }
+        self.field(b"FILL ", party);
+    }
+
+    pub(crate) fn fill(&mut self, party: u32, price: u32, quantity: u32)
+        requires { Fits self.old (fill_line (fill party price quantity)) }
+        ensures { Writes self.old self.new (fill_line (fill party price quantity)) }
+    {
+        self.party(party);
+        self.field(b" ", price);
+        self.field(b" ", quantity);
+        self.text(b"\n");
+    }
+
+    pub(crate) fn total(&mut self, n: u64)
+        requires { Fits self.old (total_line n) }
+        ensures { Writes self.old self.new (total_line n) }
+    {
+        self.text(b"TOTAL ");
+        self.number(n);
+        self.text(b"\n");
+    }
 }

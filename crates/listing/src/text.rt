@@ -1,18 +1,13 @@
-// Text into lent bytes: words, and numbers in plain decimal. Each writer writes at a place and answers the next.
-ghost use Rattle.std.specs.Prelude.{◌≡◌, ◌++◌, ◌+◌, ◌≤◌, ◌<◌, length};
+// Text into lent bytes: words, and numbers in plain decimal.
+ghost use Rattle.std.specs.Prelude.{◌≡◌, ◌++◌, ◌≤◌, ◌<◌, length};
 ghost use Rattle.listing.specs.rules.Text.{digit, decimal};
-ghost use Rattle.words.specs.inside.Writing.{WroteBytes};
+ghost use Rattle.listing.specs.inside.Writes.{Fits, Writes};
 
-pub(crate) fn put_text(out: &mut [u8], at: usize, s: &[u8]) -> usize
-    requires { at + length s.now ≤ length out.old }
-    ensures { WroteBytes out.old at s.now result out.new }
-{
-    let mut i = 0;
-    while i < s.len() {
-        out[at + i] = s[i];
-        i += 1;
-    }
-    at + i
+// Lent bytes, and the place of the next byte.
+#[derive(Drop)]
+pub(crate) struct Writer<'a> {
+    out: &'a mut [u8],
+    pub(crate) at: usize,
 }
 
 // The last digit of a number.
@@ -52,47 +47,73 @@ fn count_digits(n: u64) -> usize
     k + few_digits(rest)
 }
 
-// The digits are written from the last on, two at a time.
-pub(crate) fn put_number(out: &mut [u8], at: usize, n: u64) -> usize
-    requires { at + 20 ≤ length out.old }
-    ensures wrote_bytes { WroteBytes out.old at (decimal n) result out.new }
-    ensures upper_bound { result ≤ at + 20 }
+// The digits of a number into as many bytes, from the last on, two at a time.
+fn fill_digits(out: &mut [u8], n: u64)
+    requires { length out.old ≡ length (decimal n) }
+    ensures { out.new ≡ decimal n }
 {
-    let end = at + count_digits(n);
-    let mut w = end;
+    let mut at = out.len();
     let mut rest = n;
     while 100 <= rest {
         let pair = rest % 100;
-        let last = w - 1;
+        let last = at - 1;
         out[last] = last_digit(pair);
-        w = last - 1;
-        out[w] = last_digit(pair / 10);
+        at = last - 1;
+        out[at] = last_digit(pair / 10);
         rest /= 100;
     }
     if 10 <= rest {
-        out[at + 1] = last_digit(rest);
-        out[at] = last_digit(rest / 10);
-        return end;
+        out[1] = last_digit(rest);
+        out[0] = last_digit(rest / 10);
+        return;
     }
-    out[at] = last_digit(rest);
-    end
+    out[0] = last_digit(rest);
 }
 
-// A text, and a number after it.
-pub(crate) fn put_field(out: &mut [u8], at: usize, s: &[u8], n: u64) -> usize
-    requires { at + length s.now + 20 ≤ length out.old }
-    ensures wrote_bytes { WroteBytes out.old at (s.now ++ decimal n) result out.new }
-    ensures upper_bound { result ≤ at + length s.now + 20 }
+// By itself, since std's copy_from_slice costs a dozen instructions more for each text.
+fn copy(out: &mut [u8], s: &[u8])
+    requires { length out.old ≡ length s.now }
+    ensures { out.new ≡ s.now }
 {
-    let w = put_text(out, at, s);
-    put_number(out, w, n)
+    for i in 0..s.len() {
+        out[i] = s[i];
+    }
 }
 
-// A text, and a word after it.
-pub(crate) fn put_word(out: &mut [u8], at: usize, s: &[u8], n: u32) -> usize
-    requires { at + length s.now + 20 ≤ length out.old }
-    ensures wrote_bytes { WroteBytes out.old at (s.now ++ decimal n) result out.new }
-    ensures upper_bound { result ≤ at + length s.now + 20 }
-{
-    put_field(out, at, s, n as u64)
+impl<'a> Writer<'a> {
+    // From the start of lent bytes.
+    pub(crate) fn new(out: &'a mut [u8]) -> Writer<'a>
+        ensures same { result.out.ghost_name ≡ out.entry.ghost_name }
+        ensures bytes { result.out.now ≡ out.old }
+        ensures place { result.at ≡ 0 }
+    {
+        Writer { out, at: 0 }
+    }
+
+    pub(crate) fn text(&mut self, s: &[u8])
+        requires { Fits self.old s.now }
+        ensures { Writes self.old self.new s.now }
+    {
+        let end = self.at + s.len();
+        copy(&mut self.out[self.at..end], s);
+        self.at = end;
+    }
+
+    pub(crate) fn number(&mut self, n: u64)
+        requires { Fits self.old (decimal n) }
+        ensures { Writes self.old self.new (decimal n) }
+    {
+        let end = self.at + count_digits(n);
+        fill_digits(&mut self.out[self.at..end], n);
+        self.at = end;
+    }
+
+    // A text, and a number after it.
+    pub(crate) fn field(&mut self, s: &[u8], n: u32)
+        requires { Fits self.old (s.now ++ decimal n) }
+        ensures { Writes self.old self.new (s.now ++ decimal n) }
+    {
+        self.text(s);
+        self.number(u64::from(n));
+    }
 }

@@ -5,8 +5,7 @@ ghost use Rattle.run.specs.rules.Run.{closed};
 ghost use Rattle.listing.specs.rules.Listing.{refused_line, auction_line, end_lines};
 ghost use Rattle.listing.specs.rules.Watch.{shown_length, shown_bytes, watch_line, watched_of};
 
-use crate::lines::{put_auction, put_refused, put_watched};
-use crate::results::put_results;
+use crate::text::Writer;
 use auction::{Auction, Head, on_offer};
 use steps::{close, step};
 use tape::Event;
@@ -29,7 +28,9 @@ pub fn refused(number: u32, out: &mut [u8]) -> usize
     if out.len() < LINES {
         return 0;
     }
-    put_refused(out, 0, number)
+    let mut w = Writer::new(out);
+    w.refused(number);
+    w.at
 }
 
 // The AUCTION line.
@@ -40,7 +41,9 @@ pub fn opened(h: Head, out: &mut [u8]) -> usize
     if out.len() < LINES {
         return 0;
     }
-    put_auction(out, 0, h)
+    let mut w = Writer::new(out);
+    w.auction(h);
+    w.at
 }
 
 // One event, and its line.
@@ -57,8 +60,12 @@ pub fn event(a: Auction, e: Event, out: &mut [u8]) -> Watched
     let s = step(a, e);
     let answer = s.answer;
     let auction = s.auction;
-    let length = put_watched(out, 0, e.sequence, answer, on_offer(auction));
-    Watched { auction, length }
+    let mut w = Writer::new(out);
+    w.watched(e.sequence, answer, on_offer(auction));
+    Watched {
+        auction,
+        length: w.at,
+    }
 }
 
 // The lines of the end; an auction still open is closed by hand.
@@ -71,5 +78,7 @@ pub fn ended(a: Auction, out: &mut [u8]) -> usize
     }
     let s = close(a);
     let n = s.auction;
-    put_results(out, 0, n.head, &n.board)
+    let mut w = Writer::new(out);
+    w.results(n.head, &n.board);
+    w.at
 }

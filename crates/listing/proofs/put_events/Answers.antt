@@ -3,7 +3,6 @@ use mathlib.Core.Bool.{◌&&◌}
 use mathlib.Core.Logic.{inl, inr, ⊎_elim}
 use Prim.Native.Nat.{ℕ, ◌+◌, ◌^◌, ◌<◌}
 use native.Mathlib.Omega.{arith}
-use borrow.Author.Rules.{rules}
 use Rattle.run.specs.rules.Run.{run, heard, closed}
 use Rattle.events.specs.rules.Step.{sight_of, board_after, turn_of}
 use Rattle.events.proofs.SightLaws.{found_at, sight-found}
@@ -12,20 +11,24 @@ use Rattle.words.proofs.BitLaws.{without-le, without-lt, without-lowest, LowestB
 use Rattle.board.specs.declared.Response.{Response}
 use Rattle.board.specs.promises.Board.{Good}
 use Rattle.board.proofs.BoardLaws.{empty-good}
-use Rattle.auction.specs.declared.Auction.{Auction}
 use Rattle.decision.specs.declared.Sight.{Sight}
 use Rattle.tape.specs.declared.event.Event.{Event}
-use Rattle.tape.specs.rules.Tape.{record_in}
 use mathlib.Core.List.{List, []}
 use Rattle.listing.specs.rules.Listing.{event_lines}
-use Rattle.words.proofs.WroteLaws.{wrote-same, left-start, left-wrote, left-same, left-done}
+use Rattle.listing.specs.inside.Writes.{Fits}
+use Rattle.listing.proofs.WriterLaws.{writes-same, fits-first, left-start, left-turn, left-end}
 use Rattle.listing.proofs.LookLaws.{Seeks, Sought, looked, is_at, sought-le, sought-live, some-past, gap-less, look-start, look-places, look-gap, look-four, look_hit, look-slow, look-over, look-end, look-found, look-next, look-for}
-use Rattle.listing.proofs.RunLaws.{whole, closed-whole, seat-set, seat-past, seat-free, seat-none, good-after, rest, rest-none, rest_all, events-turn, run-turn}
+use Rattle.listing.proofs.RunLaws.{whole, closed-whole, seat-set, seat-past, seat-free, seat-none, good-after, rest, rest-none, events-turn, run-turn, begin-lines, begin-run}
 use Rattle.listing.proofs.put_events.Goals as goal
 use Rattle.listing.proofs.put_events.Goals.{in-Seat+then-i-lt64, in-Seat+else-i-lt64, in-Free, in-Nothing, in-Quote, in-Sell, After-first_set-j, After-sight_of-v, After-which, After-without_lowest-slow, In-loop-rest}
 
 pub loop-k-init : goal.loop-k-init
-loop-k-init c = (omega arith, refl, omega arith, refl, left-start _ _ _, refl, rw c.requires.board_value.1 empty-good)
+loop-k-init c =
+    record {
+      lines = left-start (subst (λ (t : List ℕ). Fits c.args.w.now t) (begin-lines c.args.tape.now c.args.t c.args.a c.args.b.now c.requires.board_value) c.requires.room);
+      auction = refl;
+      good = rw c.requires.board_value.1 empty-good;
+    }
 
 -- ---- the search for the response that the event names, four places at a time
 pub loop-rest-init : goal.loop-rest-init
@@ -35,7 +38,7 @@ loop-rest-init c =
 -- what is known while it goes on
 
 good : (c : goal.In-loop-rest) → Good c.loop-k.b
-good c = c.loop-k.invariant.6
+good c = c.loop-k.invariant.good
 
 seeks : (c : goal.In-loop-rest) → Seeks c.loop-k.b c.record_in-e.result.f12 c.sought-rest.result c.loop-rest.named c.loop-rest.rest c.loop-rest.i c.loop-rest.slow
 seeks c = ⊎_elim (λ x. x) (λ x. absurd (c.loop-rest-test.true x.over)) c.loop-rest.invariant
@@ -163,9 +166,9 @@ pub loop-slow-init : goal.loop-slow-init
 loop-slow-init c =
     let o = c.loop-k in
     let e = c.record_in-e.result in
-    let x = look-over o.b o.invariant.6 e.f12 _ _ _ _ _ c.loop-rest.invariant c.loop-rest-test.false in (
+    let x = look-over o.b o.invariant.good e.f12 _ _ _ _ _ c.loop-rest.invariant c.loop-rest-test.false in (
       x.0,
-      x.1 ∙ ap (found_at o.b) (look-for o.b o.invariant.6 e _ _ c.names.ensures c.sought-rest.ensures),
+      x.1 ∙ ap (found_at o.b) (look-for o.b o.invariant.good e _ _ c.names.ensures c.sought-rest.ensures),
     )
 
 low : (c : goal.After-first_set-j) → LowestBit c.loop-slow.slow c.first_set-j.result
@@ -187,7 +190,7 @@ pub loop-slow-preserved-then-is_named : goal.loop-slow-preserved-then-is_named
 loop-slow-preserved-then-is_named c =
     let o = c.loop-k in (
       omega arith,
-      look-found o.b o.invariant.6 c.record_in-e.result.f12 c.loop-slow.named c.loop-slow.slow c.first_set-j.result (low (goal.at.loop-slow-preserved-then-is_named c).After-first_set-j) (sym c.is_named-in-loop-slow.ensures ∙ c.if-is_named.true) ∙ c.loop-slow.invariant.1,
+      look-found o.b o.invariant.good c.record_in-e.result.f12 c.loop-slow.named c.loop-slow.slow c.first_set-j.result (low (goal.at.loop-slow-preserved-then-is_named c).After-first_set-j) (sym c.is_named-in-loop-slow.ensures ∙ c.if-is_named.true) ∙ c.loop-slow.invariant.1,
     )
 
 -- the places still to come after that turn
@@ -213,15 +216,21 @@ seen c =
     let o = c.loop-k in
     let e = c.record_in-e.result in
     sight-found o.b e _ _ c.sight_of-v.ensures
-    (sym (look-end o.b o.invariant.6 e.f12 c.loop-slow.named)
+    (sym (look-end o.b o.invariant.good e.f12 c.loop-slow.named)
     ∙ ap (looked o.b e.f12 c.loop-slow.named) (sym c.loop-slow-test.false)
     ∙ c.loop-slow.invariant.1)
 
-pub put_event-w-requires : goal.put_event-w-requires
-put_event-w-requires c = omega (arith, c.loop-k-test.true, c.loop-k.invariant.1, c.loop-k.invariant.2, c.loop-k.invariant.3, c.requires.events_bound)
+-- ---- a turn: its line, and what it does to the board
 
-pub overflow_add-k : goal.overflow_add-k
-overflow_add-k c = omega (arith, c.loop-k-test.true, c.requires.events_bound.0)
+pub event-requires : goal.event-requires
+event-requires c =
+    let a = c.args in
+    let l = c.loop-k in
+    let e = c.record_in-e in
+    let u = c.turn-u in
+    let eu = u.ensures ∙ ap (λ (x : Sight). turn_of l.h x e.result) (seen (goal.at.event-requires c).After-sight_of-v) in
+    let turn = events-turn a.tape.now a.t l.k l.h l.b (board_after l.b u.result.change) e.result u.result e.ensures eu refl c.loop-k-test.true in
+    fits-first l.w _ _ (subst (λ (t : List ℕ). Fits l.w t) turn l.invariant.lines.fits)
 
 pub loop-k-preserved : goal.loop-k-preserved
 loop-k-preserved c =
@@ -229,10 +238,8 @@ loop-k-preserved c =
     let l = c.loop-k in
     let k = c.loop-k-test.true in
     let e = c.record_in-e in
-    let met : e.result ≡ record_in a.tape.now a.t l.k = e.ensures ∙ ap (λ (n : ℕ). record_in a.tape.now a.t n) (omega arith) in
-    let v = seen (goal.at.loop-k-preserved c).After-sight_of-v in
     let u = c.turn-u in
-    let eu = u.ensures ∙ ap (λ (x : Sight). turn_of l.h x e.result) v in
+    let eu = u.ensures ∙ ap (λ (x : Sight). turn_of l.h x e.result) (seen (goal.at.loop-k-preserved c).After-sight_of-v) in
     let seated : c.match-c.b ≡ board_after l.b u.result.change =
     elim c.match-c.branch [
       | in-Seat+then-i-lt64 w ↦ seat-set l.b _ _ _ _ _ _ w.in-Seat.is w.if-i-lt64.true (w.with_bit-b.ensures ∙ ap (λ (n : ℕ). with_bit l.b.live n) (omega arith)) w.b-is
@@ -241,31 +248,27 @@ loop-k-preserved c =
       | in-Nothing w ↦ seat-none l.b _ _ _ w.in-Nothing.is refl w.b-is
       | in-Quote w ↦ seat-none l.b _ _ _ w.in-Quote.is refl w.b-is
       | in-Sell w ↦ seat-none l.b _ _ _ w.in-Sell.is refl w.b-is
-    ] in (
-      omega (arith, k),
-      search rules,
-      omega arith,
-      refl,
-      left-wrote (left-same l.invariant.4 (events-turn a.tape.now a.t l.k l.h l.b _ e.result u.result met eu seated k)) c.put_event-w.ensures.wrote_bytes,
-      run-turn a.tape.now a.t l.k l.h l.b _ e.result u.result met eu seated k ∙ l.invariant.5,
-      rw seated (good-after l.b u.result.change l.invariant.6),
-    )
+    ] in
+    record {
+      lines = left-turn _ l.invariant.lines c.event.ensures (events-turn a.tape.now a.t l.k l.h l.b _ e.result u.result e.ensures eu seated k);
+      auction = run-turn a.tape.now a.t l.k l.h l.b _ e.result u.result e.ensures eu seated k ∙ l.invariant.auction;
+      good = rw seated (good-after l.b u.result.change l.invariant.good);
+    }
 
 pub returns : goal.returns
 returns c =
     let a = c.args in
     let l = c.loop-k in
     let s = a.tape.now in
-    let none : rest s a.t l.k ≡ [] = rest-none s a.t l.k (omega arith) in
-    let first : whole a.a.head a.b.now ≡ a.a = ap (whole a.a.head) (c.requires.board_value.1 ∙ sym c.requires.board_value.0) in record {
-      wrote_bytes = wrote-same (left-done (left-same l.invariant.4 (ap (λ (es : List Event). event_lines (heard (whole l.h l.b) es)) none)))
-          (ap₂ (λ (x : Auction) (es : List Event). event_lines (heard x es)) first (sym (rest_all s a.t)));
+    let none : rest s a.t l.k ≡ [] = rest-none s a.t l.k c.loop-k-test.false in
+    record {
+      lines =
+          writes-same (left-end l.invariant.lines (ap (λ (es : List Event). event_lines (heard (whole l.h l.b) es)) none))
+          (sym (begin-lines s a.t a.a a.b.now c.requires.board_value));
       auction_value = (
         closed-whole l.h l.b c.close_turn-last.result c.close_turn-last.ensures
             ∙ ap (λ (es : List Event). closed (run (whole l.h l.b) es)) (sym none)
-            ∙ ap closed l.invariant.5
-            ∙ ap₂ (λ (x : Auction) (es : List Event). closed (run x es)) first (sym (rest_all s a.t)),
-        omega arith,
-        l.invariant.6.places-are,
+            ∙ ap closed (l.invariant.auction ∙ begin-run s a.t a.a a.b.now c.requires.board_value),
+        l.invariant.good.places-are,
       );
     }

@@ -1,13 +1,12 @@
 use mathlib.Core.Path.{◌≡◌}
 use mathlib.Core.Logic.{◌⊎◌}
-use Prim.Native.Nat.{◌+◌, ◌-◌, ◌*◌, ◌^◌, ◌≤◌, ◌<◌}
-use lib.ListN.{length}
+use Prim.Native.Nat.{◌^◌, ◌<◌}
 use Rattle.run.specs.rules.Run.{run, heard}
 use Rattle.events.specs.rules.Step.{found_for}
 use Rattle.events.proofs.SightLaws.{found_at}
 use Rattle.board.specs.promises.Board.{Good}
 use Rattle.listing.specs.rules.Listing.{event_lines}
-use Rattle.words.specs.inside.Writing.{LeftBytes}
+use Rattle.listing.proofs.WriterLaws.{LeftToWrite}
 use Rattle.listing.proofs.LookLaws.{Seeks, Sought, looked}
 use Rattle.listing.proofs.RunLaws.{whole, rest}
 use Rattle.listing.proofs.put_events.Given as goal
@@ -30,10 +29,8 @@ decreases-loop-slow l = l.slow
 
 abbrev pub invariant-loop-k : goal.invariant-loop-k
 invariant-loop-k l =
-    (l.k ≤ l.n) × (length l.out ≡ length l.initial.out) × (l.w ≤ l.start + 56 * l.k) × (l.n ≡ l.t.events)
-    × LeftBytes l.initial.out l.start (event_lines (heard (whole l.initial.h l.initial.b) (rest l.tape l.t 0))) l.out l.w (event_lines (heard (whole l.h l.b) (rest l.tape l.t l.k)))
-    × (run (whole l.h l.b) (rest l.tape l.t l.k) ≡ run (whole l.initial.h l.initial.b) (rest l.tape l.t 0))
-    × Good l.b
-
-abbrev pub decreases-loop-k : goal.decreases-loop-k
-decreases-loop-k l = l.n - l.k
+    record {
+      lines : LeftToWrite l.initial.w l.w (event_lines (heard (whole l.initial.h l.initial.b) (rest l.tape l.t 0))) (event_lines (heard (whole l.h l.b) (rest l.tape l.t l.k)));
+      auction : run (whole l.h l.b) (rest l.tape l.t l.k) ≡ run (whole l.initial.h l.initial.b) (rest l.tape l.t 0);
+      good : Good l.b;
+    }

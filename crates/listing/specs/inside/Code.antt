@@ -1,5 +1,5 @@
 -- What the private functions of `listing` give.
-use Rattle.std.specs.Prelude.{◌≡◌, List, [], ◌∷◌, ℕ, zero, suc, length, get_or, drop}
+use Rattle.std.specs.Prelude.{◌≡◌, List, [], ◌∷◌, ℕ, length}
 use Rattle.std.proofs.lemmas.List.Edits.{sets}
 use Rattle.share.specs.rules.Fills.{Fill, fill}
 use Rattle.listing.specs.declared.Listed.{Listed}
@@ -13,7 +13,7 @@ pub record Lists (run : Run) (xs : List ℕ) (r : Listed) (ys : List ℕ) : Type
 
 -- ---- fills as the writer of fills leaves them
 
--- n fills, by their words
-unfoldable pub fills_in : ℕ → List ℕ → List Fill
-fills_in zero ws = []
-fills_in (suc n) ws = fill (get_or ws 0 0) (get_or ws 1 0) (get_or ws 2 0) ∷ fills_in n (drop 3 ws)
+-- the fills of words, three each
+abbrev pub fills_in : List ℕ → List Fill
+fills_in (party ∷ price ∷ quantity ∷ ws) = fill party price quantity ∷ fills_in ws
+fills_in _ = []
