@@ -3,7 +3,8 @@ use Rattle.std.specs.Prelude.{ℕ, ◌+◌, ◌%◌, ◌^◌}
 use Rattle.auction.specs.declared.Ending.{Ending}
 use Rattle.auction.specs.declared.Ending.TheVariants.{Open, Time, Same, Opposite, Improve}
 use Rattle.listing.specs.declared.Listed.{Listed}
-use Rattle.listing.specs.declared.Listed.TheVariants.{Refused, Ended}
+use Rattle.std.specs.Prelude.{Result, Ok, Err}
+use Rattle.base.specs.declared.refusal.Refusal.{Refusal}
 use Rattle.evening.specs.declared.tally.Tally.{Tally}
 
 -- past the greatest number of 64 bits comes 0
@@ -36,6 +37,9 @@ counted_ending t Opposite = record t { opposite = one_more t.opposite }
 counted_ending t Improve = record t { improve = one_more t.improve }
 counted_ending t Open = t
 
+abbrev pub counted_outcome : Tally → Result Ending Refusal → Tally
+counted_outcome t (Err refusal) = record t { refused = one_more t.refused }
+counted_outcome t (Ok ending) = counted_ending t ending
+
 abbrev pub counted_listed : Tally → Listed → Tally
-counted_listed t (Refused number length) = record t { refused = one_more t.refused }
-counted_listed t (Ended ending length) = counted_ending t ending
+counted_listed t listed = counted_outcome t listed.outcome

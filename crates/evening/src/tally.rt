@@ -65,9 +65,9 @@ impl Tally {
     pub(crate) fn count_listed(&mut self, listed: Listed)
         ensures { self.new ≡ counted_listed self.old listed }
     {
-        match listed {
-            Listed::Refused { .. } => self.refused = one_more(self.refused),
-            Listed::Ended { ending, .. } => self.count_ending(ending),
+        match listed.outcome {
+            Ok(ending) => self.count_ending(ending),
+            Err(_) => self.refused = one_more(self.refused),
         }
     }
 }

@@ -7,7 +7,8 @@ use borrow.Author.Tests.{lt-ltb, le-ltb}
 use lib.ListN.{length}
 use Rattle.base.proofs.SetsLaws.{sets-front}
 use Rattle.listing.specs.declared.Listed.{Listed}
-use Rattle.listing.specs.declared.Listed.TheVariants.{Refused as NoAuction}
+use Rattle.std.specs.Prelude.{Err}
+use Rattle.base.specs.declared.refusal.Refusal.TheVariants.{RoomTooShort}
 use Rattle.run.specs.rules.Run.{Run, run_of}
 use Rattle.listing.specs.rules.Listing.{lines_of, listing_of, room_of, answer_of, listed_of, bytes_of}
 use Rattle.listing.proofs.LengthLaws.{listing-fits}
@@ -25,7 +26,7 @@ lists-same {xs} {ys} {r} run l e = subst (λ u. Lists u xs r ys) e l
 -- ---- the whole listing
 
 module _ (s xs : List ℕ) where
-  pub too_small : length xs < room_of → (NoAuction 24 0 ≡ listed_of s xs) × (xs ≡ bytes_of s xs)
+  pub too_small : length xs < room_of → (record { outcome = Err RoomTooShort; length = 0 } ≡ listed_of s xs) × (xs ≡ bytes_of s xs)
   unfolding listed_of bytes_of
   too_small h = rw (lt-ltb (length xs) room_of h) (refl, refl)
 

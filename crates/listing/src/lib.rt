@@ -12,6 +12,7 @@ ghost use Rattle.listing.specs.inside.Writes.{Fits, Writes};
 ghost use Rattle.words.specs.rules.Bits.{count_trailing_zeros};
 
 use auction::{Auction, Ending, Head};
+use base::Refusal;
 use board::{Board, Found};
 use decision::Change;
 use events::turns;
@@ -24,13 +25,11 @@ mod results;
 mod text;
 pub mod watch;
 
-// What came of a tape, and the length of its listing.
+// What came of a tape, and the length of its listing: why the auction ended; else the refusal of the tape or the order, or `RoomTooShort`, with which nothing was written.
 #[derive(Clone, Copy)]
-pub enum Listed {
-    // A refused tape or order; 24 where the room is too small, and nothing was written then.
-    Refused { number: u32, length: usize },
-    // An auction.
-    Ended { ending: Ending, length: usize },
+pub struct Listed {
+    pub outcome: Result<Ending, Refusal>,
+    pub length: usize,
 }
 
 // Every listing fits.
@@ -40,10 +39,7 @@ pub const ROOM: usize = 131072;
 pub fn length_of(l: Listed) -> usize
     ensures { result ≡ length_in l }
 {
-    match l {
-        Listed::Refused { number: _, length } => length,
-        Listed::Ended { ending: _, length } => length,
-    }
+    l.length
 }
 
 // ---- the events
@@ -181,14 +177,14 @@ fn put_events(tape: &[u8], t: Trailer, a: Auction, b: &mut Board, w: &mut Writer
 
 // ---- the tape
 
-fn list_refused(out: &mut [u8], number: u32) -> Listed
+fn list_refused(out: &mut [u8], refusal: Refusal) -> Listed
     requires { room_of ≤ length out.old }
-    ensures { Lists (refused number) out.old result out.new }
+    ensures { Lists (refused refusal) out.old result out.new }
 {
     let mut w = Writer::new(out);
-    w.refused(number);
-    Listed::Refused {
-        number,
+    w.refused(refusal.number());
+    Listed {
+        outcome: Err(refusal),
         length: w.at,
     }
 }
@@ -205,9 +201,8 @@ fn list_auction(tape: &[u8], t: Trailer, a: Auction, out: &mut [u8]) -> Listed
     let mut b = board::empty();
     let end = put_events(tape, t, a, &mut b, &mut w);
     w.results(end, &b);
-    let ending = end.ending;
-    Listed::Ended {
-        ending,
+    Listed {
+        outcome: Ok(end.ending),
         length: w.at,
     }
 }
@@ -218,7 +213,7 @@ fn list_order(tape: &[u8], t: Trailer, o: Order, out: &mut [u8]) -> Listed
 {
     match auction::accept(o) {
         Ok(a) => list_auction(tape, t, a, out),
-        Err(r) => list_refused(out, r.number()),
+        Err(refusal) => list_refused(out, refusal),
     }
 }
 
@@ -228,7 +223,7 @@ fn list_tape(tape: &[u8], t: Trailer, out: &mut [u8]) -> Listed
 {
     match tape::order_in(tape, t) {
         Ok(o) => list_order(tape, t, o, out),
-        Err(refusal) => list_refused(out, refusal.number()),
+        Err(refusal) => list_refused(out, refusal),
     }
 }
 
@@ -238,13 +233,13 @@ pub fn listing(tape: &[u8], out: &mut [u8]) -> Listed
     ensures out_after { out.new ≡ bytes_of tape.now out.old }
 {
     if out.len() < ROOM {
-        return Listed::Refused {
-            number: 24,
+        return Listed {
+            outcome: Err(Refusal::RoomTooShort),
             length: 0,
         };
     }
     match tape::open_tape(tape) {
         Ok(t) => list_tape(tape, t, out),
-        Err(refusal) => list_refused(out, refusal.number()),
+        Err(refusal) => list_refused(out, refusal),
     }
 }

@@ -44,7 +44,6 @@ use Rattle.run.proofs.Resend.{keeps}
 use Rattle.listing.specs.rules.Text.{text}
 use Rattle.listing.specs.rules.Listing.{field, answer_text, end_text, end_lines, lines_of, listing_of, room_of, listed_of, length_in, answer_of}
 use Rattle.listing.specs.declared.Listed.{Listed}
-use Rattle.listing.specs.declared.Listed.TheVariants.{Refused as NoAuction}
 use Rattle.listing.proofs.Theorems.{length-answer, demands}
 use Rattle.promise.specs.rules.Answers.{no, yes, paper_of, answer_is, ending_is, run_is, listed_is}
 use Rattle.promise.specs.rules.Tapes.{Carries, end_in, end_of, is_refused, not_refused}
@@ -152,7 +151,7 @@ answered s = open_by (open_tape s) refl
 -- ---- the room
 
 is-run : (n : ℕ) (u : Run) → listed_is (answer_of n u) ≡ run_is u
-is-run n (refused number) = refl
+is-run n (refused r) = refl
 is-run n (ended first said last) = refl
 
 pub roomed : (s out : List ℕ) → Roomed s out
@@ -169,7 +168,7 @@ roomed s out =
     }
   where
     listed : Bool → Listed
-    listed b = cond b (NoAuction 24 0) (answer_of (length (listing_of s)) (run_of s))
+    listed b = cond b (record { outcome = Err RoomTooShort; length = 0 }) (answer_of (length (listing_of s)) (run_of s))
 
     listed_by : (b : Bool) → ltb (length out) room_of ≡ b → listed_is (listed (ltb (length out) room_of)) ≡ listed_is (listed b)
     listed_by b z = ap (λ (t : Bool). listed_is (listed t)) z

@@ -19,4 +19,4 @@ pub returns-in-Err : goal.returns-in-Err
 returns-in-Err c =
     let a = c.args in
     let s = records_of a.tape.now a.t in
-    lists-same (refused c.number.result) c.list_refused.ensures (ap refused c.number.ensures ∙ ap (run_entry s) (sym c.in-Err.is ∙ c.accept.ensures))
+    lists-same (refused c.in-Err.refusal) c.list_refused.ensures (ap (run_entry s) (sym c.in-Err.is ∙ c.accept.ensures))

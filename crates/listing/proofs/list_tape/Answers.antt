@@ -13,4 +13,4 @@ returns-in-Ok c =
 pub returns-in-Err : goal.returns-in-Err
 returns-in-Err c =
     let a = c.args in
-    lists-same (refused c.number.result) c.list_refused.ensures (ap refused c.number.ensures ∙ ap (run_order (records_of a.tape.now a.t)) (sym c.in-Err.is ∙ c.order_in.ensures))
+    lists-same (refused c.in-Err.refusal) c.list_refused.ensures (ap (run_order (records_of a.tape.now a.t)) (sym c.in-Err.is ∙ c.order_in.ensures))

@@ -26,5 +26,5 @@ pub returns-in-Err : goal.returns-in-Err
 unfolding run_of
 returns-in-Err c =
     let both = let a = c.args in
-    lists-whole a.tape.now a.out.now c.if-out-lt-ROOM.false (lists-same (refused c.number.result) c.list_refused.ensures (ap refused c.number.ensures ∙ ap (run_tape a.tape.now) (sym c.in-Err.is ∙ c.open_tape.ensures))) in
+    lists-whole a.tape.now a.out.now c.if-out-lt-ROOM.false (lists-same (refused c.in-Err.refusal) c.list_refused.ensures (ap (run_tape a.tape.now) (sym c.in-Err.is ∙ c.open_tape.ensures))) in
     record { value = both.0; out_after = both.1 }

@@ -16,7 +16,10 @@ use Rattle.fills.specs.rules.Fills.{auction_fills}
 use Rattle.listing.specs.rules.Text.{text, newline, decimal}
 use Rattle.run.specs.rules.Run.{Said, Run, refused, ended, run_of}
 use Rattle.listing.specs.declared.Listed.{Listed}
-use Rattle.listing.specs.declared.Listed.TheVariants.{Refused as NoAuction, Ended as Auctioned}
+use Rattle.base.specs.declared.refusal.Refusal.{Refusal}
+use Rattle.base.specs.declared.refusal.Refusal.TheVariants.{RoomTooShort}
+use Rattle.std.specs.Prelude.{Result, Ok, Err}
+use Rattle.auction.specs.declared.Ending.{Ending}
 
 -- ---- lines
 
@@ -94,7 +97,7 @@ unfoldable pub end_lines : Auction → List ℕ
 end_lines a = end_line a.head ++ (fill_lines (auction_fills a) ++ total_line (traded (auction_fills a)))
 
 abbrev pub lines_of : Run → List ℕ
-lines_of (refused number) = refused_line number
+lines_of (refused r) = refused_line (number_of r)
 lines_of (ended first said last) = auction_line first.head ++ (event_lines said ++ end_lines last)
 
 unfoldable pub listing_of : List ℕ → List ℕ
@@ -110,19 +113,22 @@ at_start room t out = cond (ltb (length out) room) out (t ++ drop (length t) out
 abbrev pub room_of : ℕ
 room_of = 131072
 
--- what kind of result it is, and how long the listing
+-- what came of a tape: a refusal, or why its auction ended
+abbrev pub outcome_of : Run → Result Ending Refusal
+outcome_of (refused r) = Err r
+outcome_of (ended first said last) = Ok last.head.ending
+
+-- that, and how long the listing is
 abbrev pub answer_of : ℕ → Run → Listed
-answer_of n (refused number) = NoAuction number n
-answer_of n (ended first said last) = Auctioned last.head.ending n
+answer_of n run = record { outcome = outcome_of run; length = n }
 
 -- the length in an answer
 abbrev pub length_in : Listed → ℕ
-length_in (NoAuction number n) = n
-length_in (Auctioned ending n) = n
+length_in l = l.length
 
 -- 24, before anything else, where the room is too small
 unfoldable pub listed_of : List ℕ → List ℕ → Listed
-listed_of s out = cond (ltb (length out) room_of) (NoAuction 24 0) (answer_of (length (listing_of s)) (run_of s))
+listed_of s out = cond (ltb (length out) room_of) (record { outcome = Err RoomTooShort; length = 0 }) (answer_of (length (listing_of s)) (run_of s))
 
 unfoldable pub bytes_of : List ℕ → List ℕ → List ℕ
 bytes_of s out = at_start room_of (listing_of s) out

@@ -3,14 +3,12 @@ use Rattle.std.specs.Prelude.{Bool, true, false, ℕ, Result, Ok, Err}
 use Prim.Native.String.{String}
 use Rattle.base.specs.Refusal.{number_of}
 use Rattle.base.specs.declared.refusal.Refusal.{Refusal}
-use Rattle.tape.specs.declared.order.Order.{Order}
 use Rattle.auction.specs.declared.Ending.{Ending}
 use Rattle.auction.specs.declared.Ending.TheVariants.{Open, Time, Same, Opposite, Improve}
 use Rattle.events.specs.declared.Answer.{Answer}
 use Rattle.events.specs.declared.Answer.TheVariants.{Taken, Ended, Late, Refused as NotTaken}
 use Rattle.run.specs.rules.Run.{Run, refused, ended}
 use Rattle.listing.specs.declared.Listed.{Listed}
-use Rattle.listing.specs.declared.Listed.TheVariants.{Refused as NoAuction, Ended as Auctioned}
 
 -- "no" and its number, or yes and what goes with it
 pub data Paper (A : Type 0) : Type 0 where
@@ -43,10 +41,9 @@ ending_is Improve = "improve"
 
 -- what came of a tape: its number, or why its auction ended
 abbrev pub run_is : Run → Paper Ending
-run_is (refused number) = no number
+run_is (refused r) = no (number_of r)
 run_is (ended first said last) = yes last.head.ending
 
 -- a listing: 24, then the numbers of a tape and its order, or why the auction ended
 abbrev pub listed_is : Listed → Paper Ending
-listed_is (NoAuction number length) = no number
-listed_is (Auctioned ending length) = yes ending
+listed_is l = paper_of l.outcome

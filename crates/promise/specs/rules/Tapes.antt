@@ -3,6 +3,7 @@ use Rattle.std.specs.Prelude.{◌≡◌, Bool, false, not, List, [], ◌∷◌, 
 use Rattle.base.specs.declared.refusal.Refusal.{Refusal}
 use Rattle.base.specs.Lists.{In, keep, filter}
 use Rattle.words.specs.rules.Bytes.{AllBytes}
+use Rattle.base.specs.Refusal.{number_of}
 use Rattle.tape.specs.rules.Tape.{open_tape, order_in, records_of}
 use Rattle.tape.specs.declared.order.Order.{Order}
 use Rattle.tape.specs.declared.event.Event.{Event}
@@ -35,7 +36,7 @@ pub record SomeTape (wide : Bool) (o : Order) (es : List Event) : Type 0 where
 
 -- the END, FILL and TOTAL lines of a tape's listing; none where it is refused
 abbrev pub end_in : Run → List ℕ
-end_in (refused number) = []
+end_in (refused r) = []
 end_in (ended first said last) = end_lines last
 
 abbrev pub end_of : List ℕ → List ℕ
@@ -50,7 +51,7 @@ records_in s (Ok t) = records_of s t
 
 -- its lines: those of the listing, each EVENT line with the contracts on offer after its event
 abbrev pub watch_in : List Event → Run → List ℕ
-watch_in es (refused number) = refused_line number
+watch_in es (refused r) = refused_line (number_of r)
 watch_in es (ended first said last) = auction_line first.head ++ (watch_lines first es ++ end_lines last)
 
 abbrev pub watch_of : List ℕ → List ℕ
@@ -81,7 +82,7 @@ pub data WithResent (a : Auction) (es : List Event) : List Event → Type 0 wher
 
 -- the listing for the other side: its word, the ranges and the fills' prices are mirrored, all else stays
 abbrev pub mirrored_lines : Run → List ℕ
-mirrored_lines (refused number) = refused_line number
+mirrored_lines (refused r) = refused_line (number_of r)
 mirrored_lines (ended first said last) =
     (side_text (not first.head.terms.sell) ++ (field " size " first.head.terms.size ++ range_text (mirrored_range (range_of first.head))))
     ++ (event_lines said

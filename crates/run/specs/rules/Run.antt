@@ -1,6 +1,5 @@
 -- A run: events one after the other, and what a tape comes to.
 use Rattle.std.specs.Prelude.{Bool, true, false, List, [], ◌∷◌, ℕ, Result, Ok, Err}
-use Rattle.base.specs.Refusal.{number_of}
 use Rattle.base.specs.declared.refusal.Refusal.{Refusal}
 use Rattle.base.specs.Lists.{keep}
 use Rattle.tape.specs.rules.Tape.{open_tape, order_in, records_of}
@@ -56,22 +55,22 @@ taken_of a (e ∷ es) = keep (is_taken (step_of a e).answer) e (taken_of (step_o
 -- ---- a tape
 
 pub data Run : Type 0 where
-  -- the tape or its order is refused, by this number
-  refused : ℕ → Run
+  -- the tape or its order is refused
+  refused : Refusal → Run
   -- the auction as it opened, what is said of the events, and the auction as it ended
   ended : Auction → List Said → Auction → Run
 
 -- an order's refusal or its auction, with its events
 abbrev pub run_entry : List Event → Result Auction Refusal → Run
-run_entry es (Err r) = refused (number_of r)
+run_entry es (Err r) = refused r
 run_entry es (Ok a) = ended a (heard a es) (closed (run a es))
 
 abbrev pub run_order : List Event → Result Order Refusal → Run
-run_order es (Err r) = refused (number_of r)
+run_order es (Err r) = refused r
 run_order es (Ok o) = run_entry es (accept_of o)
 
 abbrev pub run_tape : List ℕ → Result Trailer Refusal → Run
-run_tape s (Err r) = refused (number_of r)
+run_tape s (Err r) = refused r
 run_tape s (Ok t) = run_order (records_of s t) (order_in s t)
 
 unfoldable pub run_of : List ℕ → Run
