@@ -1,18 +1,15 @@
 -- Laws of the writers of a run's lines.
-use mathlib.Core.Path.{◌≡◌, refl, sym, subst, ap, ◌∙◌}
+use mathlib.Core.Path.{◌≡◌, refl, subst, ap, ◌∙◌}
 use mathlib.Core.List.{List}
 use Prim.Native.Nat.{ℕ, ◌≤◌, ◌<◌}
 use native.Mathlib.Omega.{arith}
 use borrow.Author.Tests.{lt-ltb, le-ltb}
 use lib.ListN.{length}
 use Rattle.base.proofs.SetsLaws.{sets-front}
-use Rattle.auction.specs.declared.Auction.{Auction}
-use Rattle.auction.specs.declared.Ending.{Ending}
 use Rattle.listing.specs.declared.Listed.{Listed}
-use Rattle.listing.specs.declared.Listed.TheVariants.{Refused as NoAuction, Ended as Auctioned}
-use Rattle.run.specs.rules.Run.{Said, Run, ended, run_of}
-use Rattle.listing.specs.rules.Listing.{auction_line, event_lines, end_lines, lines_of, listing_of, room_of, answer_of, listed_of, bytes_of}
-use Rattle.words.proofs.WroteLaws.{wrote-append}
+use Rattle.listing.specs.declared.Listed.TheVariants.{Refused as NoAuction}
+use Rattle.run.specs.rules.Run.{Run, run_of}
+use Rattle.listing.specs.rules.Listing.{lines_of, listing_of, room_of, answer_of, listed_of, bytes_of}
 use Rattle.listing.proofs.LengthLaws.{listing-fits}
 use Rattle.listing.specs.inside.Code.{Lists}
 use Rattle.words.specs.inside.Writing.{WroteBytes}

@@ -1,11 +1,11 @@
-use mathlib.Core.Path.{◌≡◌, sym, ap, subst, ◌∙◌}
+use mathlib.Core.Path.{sym, ap, subst, ◌∙◌}
 use mathlib.Core.List.{◌++◌}
 use native.Mathlib.Omega.{arith}
 use borrow.Author.Rules.{rules}
 use Rattle.tape.specs.rules.Tape.{records_of}
 use Rattle.auction.specs.declared.Auction.{Auction}
 use Rattle.fills.specs.rules.Fills.{has_ended}
-use Rattle.run.specs.rules.Run.{Run, run, heard, closed, ended}
+use Rattle.run.specs.rules.Run.{run, heard, closed, ended}
 use Rattle.listing.specs.rules.Listing.{auction_line, event_lines, end_lines}
 use Rattle.listing.specs.inside.Writes.{Fits}
 use Rattle.listing.proofs.RunLaws.{closed-ended}

@@ -1,7 +1,6 @@
 use native.Mathlib.Omega.{arith}
 use borrow.Author.Rules.{rules}
 use Rattle.run.specs.rules.Run.{refused}
-use Rattle.listing.specs.rules.Listing.{refused_line}
 use Rattle.listing.proofs.LengthLaws.{refused-short}
 use Rattle.listing.proofs.WriterLaws.{writes-start, fits-start}
 use Rattle.listing.proofs.ListsLaws.{wrote-lists}

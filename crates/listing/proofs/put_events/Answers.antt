@@ -3,7 +3,6 @@ use mathlib.Core.Bool.{◌&&◌}
 use mathlib.Core.Logic.{inl, inr, ⊎_elim}
 use Prim.Native.Nat.{ℕ, ◌+◌, ◌^◌, ◌<◌}
 use native.Mathlib.Omega.{arith}
-use borrow.Author.Rules.{rules}
 use Rattle.run.specs.rules.Run.{run, heard, closed}
 use Rattle.events.specs.rules.Step.{sight_of, board_after, turn_of}
 use Rattle.events.proofs.SightLaws.{found_at, sight-found}
@@ -12,16 +11,14 @@ use Rattle.words.proofs.BitLaws.{without-le, without-lt, without-lowest, LowestB
 use Rattle.board.specs.declared.Response.{Response}
 use Rattle.board.specs.promises.Board.{Good}
 use Rattle.board.proofs.BoardLaws.{empty-good}
-use Rattle.auction.specs.declared.Auction.{Auction}
 use Rattle.decision.specs.declared.Sight.{Sight}
 use Rattle.tape.specs.declared.event.Event.{Event}
-use Rattle.tape.specs.rules.Tape.{record_in}
 use mathlib.Core.List.{List, []}
 use Rattle.listing.specs.rules.Listing.{event_lines}
 use Rattle.listing.specs.inside.Writes.{Fits}
 use Rattle.listing.proofs.WriterLaws.{writes-same, fits-first, left-start, left-turn, left-end}
 use Rattle.listing.proofs.LookLaws.{Seeks, Sought, looked, is_at, sought-le, sought-live, some-past, gap-less, look-start, look-places, look-gap, look-four, look_hit, look-slow, look-over, look-end, look-found, look-next, look-for}
-use Rattle.listing.proofs.RunLaws.{whole, closed-whole, seat-set, seat-past, seat-free, seat-none, good-after, rest, rest-none, rest_all, events-turn, run-turn, begin-lines, begin-run}
+use Rattle.listing.proofs.RunLaws.{whole, closed-whole, seat-set, seat-past, seat-free, seat-none, good-after, rest, rest-none, events-turn, run-turn, begin-lines, begin-run}
 use Rattle.listing.proofs.put_events.Goals as goal
 use Rattle.listing.proofs.put_events.Goals.{in-Seat+then-i-lt64, in-Seat+else-i-lt64, in-Free, in-Nothing, in-Quote, in-Sell, After-first_set-j, After-sight_of-v, After-which, After-without_lowest-slow, In-loop-rest}
 

@@ -1,7 +1,6 @@
 use mathlib.Core.Path.{◌≡◌}
 use mathlib.Core.Logic.{◌⊎◌}
-use Prim.Native.Nat.{◌+◌, ◌-◌, ◌*◌, ◌^◌, ◌≤◌, ◌<◌}
-use lib.ListN.{length}
+use Prim.Native.Nat.{◌^◌, ◌<◌}
 use Rattle.run.specs.rules.Run.{run, heard}
 use Rattle.events.specs.rules.Step.{found_for}
 use Rattle.events.proofs.SightLaws.{found_at}
