@@ -7,16 +7,9 @@ use native.Mathlib.Omega.{arith}
 use lib.ListN.{length, get_or, take, drop, length-append, length-drop}
 use Rattle.std.specs.Prelude.{Result, Ok}
 use Rattle.std.specs.Result.{result_unwrap_or}
-use Rattle.std.specs.List.{sum_by}
-use Rattle.std.specs.Slice.Iter.{chunks_exact_rest, chunks_exact_size, chunks_exact_steps}
-use Rattle.std.proofs.lemmas.Iterator.{YieldsList}
-use Rattle.std.proofs.lemmas.Iterator.Splits.{YieldsList-from_shown_while}
 use Rattle.std.proofs.lemmas.List.{take_at}
-use Rattle.std.proofs.lemmas.List.Recursion.{is_sum_by}
-use denote.Ref.{Bor}
 use Rattle.base.specs.declared.refusal.Refusal.{Refusal}
 use Rattle.share.specs.rules.Fills.{Fill, fill, words}
-use Rattle.trade.specs.rules.Trade.{traded}
 use Rattle.share.proofs.FillsLaws.{length-words}
 use Rattle.trade.proofs.WholeLaws.{fills-few, counted, words-after}
 use Rattle.auction.specs.declared.Auction.{Auction}
@@ -41,20 +34,6 @@ fills-none [] h = refl
 fills-none (_ ∷ []) h = refl
 fills-none (_ ∷ _ ∷ []) h = refl
 fills-none (_ ∷ _ ∷ _ ∷ _) h = absurd (omega arith)
-
--- three words at a time
-abbrev three : Bor (List ℕ) → Fill
-three xs = fill (get_or xs.now 0 0) (get_or xs.now 1 0) (get_or xs.now 2 0)
-
-pub threes-yield : {s : _} (ws : List ℕ) → chunks_exact_size {T = ℕ} s ≡ 3 → chunks_exact_rest s ≡ ws → YieldsList chunks_exact_steps three s (fills_in ws)
-threes-yield {s} ws e f =
-    rw (← f) (YieldsList-from_shown_while chunks_exact_steps three (λ s. fills_in (chunks_exact_rest s)) (λ s. chunks_exact_size s ≡ 3)
-    (λ s t h k. ap length (fills-none (chunks_exact_rest s) (omega (arith, h, k.1.0))))
-    (λ s x t h k. (k.0 ∙ h, fills-more (chunks_exact_rest s) x.now (chunks_exact_rest t) k.1.0 (k.1.1 ∙ h)))
-    s e)
-
-pub traded-sum : (fs : List Fill) → traded fs ≡ sum_by (λ f. f.quantity) fs
-traded-sum fs = is_sum_by traded (λ f. f.quantity) refl (λ _ _. refl) fs
 
 pub fills-few-words : (ws : List ℕ) → 3 * length (fills_in ws) ≤ length ws
 fills-few-words [] = omega arith

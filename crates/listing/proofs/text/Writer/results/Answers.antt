@@ -30,25 +30,25 @@ pub end-requires : goal.end-requires
 unfolding end_lines
 end-requires c = fits-first c.args.self.now _ _ c.requires.room
 
-pub fills-requires : goal.fills-requires
+pub fills-sum-requires : goal.fills-sum-requires
 unfolding end_lines
-fills-requires c =
-    let f = found (goal.at.fills-requires c).After-unwrap-n in
-    rw f.fills (fits-first c.end.new.self _ _ (fits-rest _ c.end.ensures c.requires.room))
-
-pub sum_of-requires : goal.sum_of-requires
-sum_of-requires c =
-    let f = found (goal.at.sum_of-requires c).After-unwrap-n in
-    omega (arith, f.few, f.long, length-take-le (3 * c.unwrap-n.result) c.write_lent.new.out (omega (arith, f.few, f.long)))
+fills-sum-requires c =
+    let f = found (goal.at.fills-sum-requires c).After-unwrap-n in
+    record {
+      few = omega (arith, f.few, f.long, length-take-le (3 * c.unwrap-n.result) c.write_lent.new.out (omega (arith, f.few, f.long)));
+      room = rw f.fills (fits-first c.end.new.self _ _ (fits-rest _ c.end.ensures c.requires.room));
+    }
 
 pub total-requires : goal.total-requires
 unfolding end_lines
 total-requires c =
     let f = found (goal.at.total-requires c).After-unwrap-n in
-    rw (c.sum_of.ensures, f.fills) (fits-rest _ (writes-same c.fills.ensures (ap fill_lines f.fills)) (fits-rest _ c.end.ensures c.requires.room))
+    let w = c.fills-sum.ensures in
+    rw (w.sum, f.fills) (fits-rest _ (writes-same w.lines (ap fill_lines f.fills)) (fits-rest _ c.end.ensures c.requires.room))
 
 pub returns : goal.returns
 unfolding end_lines
 returns c =
     let f = found (goal.at.returns c).After-unwrap-n in
-    writes-append c.end.ensures (writes-append (writes-same c.fills.ensures (ap fill_lines f.fills)) (writes-same c.total.ensures (ap total_line (c.sum_of.ensures ∙ ap traded f.fills))))
+    let w = c.fills-sum.ensures in
+    writes-append c.end.ensures (writes-append (writes-same w.lines (ap fill_lines f.fills)) (writes-same c.total.ensures (ap total_line (w.sum ∙ ap traded f.fills))))
