@@ -1,13 +1,13 @@
 -- Laws of stores in a row, and of a part of a list from a place on. Assumes nothing.
 use mathlib.Core.Path.{◌≡◌, refl, sym, ap, ◌∙◌}
-use mathlib.Core.List.{List, [], ◌∷◌, ◌++◌, append-nil}
+use mathlib.Core.List.{List, [], ◌∷◌, ◌++◌, append-nil, append_assoc}
 use Prim.Native.Nat.{ℕ, suc, ◌+◌, ◌-◌, ◌≤◌, ◌<◌}
 use native.Mathlib.Nat.{le_of_eq, add-zero, add-suc, suc-add}
 use borrow.Rule.Slice.PartMut.{put_mid}
 use native.Mathlib.Numerals.{add-one}
 use native.Mathlib.Omega.{arith}
 use lib.ListN.{length, set, get_or, take, drop, length-drop, drop_of_length-le}
-use lib.Seq.{sets, sets-eq, set_comm, take_all, take-suc, length-take-le}
+use lib.Seq.{sets, sets-eq, set_comm, take_all, take-suc, length-take-le, drop-drop}
 
 module _ {A : Type 0} where
   -- a run of stores is the one of its first part, then that of the rest: holds with room or without
@@ -43,3 +43,9 @@ module _ {A : Type 0} where
   -- what a callee that is lent `&s[at..]` sees
   pub rest-is : (s : List A) (at : ℕ) → take (length s - at) (drop at s) ≡ drop at s
   rest-is s at = take_all (length s - at) (drop at s) (omega (arith, length-drop at s))
+
+  -- after a write of just so many elements as were lent from a place on
+  pub put-over : (xs s ys : List A) (at : ℕ) → at + length s ≤ length xs → ys ≡ s → put_mid at (at + length s - at) xs ys ≡ sets xs at s
+  put-over xs s ys at h e =
+      let n : at + length s - at ≡ length s = omega arith in
+      rw (e, n) (ap (λ (l : List A). take at xs ++ (s ++ l)) (drop-drop (length s) at xs) ∙ sym (append_assoc (take at xs) s (drop (at + length s) xs)) ∙ sym (sets-eq s xs at h))

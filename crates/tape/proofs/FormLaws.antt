@@ -1,18 +1,18 @@
 -- What the tests of a form say. Assumes nothing.
-use mathlib.Core.Path.{◌≡◌, refl, sym, ap, subst, ◌∙◌}
+use mathlib.Core.Path.{◌≡◌, refl, sym, subst, ◌∙◌}
 use mathlib.Core.Bool.{Bool, true, false, cond, not, ◌&&◌, ◌||◌, or-false}
 use mathlib.Core.List.{List, [], ◌∷◌}
 use mathlib.Core.Logic.{⊎_elim}
-use Prim.Native.Nat.{ℕ, zero, suc, ◌+◌, ◌-◌, ◌<◌, ◌≤◌}
+use Prim.Native.Nat.{ℕ, zero, suc, ◌<◌, ◌≤◌}
 use native.Mathlib.Omega.{arith}
 use lib.ListN.{get_or}
-use lib.Dec.{leb, ltb, eqb}
-use borrow.Author.Tests.{le-leb, lt-ltb, leb-true, ltb-true, eqb-true}
+use lib.Dec.{leb, eqb}
+use borrow.Author.Tests.{leb-true, ltb-true, eqb-true}
 use Rattle.tape.specs.declared.order.Order.{Order}
 use Rattle.tape.specs.declared.form.Shape.{Shape}
 use Rattle.tape.specs.declared.form.Range.{Range}
 use Rattle.tape.specs.rules.Form.{all_from, within, collar_result, collar_formed, order_tests, order_formed, range, inside, unused, sides, sizes, prices, any_number, bids, offers, row, shape_of}
-use Rattle.base.proofs.Bools.{and_left, and_right, and_both, or-either, same_test}
+use Rattle.base.proofs.Bools.{and_left, and_right, or-either}
 
 all_start : (ts : List Bool) (b : Bool) → all_from b ts ≡ true → b ≡ true
 all_start [] b h = h
@@ -59,47 +59,6 @@ collar-form side displayed collar h =
     let both = and_left (within displayed 1 999999 && within collar 1 999999) (within (collar_result side displayed collar) 1 999999) p in
     with (and_left (within displayed 1 999999) (within collar 1 999999) both) (and_right (within displayed 1 999999) (within collar 1 999999) both) (and_right (within displayed 1 999999 && within collar 1 999999) (within (collar_result side displayed collar) 1 999999) p))
     (or-either (eqb displayed 0 && eqb collar 0) _ h)
-
--- the same in fewer tests: where the displayed price and the result are prices, and the collar is not 0, the collar is one
-module _ (d c : ℕ) where
-  price-if : (x : ℕ) → 1 ≤ x → x ≤ 999999 → within x 1 999999 ≡ true
-  price-if x l h = and_both (le-leb 1 x l) (le-leb x 999999 h)
-
-  -- a sell, a buy
-  sum-tests : (within d 1 999999 && within c 1 999999 && within (d + c) 1 999999) ≡ (within d 1 999999 && leb 1 c && leb (d + c) 999999)
-  sum-tests =
-      same_test _ _
-      (λ h.
-      let l = and_left (within d 1 999999 && within c 1 999999) (within (d + c) 1 999999) h in
-      and_both (and_both (and_left (within d 1 999999) (within c 1 999999) l) (le-leb 1 c (within-ge c 1 999999 (and_right (within d 1 999999) (within c 1 999999) l))))
-      (le-leb (d + c) 999999 (within-le (d + c) 1 999999 (and_right (within d 1 999999 && within c 1 999999) (within (d + c) 1 999999) h))))
-      (λ h.
-      let l = and_left (within d 1 999999 && leb 1 c) (leb (d + c) 999999) h in
-      let low : 1 ≤ c = leb-true 1 c (and_right (within d 1 999999) (leb 1 c) l) in
-      let high : d + c ≤ 999999 = leb-true (d + c) 999999 (and_right (within d 1 999999 && leb 1 c) (leb (d + c) 999999) h) in
-      and_both (and_both (and_left (within d 1 999999) (leb 1 c) l) (price-if c low (omega arith))) (price-if (d + c) (omega arith) high))
-
-  difference-tests : (within d 1 999999 && within c 1 999999 && within (d - c) 1 999999) ≡ (within d 1 999999 && leb 1 c && ltb c d)
-  difference-tests =
-      same_test _ _
-      (λ h.
-      let l = and_left (within d 1 999999 && within c 1 999999) (within (d - c) 1 999999) h in
-      let some : 1 ≤ d - c = within-ge (d - c) 1 999999 (and_right (within d 1 999999 && within c 1 999999) (within (d - c) 1 999999) h) in
-      and_both (and_both (and_left (within d 1 999999) (within c 1 999999) l) (le-leb 1 c (within-ge c 1 999999 (and_right (within d 1 999999) (within c 1 999999) l)))) (lt-ltb c d (omega arith)))
-      (λ h.
-      let l = and_left (within d 1 999999 && leb 1 c) (ltb c d) h in
-      let w : within d 1 999999 ≡ true = and_left (within d 1 999999) (leb 1 c) l in
-      let high : d ≤ 999999 = within-le d 1 999999 w in
-      let low : 1 ≤ c = leb-true 1 c (and_right (within d 1 999999) (leb 1 c) l) in
-      let below : c < d = ltb-true c d (and_right (within d 1 999999 && leb 1 c) (ltb c d) h) in
-      and_both (and_both w (price-if c low (omega arith))) (price-if (d - c) (omega arith) (omega arith)))
-
-  pub collar-tests : (side : ℕ) → collar_formed side d c ≡ ((eqb d 0 && eqb c 0) || (within d 1 999999 && leb 1 c && ((eqb side 2 && leb (d + c) 999999) || (not (eqb side 2) && ltb c d))))
-  collar-tests side = ap (λ (b : Bool). (eqb d 0 && eqb c 0) || b) (go (eqb side 2))
-    where
-      go : (t : Bool) → (within d 1 999999 && within c 1 999999 && within (cond t (d + c) (d - c)) 1 999999) ≡ (within d 1 999999 && leb 1 c && ((t && leb (d + c) 999999) || (not t && ltb c d)))
-      go true = sum-tests ∙ ap (λ (b : Bool). within d 1 999999 && leb 1 c && b) (sym (or-false (leb (d + c) 999999)))
-      go false = difference-tests
 
 displayed-le : {side displayed collar : ℕ} → CollarForm side displayed collar → displayed ≤ 999999
 displayed-le (without d c) = omega (arith, d)

@@ -7,7 +7,7 @@ use base::Refusal;
 use words::bytes::{join, read_word, write_words};
 
 // An event as it was recorded: what its fields 12, 16, 20 and 24 hold depends on its kind. The participant is the firm behind it; 0 where the record is an old one.
-#[derive(Clone, Copy)]
+#[derive(Clone, Copy, Default)]
 pub struct Event {
     pub sequence: u32,
     pub time: u32,
@@ -22,6 +22,7 @@ pub struct Event {
 }
 
 // How many bytes the record has.
+#[tactic(auto, unfolding(crate::specs::rules::Records::width_of))]
 pub fn event_bytes(wide: bool) -> usize
     ensures { (result ≡ width_of wide) × (32 ≤ result) × (result ≤ 40) }
 {
@@ -36,6 +37,7 @@ fn new_word(wide: bool, s: &[u8], at: usize) -> u32
 }
 
 // The bytes that no field has are zero.
+#[tactic(auto, unfolding(crate::specs::rules::Records::event_spare))]
 fn event_spare(wide: bool, s: &[u8]) -> bool
     requires { 32 ≤ length s.now }
     ensures { result ≡ event_spare wide s.now }
@@ -44,6 +46,7 @@ fn event_spare(wide: bool, s: &[u8]) -> bool
 }
 
 // The fields, in their places.
+#[tactic(auto, unfolding(crate::specs::rules::Records::event_of))]
 fn event_of(wide: bool, s: &[u8]) -> Event
     requires { 32 ≤ length s.now }
     ensures { result ≡ event_of wide s.now }
@@ -63,24 +66,17 @@ fn event_of(wide: bool, s: &[u8]) -> Event
 }
 
 // An event of no kind, which no auction takes.
-pub(crate) fn of_no_kind(sequence: u32) -> Event
+fn of_no_kind(sequence: u32) -> Event
     ensures { result ≡ of_no_kind sequence }
 {
     Event {
         sequence,
-        time: 0,
-        kind: 0,
-        marks: 0,
-        side: 0,
-        f12: 0,
-        f16: 0,
-        f20: 0,
-        f24: 0,
-        participant: 0,
+        ..Event::default()
     }
 }
 
 // The event that stands in the record at the start of lent bytes, in form or not.
+#[tactic(auto, unfolding(crate::specs::rules::Records::record_at))]
 pub fn record_at(wide: bool, s: &[u8]) -> Event
     ensures { result ≡ record_at wide s.now }
 {
@@ -94,6 +90,7 @@ pub fn record_at(wide: bool, s: &[u8]) -> Event
 }
 
 // The event at the start of lent bytes: `RoomTooShort`, then `EventOutOfForm`.
+#[tactic(auto, unfolding(crate::specs::rules::Records::read_event))]
 pub fn read_event(wide: bool, s: &[u8]) -> Result<Event, Refusal>
     ensures { result ≡ read_event wide s.now }
 {
@@ -109,6 +106,7 @@ pub fn read_event(wide: bool, s: &[u8]) -> Result<Event, Refusal>
 }
 
 // Whether a record can hold an event: it is in form, and an old record has no participant.
+#[tactic(auto, unfolding(crate::specs::rules::Records::event_held))]
 fn event_held(wide: bool, e: Event) -> bool
     ensures { result ≡ event_held wide e }
 {
@@ -116,6 +114,7 @@ fn event_held(wide: bool, e: Event) -> bool
 }
 
 // The event into the start of lent bytes: `EventOutOfForm`, then `RoomTooShort`; a refusal changes no byte.
+#[tactic(auto, unfolding(crate::specs::rules::Records::event_answer, crate::specs::rules::Records::event_wrote))]
 pub fn write_event(wide: bool, e: Event, out: &mut [u8]) -> Result<(), Refusal>
     ensures value { result ≡ event_answer wide e out.old }
     ensures out_after { out.new ≡ event_wrote wide e out.old }

@@ -11,7 +11,7 @@ use words::bits::mark;
 fn collar_form(side: u8, displayed: u32, collar: u32) -> bool
     ensures { result ≡ collar_formed side displayed collar }
 {
-    let sum = base::wide(displayed) + base::wide(collar);
+    let sum = u64::from(displayed) + u64::from(collar);
     ((displayed == 0) & (collar == 0))
         | (((1 <= displayed) & (displayed <= 999999))
             & (1 <= collar)
@@ -19,6 +19,7 @@ fn collar_form(side: u8, displayed: u32, collar: u32) -> bool
 }
 
 // Every field of an order is in its range: one test with no branch.
+#[tactic(auto, unfolding(crate::specs::rules::Form::order_formed, crate::specs::rules::Form::order_tests))]
 pub fn order_form(o: Order) -> bool
     ensures { result ≡ order_formed o }
 {
@@ -151,24 +152,18 @@ const AMEND: Shape = Shape {
 fn within(x: u32, r: Range) -> bool
     ensures { result ≡ inside x r }
 {
-    (r.low <= x) & (x <= r.high)
-}
-
-// A byte as a word: what a cast in the caller would have to prove.
-fn wide(x: u8) -> u32
-    ensures { result ≡ x }
-{
-    x as u32
+    (r.low..=r.high).contains(&x)
 }
 
 // An event's fields fit a row of the table.
+#[tactic(auto, unfolding(crate::specs::rules::Form::shape_tests))]
 fn fits(e: Event, s: Shape) -> bool
     ensures { result ≡ all_from true (shape_tests s e) }
 {
     (e.time <= 86400000)
-        & within(wide(e.marks), s.marks)
+        & within(u32::from(e.marks), s.marks)
         & (s.low | (!mark(e.marks, 0) & !mark(e.marks, 1)))
-        & within(wide(e.side), s.side)
+        & within(u32::from(e.side), s.side)
         & within(e.f12, s.f12)
         & within(e.f16, s.f16)
         & within(e.f20, s.f20)

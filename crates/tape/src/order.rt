@@ -29,6 +29,7 @@ pub struct Order {
 }
 
 // The bytes that no field has are zero.
+#[tactic(auto, unfolding(crate::specs::rules::Records::order_spare))]
 fn order_spare(s: &[u8]) -> bool
     requires { 64 ≤ length s.now }
     ensures { result ≡ order_spare s.now }
@@ -37,6 +38,7 @@ fn order_spare(s: &[u8]) -> bool
 }
 
 // The fields, in their places.
+#[tactic(auto, unfolding(crate::specs::rules::Records::order_of))]
 fn order_of(s: &[u8]) -> Order
     requires { 64 ≤ length s.now }
     ensures { result ≡ order_of s.now }
@@ -62,6 +64,7 @@ fn order_of(s: &[u8]) -> Order
 }
 
 // The order at the start of lent bytes: `RoomTooShort`, then `OrderOutOfForm`.
+#[tactic(auto, unfolding(crate::specs::rules::Records::read_order))]
 pub fn read_order(s: &[u8]) -> Result<Order, Refusal>
     ensures { result ≡ read_order s.now }
 {
@@ -77,6 +80,7 @@ pub fn read_order(s: &[u8]) -> Result<Order, Refusal>
 }
 
 // The order into the start of lent bytes: `OrderOutOfForm`, then `RoomTooShort`; a refusal changes no byte.
+#[tactic(auto, unfolding(crate::specs::rules::Records::order_answer, crate::specs::rules::Records::order_wrote, crate::specs::rules::Records::order_words))]
 pub fn write_order(o: Order, out: &mut [u8]) -> Result<(), Refusal>
     ensures value { result ≡ order_answer o out.old }
     ensures out_after { out.new ≡ order_wrote o out.old }

@@ -21,6 +21,7 @@ const CUBT: u32 = 1413633347;
 const CUB2: u32 = 843208003;
 
 // The trailer at the start of lent bytes: `RoomTooShort`, then `TrailerOutOfForm`.
+#[tactic(auto, unfolding(crate::specs::rules::Records::read_trailer, crate::specs::rules::Records::trailer_of))]
 pub fn read_trailer(s: &[u8]) -> Result<Trailer, Refusal>
     ensures { result ≡ read_trailer s.now }
 {
@@ -47,6 +48,7 @@ fn first_word(wide: bool) -> u32
 }
 
 // Any trailer into the start of lent bytes: `RoomTooShort` alone refuses it, and changes no byte.
+#[tactic(auto, unfolding(crate::specs::rules::Records::trailer_answer, crate::specs::rules::Records::trailer_wrote))]
 pub fn write_trailer(t: Trailer, out: &mut [u8]) -> Result<(), Refusal>
     ensures value { result ≡ trailer_answer t out.old }
     ensures out_after { out.new ≡ trailer_wrote t out.old }
@@ -63,10 +65,11 @@ pub fn write_trailer(t: Trailer, out: &mut [u8]) -> Result<(), Refusal>
 pub fn length_of(t: Trailer) -> u64
     ensures { result ≡ length_of t }
 {
-    (t.order as u64) + 64 + (t.events as u64) * (event_bytes(t.wide) as u64) + 16
+    u64::from(t.order) + 64 + u64::from(t.events) * (event_bytes(t.wide) as u64) + 16
 }
 
 // A tape's trailer, its last 16 bytes: `TapeLength`, `TrailerOutOfForm`.
+#[tactic(auto, unfolding(crate::specs::rules::Tape::last_trailer))]
 pub fn last_trailer(s: &[u8]) -> Result<Trailer, Refusal>
     ensures { result ≡ last_trailer s.now }
 {
@@ -79,6 +82,7 @@ pub fn last_trailer(s: &[u8]) -> Result<Trailer, Refusal>
 }
 
 // Where a tape's order is, how many events it has and of which form, by its last 16 bytes: `TapeLength`, `TrailerOutOfForm`, `LengthsDisagree`.
+#[tactic(auto, unfolding(crate::specs::rules::Tape::open_tape))]
 pub fn open_tape(s: &[u8]) -> Result<Trailer, Refusal>
     ensures { result ≡ open_tape s.now }
 {

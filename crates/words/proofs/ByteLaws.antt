@@ -2,25 +2,18 @@
 use mathlib.Core.Path.{◌≡◌, refl, ap, sym, ◌∙◌}
 use mathlib.Core.List.{List, [], ◌∷◌, ◌++◌, append_assoc}
 use mathlib.Core.Logic.{⊎_elim}
-use Prim.Native.Nat.{ℕ, zero, suc, ◌+◌, ◌*◌, ◌/◌, ◌%◌, ◌≤◌, ◌<◌, ◌^◌}
+use Prim.Native.Nat.{ℕ, zero, suc, ◌+◌, ◌-◌, ◌*◌, ◌/◌, ◌%◌, ◌≤◌, ◌<◌, ◌^◌}
 use native.Mathlib.Nat.{add-zero, div-add-mod', div-div-eq-div-mul}
 use borrow.Author.Tests.{le-leb, lt-leb}
 use native.Mathlib.Omega.{arith}
-use lib.ListN.{length, get_or, set, take, drop, length-append, length-take, get_or-append, get_or-eq_default}
-use lib.Seq.{sets, take-suc, drop-cons, length-take-le, get_or-append-add, get_or-take, get_or-drop}
+use borrow.Rule.Slice.PartMut.{put_mid}
+use lib.ListN.{length, get_or, take, drop, length-append, length-take, get_or-append, get_or-eq_default}
+use lib.Seq.{sets, take_all, take-suc, drop-cons, length-take-le, get_or-append-add, get_or-take, get_or-drop}
 use native.Mathlib.Numerals.{add-one}
 use Rattle.base.proofs.Numbers.{le-or-lt}
-use Rattle.base.proofs.SetsLaws.{sets-append, sets-front}
+use Rattle.base.proofs.SetsLaws.{sets-append, sets-front, put-over}
 use Rattle.words.specs.rules.Bytes.{AllBytes, joined, u32_bytes, word_bytes, word_at, with_words}
 use Rattle.words.specs.inside.Row.{words_from}
-
--- four stores in a row, as code writes their places
-pub sets4 : (s : List ℕ) (i a b c d : ℕ) → set (set (set (set s i a) (i + 1) b) (i + 2) c) (i + 3) d ≡ sets s i (a ∷ b ∷ c ∷ d ∷ [])
-sets4 s i a b c d =
-    let e1 : i + 1 ≡ suc i = omega arith in
-    let e2 : i + 2 ≡ suc (suc i) = omega arith in
-    let e3 : i + 3 ≡ suc (suc (suc i)) = omega arith in
-    rw (e1, e2, e3)
 
 -- four digits of 256 make the number, in plain variables: linear
 four : (v q1 q2 q3 r0 r1 r2 : ℕ) → q1 * 256 + r0 ≡ v → q2 * 256 + r1 ≡ q1 → q3 * 256 + r2 ≡ q2 → r0 + r1 * 256 + r2 * 65536 + q3 * 16777216 ≡ v
@@ -62,15 +55,19 @@ word_bytes-append [] ys = refl
 word_bytes-append (x ∷ xs) ys = ap (λ (l : List ℕ). u32_bytes x ++ l) (word_bytes-append xs ys)
 
 -- one word more
-pub word_more : (s ws : List ℕ) (at i : ℕ) → i < length ws → sets (sets s at (word_bytes (take i ws))) (at + i * 4) (u32_bytes (get_or ws i 0)) ≡ sets s at (word_bytes (take (i + 1) ws))
-word_more s ws at i h =
-    let e : take (i + 1) ws ≡ take i ws ++ (get_or ws i 0 ∷ []) = rw (add-one, take-suc ws i 0) in
+pub word_more : (s xs ws : List ℕ) (at i : ℕ) {word : List ℕ} → xs ≡ sets s at (word_bytes (take i ws)) → i < length ws → at + length ws * 4 ≤ length xs → word ≡ u32_bytes (get_or ws i 0)
+    → put_mid (at + i * 4) (at + i * 4 + 4 - (at + i * 4)) xs word ≡ sets s at (word_bytes (take (i + 1) ws))
+word_more s xs ws at i before h room e =
+    let v = u32_bytes (get_or ws i 0) in
+    let more : take (i + 1) ws ≡ take i ws ++ (get_or ws i 0 ∷ []) = rw (add-one, take-suc ws i 0) in
     let n : length (word_bytes (take i ws)) ≡ i * 4 = omega (arith, length-word_bytes (take i ws), length-take-le i ws (omega arith)) in
-    sym
-    (ap (λ (l : List ℕ). sets s at (word_bytes l)) e
+    put-over xs v _ (at + i * 4) (omega arith) e
+    ∙ ap (λ (ys : List ℕ). sets ys (at + i * 4) v) before
+    ∙ sym
+    (ap (λ (l : List ℕ). sets s at (word_bytes l)) more
     ∙ ap (λ (l : List ℕ). sets s at l) (word_bytes-append (take i ws) (get_or ws i 0 ∷ []))
-    ∙ sets-append s at (word_bytes (take i ws)) (u32_bytes (get_or ws i 0))
-    ∙ ap (λ (k : ℕ). sets (sets s at (word_bytes (take i ws))) (at + k) (u32_bytes (get_or ws i 0))) n)
+    ∙ sets-append s at (word_bytes (take i ws)) v
+    ∙ ap (λ (k : ℕ). sets (sets s at (word_bytes (take i ws))) (at + k) v) n)
 
 -- ---- one word
 
@@ -93,6 +90,14 @@ row_in s at ws h = simp (le-leb (at + length ws * 4) (length s) h)
 pub row_out : (s : List ℕ) (at : ℕ) (ws : List ℕ) → length s < at + length ws * 4 → with_words s at ws ≡ s
 unfolding with_words
 row_out s at ws h = simp (lt-leb (at + length ws * 4) (length s) h)
+
+-- a row that there is room for was written, or there is nothing to write
+pub row_wrote : (s : List ℕ) (at i : ℕ) (ws : List ℕ) → length ws ≤ i → length ws ≤ (length s - at) / 4 → sets s at (word_bytes (take i ws)) ≡ with_words s at ws
+row_wrote s at i [] l h =
+    ap (λ (ws : List ℕ). sets s at (word_bytes ws)) (take_all i [] l)
+    ∙ ⊎_elim (λ k. sym (row_in s at [] k)) (λ k. sym (row_out s at [] k)) (le-or-lt (at + 0 * 4) (length s))
+row_wrote s at i (w ∷ ws) l h =
+    ap (λ (vs : List ℕ). sets s at (word_bytes vs)) (take_all i (w ∷ ws) l) ∙ sym (row_in s at (w ∷ ws) (omega arith))
 
 -- what stands after k elements, counted from there
 past : (xs l : List ℕ) (k i : ℕ) → length xs ≡ k → get_or (xs ++ l) (k + i) 0 ≡ get_or l i 0

@@ -1,13 +1,16 @@
-use mathlib.Core.Path.{sym, ◌∙◌}
-use native.Mathlib.Omega.{arith}
-use Rattle.words.proofs.ByteLaws.{row_in, row_out}
+use Rattle.std.proofs.Common.{arith, sym, ◌∙◌}
+use Rattle.words.proofs.ByteLaws.{word_more, row_out, row_wrote}
 use Rattle.words.proofs.bytes.write_words.Goals as goal
 
-pub returns-then-n-at : goal.returns-then-n-at
-returns-then-n-at c = sym (row_out c.args.out.now c.args.at c.args.ws.now (omega arith))
+pub returns-then-saturating_sub-ws : goal.returns-then-saturating_sub-ws
+returns-then-saturating_sub-ws c = sym (row_out _ _ _ (omega arith))
 
-pub returns-then-n-at-2 : goal.returns-then-n-at-2
-returns-then-n-at-2 c = sym (row_out c.args.out.now c.args.at c.args.ws.now (omega arith))
+pub loop-i-preserved : goal.loop-i-preserved
+loop-i-preserved c =
+    let a = c.args in
+    word_more a.out.now c.loop-i.out a.ws.now a.at c.loop-i.i c.loop-i.invariant (omega arith) (omega arith) (rw c.copy_from_slice.ensures.after c.to_le_bytes-word.ensures)
 
 pub returns : goal.returns
-returns c = c.put_words.ensures ∙ sym (row_in c.args.out.now c.args.at c.args.ws.now (omega arith))
+returns c =
+    let a = c.args in
+    c.loop-i.invariant ∙ row_wrote a.out.now a.at c.loop-i.i a.ws.now (omega arith) (omega arith)
