@@ -52,8 +52,9 @@ pub fn less(x: u32, y: u32) -> u32
 }
 
 // A price as the other side has it.
+#[tactic(auto, unfolding(crate::specs::Price::mirrored))]
 pub fn mirror(p: u32) -> u32
     ensures { result ≡ mirrored p }
 {
-    if p < 1000000 { 1000000 - p } else { 0 }
+    1000000u32.saturating_sub(p)
 }

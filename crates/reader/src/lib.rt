@@ -1,4 +1,4 @@
-// A tape that is held: the lent bytes with the trailer, which has the order's offset, and the place of an event. Each function over it is thin, over code on plain slices.
+// A tape that is held: the lent bytes with the trailer, which has the order's offset, and the place of an event. The functions with plain parameters are thin, over those of a held tape.
 
 #![tactic(auto)]
 
@@ -15,29 +15,6 @@ pub struct Tape<'a> {
     pub bytes: &'a [u8],
     pub trailer: Trailer,
     pub place: usize,
-}
-
-// ---- the work, on plain slices and numbers
-
-// What stands at a place of lent bytes: an event, in form or not; none from the end of the events on.
-fn current_at(s: &[u8], t: Trailer, place: usize) -> Option<Event>
-    ensures { result ≡ current_of s.now t place }
-{
-    if t.events as usize <= place {
-        return None;
-    }
-    Some(tape::record_in(s, t, place))
-}
-
-// The place after one; the end is the last.
-fn next_place(t: Trailer, place: usize) -> usize
-    ensures { result ≡ next_place t place }
-{
-    if place < t.events as usize {
-        place + 1
-    } else {
-        place
-    }
 }
 
 // ---- over a tape that is held
@@ -60,22 +37,30 @@ pub fn held_order<'a>(t: Tape<'a>) -> Result<Order, Refusal>
     tape::order_in(t.bytes, t.trailer)
 }
 
-// The event at the place; none at the end.
+// The event at the place, in form or not, or `None` at the end.
+#[tactic(auto, unfolding(crate::specs::rules::Reader::current_of))]
 pub fn current_event<'a>(t: Tape<'a>) -> Option<Event>
     ensures { result ≡ current_of t.entry.bytes.now t.entry.trailer t.entry.place }
 {
-    current_at(t.bytes, t.trailer, t.place)
+    if t.place < t.trailer.events as usize {
+        Some(tape::record_in(t.bytes, t.trailer, t.place))
+    } else {
+        None
+    }
 }
 
-// The tape at the next place.
+// The tape at the next place; the end is the last.
+#[tactic(auto, unfolding(crate::specs::rules::Reader::next_place))]
 pub fn next<'a>(t: Tape<'a>) -> Tape<'a>
     ensures { result ≡ next_of t.entry }
 {
-    let place = next_place(t.trailer, t.place);
-    Tape {
-        bytes: t.bytes,
-        trailer: t.trailer,
-        place,
+    if t.place < t.trailer.events as usize {
+        Tape {
+            place: t.place + 1,
+            ..t
+        }
+    } else {
+        t
     }
 }
 
@@ -88,14 +73,14 @@ pub fn tape_order(bytes: &[u8], t: Trailer) -> Result<Order, Refusal>
     held_order(hold(bytes, t, 0))
 }
 
-// The event at a place of lent bytes, by their trailer; none from the end on.
+// The event at a place of lent bytes, by their trailer; `None` from the end on.
 pub fn tape_event(bytes: &[u8], t: Trailer, place: usize) -> Option<Event>
     ensures { result ≡ current_of bytes.now t place }
 {
     current_event(hold(bytes, t, place))
 }
 
-// The event after a place; none from the end on.
+// The event after a place; `None` from the end on.
 pub fn tape_next(bytes: &[u8], t: Trailer, place: usize) -> Option<Event>
     ensures { result ≡ current_of bytes.now t (next_place t place) }
 {

@@ -44,7 +44,7 @@ module _ (long : ℕ) where
       ∙ ap (λ (x : List (List ℕ)). r ∷ x) (parts-together rs l e.1)
 
   -- and what was taken apart is put together again
-  together-parts : (s : List ℕ) (n : ℕ) → together (parts long s n) ++ drop (n * long) s ≡ s
+  pub together-parts : (s : List ℕ) (n : ℕ) → together (parts long s n) ++ drop (n * long) s ≡ s
   together-parts s zero = ap (λ (k : ℕ). drop k s) (zero-mul long)
   together-parts s (suc n) =
       let k : suc n * long ≡ long + n * long = omega (arith, suc-mul n long) in

@@ -13,7 +13,7 @@ pub fn test(w: u64, i: usize) -> bool
 pub fn mark(marks: u8, i: usize) -> bool
     ensures { result ≡ bit_at marks i }
 {
-    test(marks as u64, i)
+    test(u64::from(marks), i)
 }
 
 // The word with bit i set.

@@ -1,5 +1,5 @@
-use mathlib.Core.Path.{refl}
-use Rattle.moving.proofs.CodeLaws.{put-over}
+use Rattle.std.proofs.Common.{refl}
+use Rattle.base.proofs.SetsLaws.{put-over}
 use Rattle.moving.proofs.put_bytes.Goals as goal
 
 pub returns : goal.returns

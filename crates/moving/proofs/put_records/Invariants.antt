@@ -1,15 +1,5 @@
-use mathlib.Core.Path.{◌≡◌}
-use Prim.Native.Nat.{◌+◌, ◌*◌, ◌-◌, ◌≤◌}
-use lib.ListN.{length}
-use Rattle.words.specs.inside.Writing.{LeftBytes}
-use Rattle.tape.specs.rules.Records.{width_of}
-use Rattle.moving.proofs.CodeLaws.{rest}
+use Rattle.moving.proofs.CodeLaws.{Moving}
 use Rattle.moving.proofs.put_records.Given as goal
 
--- the invariant: to write the records still to come comes to the same as to write all
-abbrev pub invariant-loop-k : goal.invariant-loop-k
-invariant-loop-k l =
-    (l.k ≤ l.n) × (l.at + (l.n - l.k) * l.width ≤ length l.s) × (l.w + (l.n - l.k) * width_of l.wide ≤ length l.out) × (length l.out ≡ length l.initial.out) × LeftBytes l.initial.out l.start (rest l.wide l.s l.width l.initial.at l.n) l.out l.w (rest l.wide l.s l.width l.at (l.n - l.k))
-
-abbrev pub decreases-loop-k : goal.decreases-loop-k
-decreases-loop-k l = l.n - l.k
+abbrev pub invariant-loop-r : goal.invariant-loop-r
+invariant-loop-r l = Moving l.wide l.whole.bytes.now l.whole.trailer l.r-iterator l.initial.out l.start l.out l.w

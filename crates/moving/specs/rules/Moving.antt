@@ -1,5 +1,6 @@
 -- A tape moved from one form to the other (W-206 of document 02). `wide` is the form that is wanted: true for the new one.
-use Rattle.std.specs.Prelude.{Bool, true, cond, not, ◌&&◌, ◌||◌, List, [], ◌∷◌, ◌++◌, map, ℕ, ltb, eqb, length, take, drop, Result, Ok, Err}
+use Rattle.std.specs.Prelude.{Bool, cond, not, ◌&&◌, ◌||◌, List, [], ◌∷◌, ◌++◌, map, ℕ, ltb, eqb, length, take, drop, Result, Ok, Err}
+use Rattle.std.specs.List.{list_all}
 use Rattle.base.specs.declared.refusal.Refusal.{Refusal}
 use Rattle.base.specs.declared.refusal.Refusal.TheVariants.{TrailerOutOfForm, LengthsDisagree, RoomTooShort, FirmLost, MovedTooLong}
 use Rattle.words.specs.rules.Bytes.{word_bytes, word_at}
@@ -37,8 +38,7 @@ is_bare r = eqb (word_at r 32) 0 && eqb (word_at r 36) 0
 
 -- those of every event
 unfoldable pub all_bare : List (List ℕ) → Bool
-all_bare [] = true
-all_bare (r ∷ rs) = is_bare r && all_bare rs
+all_bare rs = list_all is_bare rs
 
 -- after the trailer's refusals (21, 22): 22 for a tape that has the wanted form already; 23, lengths that don't add up; 25, moving back, an event that isn't bare; 26, too long a tape; 24, too short a room
 unfoldable pub move_opened : Bool → List ℕ → Trailer → List ℕ → Result ℕ Refusal

@@ -1,4 +1,0 @@
-use Rattle.moving.proofs.is_bare.Goals as goal
-
-pub returns : goal.returns
-returns c = cc
