@@ -112,11 +112,7 @@ fn put_events(
     while k < n {
         let e = tape::record_in(tape, t, k);
         // A cancel or an amend names a response. It is looked for on the board itself, four places at a time, and a gap is skipped at once. `rest` is the word of live places from place i on.
-        let nobody = board::response_at(*b, 64);
-        let mut named = Found {
-            place: 64,
-            response: nobody,
-        };
+        let mut named = None;
         let mut rest = sought(turns::names(e), b.live);
         let mut i = 0;
         let mut slow = 0;
@@ -149,10 +145,10 @@ fn put_events(
             let r = b.places[j];
             rest = 0;
             if bits::test(b.live, j) & board::is_named(r, e.f12, false) {
-                named = Found {
+                named = Some(Found {
                     place: j,
                     response: r,
-                };
+                });
                 continue;
             }
             // A freed place still has this sequence: the live places are looked at one by one.
@@ -162,10 +158,10 @@ fn put_events(
             let j = bits::first_set(slow) as usize;
             let r = b.places[j];
             if board::is_named(r, e.f12, false) {
-                named = Found {
+                named = Some(Found {
                     place: j,
                     response: r,
-                };
+                });
                 slow = 0;
                 continue;
             }

@@ -4,7 +4,7 @@ use Prim.Native.Nat.{◌+◌, ◌-◌, ◌*◌, ◌^◌, ◌≤◌, ◌<◌}
 use lib.ListN.{length}
 use Rattle.run.specs.rules.Run.{run, heard}
 use Rattle.events.specs.rules.Step.{found_for}
-use Rattle.events.proofs.SightLaws.{found_at}
+use Rattle.board.specs.rules.Board.{found_at}
 use Rattle.board.specs.promises.Board.{Good}
 use Rattle.listing.specs.rules.Listing.{event_lines}
 use Rattle.words.specs.inside.Writing.{LeftBytes}

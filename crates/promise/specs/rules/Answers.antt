@@ -3,7 +3,6 @@ use Rattle.std.specs.Prelude.{Bool, true, false, ℕ, Result, Ok, Err}
 use Prim.Native.String.{String}
 use Rattle.base.specs.Refusal.{number_of}
 use Rattle.base.specs.declared.refusal.Refusal.{Refusal}
-use Rattle.tape.specs.declared.order.Order.{Order}
 use Rattle.auction.specs.declared.Ending.{Ending}
 use Rattle.auction.specs.declared.Ending.TheVariants.{Open, Time, Same, Opposite, Improve}
 use Rattle.events.specs.declared.Answer.{Answer}
