@@ -8,13 +8,11 @@ ghost use Rattle.auction.specs.rules.Firm.{participant_of};
 use crate::Auction;
 
 // Which participant stands behind the live response with this sequence; after the ending, which stood.
+#[tactic(auto, unfolding(crate::specs::rules::Firm::participant_of))]
 pub fn participant_of(a: Auction, sequence: u32) -> Option<u32>
     ensures { result ≡ participant_of a sequence }
 {
-    let named = board::find(a.board, sequence, true);
-    if named.place < 64 {
-        let r = named.response;
-        return Some(r.participant);
-    }
-    None
+    let named = board::find(a.board, sequence, true)?;
+    let r = named.response;
+    Some(r.participant)
 }

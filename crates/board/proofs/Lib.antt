@@ -1,5 +1,6 @@
 -- Laws, theorems and worked examples of `board`.
 pub mod LiveLaws
+pub mod PlaceLaws
 pub mod FindLaws
 pub mod SequenceLaws
 pub mod FirstLaws

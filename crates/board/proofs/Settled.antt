@@ -13,6 +13,9 @@ is_live κs a = (tt, λ y z v w p q. (p ∙ sym q, refl))
 pub live-count : Settled stated.live_count.ended contracts.live_count.Reads.Asked contracts.live_count.Reads.Learnt
 live-count κs a = (tt, λ y z v w p q. (p ∙ sym q, refl))
 
+pub free-in : Settled stated.free_in.ended contracts.free_in.Reads.Asked contracts.free_in.Reads.Learnt
+free-in κs a = (tt, λ y z v w p q. (p ∙ sym q, refl))
+
 pub first-free : Settled stated.first_free.ended contracts.first_free.Reads.Asked contracts.first_free.Reads.Learnt
 first-free κs a = (tt, λ y z v w p q. (p ∙ sym q, refl))
 

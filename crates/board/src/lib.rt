@@ -3,7 +3,8 @@
 #![tactic(auto)]
 
 ghost use Rattle.std.specs.Prelude.{◌≡◌};
-ghost use Rattle.board.specs.rules.Board.{no_response, response_at, empty_board, is_live, live_count, first_free, seated_at, cleared, is_named, found};
+ghost use Rattle.board.specs.rules.Board.{no_response, response_at, empty_board, is_live, live_count, first_free, place_at, seated_at, cleared, is_named, found};
+ghost use Rattle.words.specs.rules.Bits.{clear_in};
 
 use words::bits;
 
@@ -25,7 +26,7 @@ pub struct Board {
     pub live: u64,
 }
 
-// A response that was looked for: its place, and 64 where there is none; what stands there.
+// A response that was looked for and found: its place, and what stands there.
 #[derive(Clone, Copy)]
 pub struct Found {
     pub place: usize,
@@ -68,11 +69,22 @@ pub fn live_count(b: Board) -> u32
     bits::ones(b.live)
 }
 
-// The lowest free place, and 64 where none is free.
-pub fn first_free(b: Board) -> u32
-    ensures { result ≡ first_free b }
+// The lowest place that a word of live places leaves free.
+pub fn free_in(live: u64) -> Option<usize>
+    ensures { result ≡ place_at (clear_in 64 live) }
 {
-    bits::first_clear(b.live)
+    let i = bits::first_clear(live) as usize;
+    if i == 64 {
+        return None;
+    }
+    Some(i)
+}
+
+// The lowest free place.
+pub fn first_free(b: Board) -> Option<usize>
+    ensures { result ≡ place_at (first_free b) }
+{
+    free_in(b.live)
 }
 
 // A response at a place, live. Where there is no such place the board stays.
@@ -105,7 +117,7 @@ pub fn is_named(r: Response, sequence: u32, any: bool) -> bool
 }
 
 // The live response with this sequence: any, or a GTX response alone.
-pub fn find(b: Board, sequence: u32, any: bool) -> Found
+pub fn find(b: Board, sequence: u32, any: bool) -> Option<Found>
     ensures { result ≡ found any b sequence }
 {
     let mut rest = b.live;
@@ -113,17 +125,14 @@ pub fn find(b: Board, sequence: u32, any: bool) -> Found
         let i = bits::first_set(rest) as usize;
         let r = b.places[i];
         if is_named(r, sequence, any) {
-            return Found {
+            return Some(Found {
                 place: i,
                 response: r,
-            };
+            });
         }
         rest = bits::without_lowest(rest);
     }
-    Found {
-        place: 64,
-        response: no_response(),
-    }
+    None
 }
 
 // What stands at place i; past the last place, what stands where no response was ever placed.

@@ -8,16 +8,15 @@ ghost use Rattle.auction.specs.rules.Range.{bound_by};
 
 use auction::{Ending, Market, Quotes, Terms, bound_by};
 use base::{Refusal, higher, lower, wide};
-use board::Response;
+use board::{Found, Response};
 use tape::{Event, Kind};
 use words::bits::mark;
 
-// What the board tells of an event: the place that a response would take (64: none), the place of the GTX that is named (64: none), and what stands there.
+// What the board tells of an event: the place that a response would take, and the GTX that is named.
 #[derive(Clone, Copy)]
 pub struct Sight {
-    pub at: usize,
-    pub found: usize,
-    pub old: Response,
+    pub free: Option<usize>,
+    pub named: Option<Found>,
 }
 
 // What an event changes besides the sequence, the clock and the ending: a response takes a place, a place is freed, the quotes or the market order are new. The last number of `Seat` and of `Free` is the size of the live response that is gone from the place; 0 where none is.
@@ -78,7 +77,8 @@ fn seat(
 fn place(s: Sight, r: Response, ending: Ending) -> Result<Deed, Refusal>
     ensures { result ≡ places s r ending }
 {
-    seat(s.at, r, 0, ending, Refusal::BoardFull)
+    let free = s.free.ok_or(Refusal::BoardFull)?;
+    seat(free, r, 0, ending, Refusal::BoardFull)
 }
 
 #[tactic(auto, unfolding(crate::specs::rules::Decide::gtx_outcome))]
@@ -98,9 +98,10 @@ fn gtx(t: Terms, s: Sight, e: Event) -> Result<Deed, Refusal>
 fn cancel(s: Sight) -> Result<Deed, Refusal>
     ensures { result ≡ cancel_outcome s }
 {
-    let found = s.found;
-    if found < 64 {
-        return does(Change::Free(found, s.old.size), Ending::Open);
+    let named = s.named.ok_or(Refusal::NoSuchResponse)?;
+    let old = named.response;
+    if named.place < 64 {
+        return does(Change::Free(named.place, old.size), Ending::Open);
     }
     Err(Refusal::NoSuchResponse)
 }
@@ -126,9 +127,11 @@ fn amend(t: Terms, s: Sight, e: Event) -> Result<Deed, Refusal>
     if t.initiating < e.f20 {
         return Err(Refusal::AboveInitiating);
     }
-    let r = amended(t, s.old, e);
     let none = Refusal::NoSuchResponse;
-    seat(s.found, r, s.old.size, Ending::Open, none)
+    let named = s.named.ok_or(none)?;
+    let old = named.response;
+    let r = amended(t, old, e);
+    seat(named.place, r, old.size, Ending::Open, none)
 }
 
 // One of two prices: the exchange's for a non-routable order, the nation's else.

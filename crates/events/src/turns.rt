@@ -1,6 +1,7 @@
 // One turn: what an event does to an auction's head, and what becomes of the board. No board is copied.
 ghost use Rattle.std.specs.Prelude.{◌≡◌, cond, ◌||◌, Ok};
 ghost use Rattle.words.specs.rules.Bits.{clear_in};
+ghost use Rattle.board.specs.rules.Board.{place_at};
 ghost use Rattle.auction.specs.rules.Range.{is_open};
 ghost use Rattle.decision.specs.rules.Decide.{is_cancel, is_amend};
 ghost use Rattle.events.specs.rules.Step.{sight_of, event_refusal, quotes_after, market_after, offered_after, stays, ended_by_time, head_after, carried, settled, turn_of, close_turn};
@@ -8,7 +9,7 @@ ghost use Rattle.events.specs.rules.Step.{sight_of, event_refusal, quotes_after,
 use crate::{Answer, Turn};
 use auction::{Ending, Head, Market, Quotes, is_open, moved_offer};
 use base::Refusal;
-use board::{Board, Found};
+use board::{Board, Found, free_in};
 use decision::{Change, Deed, Sight, decide};
 use mirror::buy_event;
 use tape::{Event, Kind};
@@ -21,13 +22,11 @@ pub fn names(e: Event) -> bool
 }
 
 // What the word of live places tells of an event, and the response that it names, as it was found.
-pub fn sight_of(live: u64, named: Found) -> Sight
-    ensures { result ≡ record { at = clear_in 64 live; found = named.place; old = named.response } }
+pub fn sight_of(live: u64, named: Option<Found>) -> Sight
+    ensures { result ≡ record { free = place_at (clear_in 64 live); named = named } }
 {
-    let at = words::bits::first_clear(live) as usize;
-    let found = named.place;
-    let old = named.response;
-    Sight { at, found, old }
+    let free = free_in(live);
+    Sight { free, named }
 }
 
 // What the board tells of an event: it is looked over for a cancel and an amend alone.
@@ -38,14 +37,7 @@ pub fn sight(b: Board, e: Event) -> Sight
     if names(e) {
         return sight_of(b.live, board::find(b, e.f12, false));
     }
-    let response = board::response_at(b, 64);
-    sight_of(
-        b.live,
-        Found {
-            place: 64,
-            response,
-        },
-    )
+    sight_of(b.live, None)
 }
 
 // The refusals that every kind of event has, in their order.

@@ -11,7 +11,7 @@ use crate::wrong::Wrong;
 use auction::Auction;
 use base::Refusal;
 use events::Stepped;
-use tape::{Event, Trailer};
+use tape::{Event, Kind, Trailer};
 
 // One event by the form that is its turn: a cancel that its numbers tell whole, else by the place.
 #[tactic(auto, unfolding(steps::specs::rules::Lent::cancel_event))]
@@ -20,7 +20,7 @@ fn played(auction: Auction, event: Event, place: usize) -> Stepped
 {
     match event {
         Event {
-            kind: 2,
+            kind,
             marks: 0,
             side: 0,
             f16: 0,
@@ -30,7 +30,7 @@ fn played(auction: Auction, event: Event, place: usize) -> Stepped
             sequence,
             time,
             f12: named,
-        } => cancelled(auction, sequence, time, named),
+        } if kind == Kind::Cancel as u8 => cancelled(auction, sequence, time, named),
         _ if place % 2 == 0 => steps::step(auction, event),
         _ => applied(auction, event),
     }

@@ -1,5 +1,5 @@
 -- Laws of the search for the response that an event names: four places at a time, and, where a freed place has its sequence too, one at a time.
-use mathlib.Core.Path.{◌≡◌, refl, sym, ap, ◌∙◌}
+use mathlib.Core.Path.{◌≡◌, refl, sym, ap, subst, ◌∙◌}
 use mathlib.Core.Bool.{Bool, true, false, cond, not, ◌||◌, ◌&&◌, true≢false}
 use mathlib.Core.Logic.{◌⊎◌, ⊎_elim}
 use Prim.Native.Nat.{ℕ, zero, suc, ◌+◌, ◌-◌, ◌*◌, ◌/◌, ◌%◌, ◌^◌, ◌≤◌, ◌<◌}
@@ -8,6 +8,7 @@ use native.Mathlib.Omega.{arith}
 use borrow.Author.Tests.{eqb-true, ne_eqb}
 use lib.Dec.{eqb}
 use lib.Pow.{pow-lt, pow_mono, pow_pos, shr_le, shr-shr, split}
+use Rattle.std.specs.Prelude.{Option, Some}
 use Rattle.base.proofs.Bools.{bool-or, and_left, and_right, and-no-left, and-no-right, no}
 use Rattle.base.proofs.Numbers.{le-or-lt, eq-or}
 use Rattle.words.specs.rules.Bits.{bit_at, without_bit, count_trailing_zeros}
@@ -15,19 +16,19 @@ use Rattle.words.proofs.BitLaws.{LowestBit, no-bit, set-least}
 use Rattle.board.specs.declared.Board.{Board}
 use Rattle.board.specs.declared.Found.{Found}
 use Rattle.board.specs.promises.Board.{Good}
-use Rattle.board.specs.rules.Board.{no_response, response_at, find_in, is_gtx}
+use Rattle.board.specs.rules.Board.{no_response, response_at, find_in, is_gtx, found_at}
+use Rattle.board.proofs.PlaceLaws.{found-some}
 use Rattle.board.proofs.FindLaws.{hit, find-le, find-is, find-unique, find-low, find-rest, find_none}
 use Rattle.tape.specs.declared.event.Event.{Event}
 use Rattle.decision.specs.rules.Decide.{is_cancel, is_amend}
 use Rattle.events.specs.rules.Step.{found_for}
-use Rattle.events.proofs.SightLaws.{found_at}
 
 -- the response that is looked for among the places of a word
-abbrev pub among : Board → ℕ → ℕ → Found
+abbrev pub among : Board → ℕ → ℕ → Option Found
 among b s w = found_at b (find_in (is_gtx s) w b.places)
 
 -- what is found so far, and where the places still to come have a response with this sequence, that one
-abbrev pub looked : Board → ℕ → Found → ℕ → Found
+abbrev pub looked : Board → ℕ → Option Found → ℕ → Option Found
 looked b s named w = cond (eqb (find_in (is_gtx s) w b.places) 64) named (among b s w)
 
 -- the word has place j, and the response with this sequence stands there
@@ -38,7 +39,7 @@ abbrev pub has_sequence : Board → ℕ → ℕ → Bool
 has_sequence b s j = eqb (response_at b.places j).sequence s
 
 -- it stands at no place before i, and `rest` is the word from there on
-pub record Seeks (b : Board) (s w : ℕ) (named : Found) (rest i slow : ℕ) : Type 0 where
+pub record Seeks (b : Board) (s w : ℕ) (named : Option Found) (rest i slow : ℕ) : Type 0 where
   pub nobody : named ≡ found_at b 64
   pub quick : slow ≡ 0
   pub rest-is : rest ≡ w / 2 ^ i
@@ -46,7 +47,7 @@ pub record Seeks (b : Board) (s w : ℕ) (named : Found) (rest i slow : ℕ) : T
   pub none : (j : ℕ) → j < i → is_at b s w j ≡ false
 
 -- no four places are left: it is found, or to be looked for among those of `slow`
-pub record Sought (b : Board) (s w : ℕ) (named : Found) (rest slow : ℕ) : Type 0 where
+pub record Sought (b : Board) (s w : ℕ) (named : Option Found) (rest slow : ℕ) : Type 0 where
   pub over : rest ≡ 0
   pub fits : slow < 2 ^ 64
   pub left : looked b s named slow ≡ among b s w
@@ -130,7 +131,7 @@ module _ (b : Board) (s w : ℕ) where
 
 -- ---- four places at a time
 
-module _ (b : Board) (s w : ℕ) (named : Found) where
+module _ (b : Board) (s w : ℕ) (named : Option Found) where
   pub look-start : named ≡ found_at b 64 → Seeks b s w named w 0 0
   look-start e = record { nobody = e; quick = refl; rest-is = sym (div-one w); fours = refl; none = λ j h. absurd (omega (arith, h)) }
 
@@ -181,14 +182,14 @@ module _ (b : Board) (g : Good b) (s : ℕ) where
       (bool-or (eqb i 64))
 
   -- no place is left
-  pub look-end : (named : Found) → looked b s named 0 ≡ named
+  pub look-end : (named : Option Found) → looked b s named 0 ≡ named
   look-end named = ap (λ (i : ℕ). cond (eqb i 64) named (found_at b i)) nowhere
 
-  module _ (w : ℕ) (named : Found) (rest i slow : ℕ) (S : Seeks b s w named rest i slow) where
+  module _ (w : ℕ) (named : Option Found) (rest i slow : ℕ) (S : Seeks b s w named rest i slow) where
     -- one of the four has it
-    pub look_hit : (k : ℕ) → k ≡ cond (has_sequence b s i) 0 (cond (has_sequence b s (i + 1)) 1 (cond (has_sequence b s (i + 2)) 2 3)) → i + k < 64 → is_at b s w (i + k) ≡ true → Sought b s w (found_at b (i + k)) 0 slow
+    pub look_hit : (k : ℕ) → k ≡ cond (has_sequence b s i) 0 (cond (has_sequence b s (i + 1)) 1 (cond (has_sequence b s (i + 2)) 2 3)) → i + k < 64 → is_at b s w (i + k) ≡ true → Sought b s w (Some (record { place = i + k; response = response_at b.places (i + k) })) 0 slow
     look_hit k e h t =
-        record {
+        subst (λ (n : Option Found). Sought b s w n 0 slow) (found-some b (i + k) h) record {
           over = refl;
           fits = omega (arith, S.quick, pow_pos 64);
           left =
@@ -200,7 +201,7 @@ module _ (b : Board) (g : Good b) (s : ℕ) where
     -- a freed place has the sequence: all places are looked at
     pub look-slow : w < 2 ^ 64 → Sought b s w named 0 w
     look-slow f =
-        record { over = refl; fits = f; left = ap (λ (n : Found). looked b s n w) S.nobody ∙ at_place (find_in (is_gtx s) w b.places) }
+        record { over = refl; fits = f; left = ap (λ (n : Option Found). looked b s n w) S.nobody ∙ at_place (find_in (is_gtx s) w b.places) }
 
     -- all fours are passed
     pub look_none : rest ≡ 0 → (slow < 2 ^ 64) × (looked b s named slow ≡ among b s w)
@@ -220,20 +221,21 @@ module _ (b : Board) (g : Good b) (s : ℕ) where
             (le-or-lt 64 (find_in (is_gtx s) w b.places))
 
   -- either way
-  pub look-over : (w : ℕ) (named : Found) (rest i slow : ℕ) → Seeks b s w named rest i slow ⊎ Sought b s w named rest slow → rest ≡ 0 → (slow < 2 ^ 64) × (looked b s named slow ≡ among b s w)
+  pub look-over : (w : ℕ) (named : Option Found) (rest i slow : ℕ) → Seeks b s w named rest i slow ⊎ Sought b s w named rest slow → rest ≡ 0 → (slow < 2 ^ 64) × (looked b s named slow ≡ among b s w)
   look-over w named rest i slow x z = ⊎_elim (λ S. look_none w named rest i slow S z) (λ D. (D.fits, D.left)) x
 
   -- ---- one place at a time
 
   -- the lowest place has it
-  pub look-found : (named : Found) (w i : ℕ) → LowestBit w i → is_gtx s (response_at b.places i) ≡ true → looked b s (found_at b i) 0 ≡ looked b s named w
+  pub look-found : (named : Option Found) (w i : ℕ) → LowestBit w i → is_gtx s (response_at b.places i) ≡ true → looked b s (Some (record { place = i; response = response_at b.places i })) 0 ≡ looked b s named w
   look-found named w i low t =
-      look-end (found_at b i)
+      look-end (Some (record { place = i; response = response_at b.places i }))
+      ∙ sym (found-some b i low.place)
       ∙ sym (ap (λ (j : ℕ). cond (eqb j 64) named (found_at b j)) (find-low (is_gtx s) w b.places no_response i (omega (arith, low.place, g.places-are)) low t)
       ∙ ap (λ (x : Bool). cond x named (found_at b i)) (ne_eqb i 64 (λ z. omega (arith, low.place))))
 
 -- and has it not
-pub look-next : (b : Board) (s : ℕ) (named : Found) (w i : ℕ) → is_gtx s (response_at b.places i) ≡ false → looked b s named (without_bit w i) ≡ looked b s named w
+pub look-next : (b : Board) (s : ℕ) (named : Option Found) (w i : ℕ) → is_gtx s (response_at b.places i) ≡ false → looked b s named (without_bit w i) ≡ looked b s named w
 look-next b s named w i t =
     ap (λ (j : ℕ). cond (eqb j 64) named (found_at b j)) (find-rest (is_gtx s) w b.places no_response i t)
 

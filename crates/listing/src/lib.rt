@@ -91,11 +91,7 @@ fn put_events(tape: &[u8], t: Trailer, a: Auction, b: &mut Board, w: &mut Writer
     for k in 0..n {
         let e = tape::record_in(tape, t, k);
         // A cancel or an amend names a response. It is looked for on the board itself, four places at a time, and a gap is skipped at once. `rest` is the word of live places from place i on.
-        let nobody = board::response_at(*b, 64);
-        let mut named = Found {
-            place: 64,
-            response: nobody,
-        };
+        let mut named = None;
         let mut rest = sought(turns::names(e), b.live);
         let mut i = 0;
         let mut slow = 0;
@@ -128,10 +124,10 @@ fn put_events(tape: &[u8], t: Trailer, a: Auction, b: &mut Board, w: &mut Writer
             let r = b.places[j];
             rest = 0;
             if bits::test(b.live, j) & board::is_named(r, e.f12, false) {
-                named = Found {
+                named = Some(Found {
                     place: j,
                     response: r,
-                };
+                });
                 continue;
             }
             // A freed place still has this sequence: the live places are looked at one by one.
@@ -141,10 +137,10 @@ fn put_events(tape: &[u8], t: Trailer, a: Auction, b: &mut Board, w: &mut Writer
             let j = bits::first_set(slow) as usize;
             let r = b.places[j];
             if board::is_named(r, e.f12, false) {
-                named = Found {
+                named = Some(Found {
                     place: j,
                     response: r,
-                };
+                });
                 slow = 0;
                 continue;
             }

@@ -38,7 +38,7 @@ use Rattle.promise.specs.promises.Parts.{auction_after, OneRecord, CountedOnce}
 use Rattle.promise.specs.rules.Answers.{answer_is, no as no_number, Paper, yes}
 use lib.Dec.{ltb, eqb}
 use borrow.Author.Tests.{eqb-false, le-ltb, ne_eqb, eq-eqb}
-use Rattle.decision.specs.rules.Decide.{is_amend}
+use Rattle.decision.specs.rules.Decide.{is_amend, free_place, old_place}
 use Rattle.run.specs.promises.Demands.{Stands, Sound, Names, InTime, is_above, named_place}
 use Rattle.run.proofs.Amends.{found-is, live_at, others_apart, amends}
 use Rattle.run.proofs.MarketFrom.{buy-form, run-terms, resend}
@@ -77,7 +77,7 @@ taken-away a e s names =
         amend = λ _ f _ _. (
           (known f).0,
           omega (arith, (known f).1, o.ordinary.newer),
-          inserts-every (λ r. r.sequence ≢ name_of e) (amending a.board v.found _ s.board (live f)).adds (λ z. omega (arith, (known f).1, o.ordinary.newer, buy-sequence e sell)) (away f),
+          inserts-every (λ r. r.sequence ≢ name_of e) (amending a.board (old_place v) _ s.board (live f)).adds (λ z. omega (arith, (known f).1, o.ordinary.newer, buy-sequence e sell)) (away f),
         );
         quote = λ _ _ l _. absurd (not_left names l);
         sell = λ k _ _. absurd (not-kind names 4 k (λ z. omega arith) (λ z. omega arith));
@@ -99,22 +99,22 @@ taken-away a e s names =
     not_left (inr k) l = eqb-false _ _ l.no-amend (buy-kind e sell ∙ k)
 
     -- the place that was found: what stands there is named, and is taken away
-    live : v.found < 64 → is_live a.board v.found ≡ true
+    live : old_place v < 64 → is_live a.board (old_place v) ≡ true
     live f = (sees a.board e s.board).found f
 
-    named : v.found < 64 → (response_at a.board.places v.found).sequence ≡ name_of e
+    named : old_place v < 64 → (response_at a.board.places (old_place v)).sequence ≡ name_of e
     named f =
-        let i : v.found ≡ find_gtx a.board (name_of e) = found-is a.board e names in
+        let i : old_place v ≡ find_gtx a.board (name_of e) = found-is a.board e names in
         ap (λ (j : ℕ). (response_at a.board.places j).sequence) i ∙ (find-named false a.board (name_of e) s.board (omega (arith, f, i))).sequence
 
-    takes : (f : v.found < 64) → Inserts (response_at a.board.places v.found) (live_of (cleared a.board v.found)) (live_of a.board)
-    takes f = (clearing a.board v.found s.board (live f)).takes
+    takes : (f : old_place v < 64) → Inserts (response_at a.board.places (old_place v)) (live_of (cleared a.board (old_place v))) (live_of a.board)
+    takes f = (clearing a.board (old_place v) s.board (live f)).takes
 
-    known : v.found < 64 → (0 < name_of e) × (name_of e ≤ a.head.sequence)
+    known : old_place v < 64 → (0 < name_of e) × (name_of e ≤ a.head.sequence)
     known f = let h = (every-inserts (Stands a.head.sequence a.head.terms.initiating) (takes f) s.live).0 in (omega (arith, named f, h.0), omega (arith, named f, h.1))
 
-    away : v.found < 64 → Absent (name_of e) (live_of (cleared a.board v.found))
-    away f = subst (λ (k : ℕ). Absent k (live_of (cleared a.board v.found))) (named f) (others_apart (takes f) s.distinct)
+    away : old_place v < 64 → Absent (name_of e) (live_of (cleared a.board (old_place v)))
+    away f = subst (λ (k : ℕ). Absent k (live_of (cleared a.board (old_place v)))) (named f) (others_apart (takes f) s.distinct)
 
 stays-gone : (k : ℕ) (a : Auction) (e : Event) → Sound a → Gone k a → Gone k (step_of a e).auction
 stays-gone k a e s (p, l, g) = (p, omega (arith, rises v a e), cases a.head e v (λ t. Absent k (live_of (board_after a.board t.change))) (record { refused = λ _ _. g; late = λ _. g; does = does }))
@@ -131,10 +131,10 @@ stays-gone k a e s (p, l, g) = (p, omega (arith, rises v a e), cases a.head e v 
         record {
           refuses = λ _ _. g;
           nothing = λ _ _. g;
-          gtx = λ _ _ f _. seat-every a.board s.board (λ r. r.sequence ≢ k) v.at _ f ((sees a.board e s.board).free f) fresh g;
-          limit = λ _ _ _ f _. seat-every a.board s.board (λ r. r.sequence ≢ k) v.at _ f ((sees a.board e s.board).free f) fresh g;
-          clear = λ _ _. clear-every a.board s.board (λ r. r.sequence ≢ k) v.found g;
-          amend = λ _ f _. amend-every a.board s.board (λ r. r.sequence ≢ k) v.found _ ((sees a.board e s.board).found f) fresh g;
+          gtx = λ _ _ f _. seat-every a.board s.board (λ r. r.sequence ≢ k) (free_place v) _ f ((sees a.board e s.board).free f) fresh g;
+          limit = λ _ _ _ f _. seat-every a.board s.board (λ r. r.sequence ≢ k) (free_place v) _ f ((sees a.board e s.board).free f) fresh g;
+          clear = λ _ _. clear-every a.board s.board (λ r. r.sequence ≢ k) (old_place v) g;
+          amend = λ _ f _. amend-every a.board s.board (λ r. r.sequence ≢ k) (old_place v) _ ((sees a.board e s.board).found f) fresh g;
           quote = λ _ _ _. g;
           sell = λ _ _. g;
         }

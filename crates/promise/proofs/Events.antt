@@ -38,10 +38,11 @@ use Rattle.auction.specs.declared.Quotes.{Quotes}
 use Rattle.auction.specs.declared.Market.{Market}
 use Rattle.auction.specs.declared.Ending.{Ending}
 use Rattle.auction.specs.declared.Ending.TheVariants.{Open, Same, Opposite, Improve}
-use Rattle.decision.specs.rules.Decide.{is_customer, is_non_routable, moves, bid_quotes, new_quotes, gtx_outcome, cancel_outcome, amend_outcome, sell_limit_outcome, buy_limit_outcome, limit_outcome, market_outcome, quotes_outcome, Outcome, does, outcome_of}
+use Rattle.decision.specs.rules.Decide.{is_customer, is_non_routable, moves, bid_quotes, new_quotes, gtx_outcome, cancel_outcome, amend_outcome, sell_limit_outcome, buy_limit_outcome, limit_outcome, market_outcome, quotes_outcome, Outcome, does, outcome_of, free_place, old_place}
 use Rattle.decision.specs.declared.Sight.{Sight}
 use Rattle.decision.specs.declared.Change.{Change}
 use Rattle.decision.specs.declared.Change.TheVariants.{Nothing, Quote}
+use Rattle.events.proofs.SightLaws.{sight-free}
 use Rattle.events.specs.rules.Step.{event_refusal, sight_of, quotes_after, stays, ended_by_time, head_after, unless_refused, carried, turn_of, close_turn, seated_on, step_of}
 use Rattle.events.specs.declared.Answer.{Answer}
 use Rattle.events.specs.declared.Answer.TheVariants.{Late, Refused}
@@ -140,16 +141,16 @@ module _ (o : Order) (a : Auction) (n : Now) (F : Follows o a n) (e : Event) (f 
       sym (better-shown (is_sell o) t.initiating (new_price_of m) F.priced.start-low (omega (arith, (event-bounds m (buy-form (is_sell o) e f)).bb)))
       ∙ ap₂ (λ (x y : ℕ). better (is_sell o) x y) (sym F.priced.start_is) (new-price (is_sell o) e k f)
 
-  room-is : ltb v.at 64 ≡ ltb (length n.standing) 64
-  unfolding sight_of
+  room-is : ltb (free_place v) 64 ≡ ltb (length n.standing) 64
   room-is =
       let c : live_count a.board ≡ length n.standing =
       omega (arith, seen.count a.board F.sound.board, length-map (live_of a.board) (sent (is_sell o)), shuffles-length (sequence-shuffles (on_board (is_sell o) a.board)), ap length F.stands) in
-      same_test (ltb (first_free a.board) 64) (ltb (length n.standing) 64)
+      ap (λ (i : ℕ). ltb i 64) (sight-free a.board e)
+      ∙ same_test (ltb (first_free a.board) 64) (ltb (length n.standing) 64)
       (λ z. lt-ltb (length n.standing) 64 (omega (arith, c, seen.no_room a.board (ltb-true (first_free a.board) 64 z))))
       (λ z. lt-ltb (first_free a.board) 64 (seen.room a.board (omega (arith, c, ltb-true (length n.standing) 64 z))))
 
-  found-named : Names e → ltb v.found 64 ≡ has_named (name_of e) n.standing
+  found-named : Names e → ltb (old_place v) 64 ≡ has_named (name_of e) n.standing
   found-named k = ap (λ (i : ℕ). ltb i 64) (found-is a.board e k) ∙ named-is (is_sell o) a.board (name_of e) F.sound.board F.sound.distinct ∙ ap (has_named (name_of e)) F.stands
 
   abbrev P : Outcome → Type 0
@@ -158,7 +159,7 @@ module _ (o : Order) (a : Auction) (n : Now) (F : Follows o a n) (e : Event) (f 
   gtx : e.kind ≡ 1 → P (gtx_outcome t v m)
   unfolding gtx_outcome mirrored_priced changeless
   gtx k =
-      push (eqb m.side 1) (ltb t.initiating (price_of m)) (ltb v.at 64) _
+      push (eqb m.side 1) (ltb t.initiating (price_of m)) (ltb (free_place v) 64) _
       ∙ (λ i. cond (side-shown (is_sell o) e (ap (λ (x : Event). x.side) (mirror-one e k)) i) (no OwnSide) (cond (beyond-is (inl k) i) (no AboveInitiating) (cond (room-is i) (yes Open) (no BoardFull))))
       ∙ sym (simp (eq-eqb e.kind 1 k))
     where
@@ -176,13 +177,13 @@ module _ (o : Order) (a : Auction) (n : Now) (F : Follows o a n) (e : Event) (f 
   cancel : e.kind ≡ 2 → P (cancel_outcome v)
   unfolding cancel_outcome
   cancel k =
-      found-or (ltb v.found 64) _ ∙ ap (λ (x : Bool). cond x (yes Open) (no NoSuchResponse)) (found-named (inl k))
+      found-or (ltb (old_place v) 64) _ ∙ ap (λ (x : Bool). cond x (yes Open) (no NoSuchResponse)) (found-named (inl k))
       ∙ sym (simp (ne_eqb e.kind 1 (λ z. omega arith), eq-eqb e.kind 2 k))
 
   amend : e.kind ≡ 6 → P (amend_outcome t v m)
   unfolding amend_outcome changeless
   amend k =
-      push (ltb t.initiating (new_price_of m)) (ltb v.found 64) _
+      push (ltb t.initiating (new_price_of m)) (ltb (old_place v) 64) _
       ∙ (λ i. cond (new-beyond-is k i) (no AboveInitiating) (cond (found-named (inr k) i) (yes Open) (no NoSuchResponse)))
       ∙ sym (simp (ne_eqb e.kind 1 (λ z. omega arith), ne_eqb e.kind 2 (λ z. omega arith), ne_eqb e.kind 3 (λ z. omega arith), ne_eqb e.kind 4 (λ z. omega arith), eq-eqb e.kind 6 k))
     where
@@ -206,7 +207,7 @@ module _ (o : Order) (a : Auction) (n : Now) (F : Follows o a n) (e : Event) (f 
   other-limit : e.kind ≡ 3 → eqb e.side (own_side o) ≡ false → P (sell_limit_outcome t q v m)
   unfolding sell_limit_outcome changeless
   other-limit k d =
-      push (leb (price_of m) t.initiating) (ltb v.at 64) (leb (price_of m) (cond (is_non_routable m) q.bb q.nbb)) _
+      push (leb (price_of m) t.initiating) (ltb (free_place v) 64) (leb (price_of m) (cond (is_non_routable m) q.bb q.nbb)) _
       ∙ (λ i. cond (sym place_is i && not (room-is i)) (no BoardFull) (cond (meets-is o t F.priced e f n.quoted q F.reads k d i) (yes Opposite) (yes Open)))
       ∙ sym (simp (ne_eqb e.kind 1 (λ z. omega arith), ne_eqb e.kind 2 (λ z. omega arith), eq-eqb e.kind 3 k, d))
     where
@@ -271,17 +272,17 @@ module _ (o : Order) (a : Auction) (n : Now) (F : Follows o a n) (e : Event) (f 
   gtx-moves k =
       by Moves (eqb m.side 1) _ _ (λ _. tt) (λ _.
       by Moves (ltb t.initiating (price_of m)) _ _ (λ _. tt) (λ _.
-      by Moves (ltb v.at 64) _ _ (λ _. of-kind 1 k refl refl Open) (λ _. tt)))
+      by Moves (ltb (free_place v) 64) _ _ (λ _. of-kind 1 k refl refl Open) (λ _. tt)))
 
   cancel-moves : e.kind ≡ 2 → Moves (cancel_outcome v)
   unfolding cancel_outcome
-  cancel-moves k = by Moves (ltb v.found 64) _ _ (λ _. of-kind 2 k refl refl Open) (λ _. tt)
+  cancel-moves k = by Moves (ltb (old_place v) 64) _ _ (λ _. of-kind 2 k refl refl Open) (λ _. tt)
 
   amend-moves : e.kind ≡ 6 → Moves (amend_outcome t v m)
   unfolding amend_outcome
   amend-moves k =
       by Moves (ltb t.initiating (new_price_of m)) _ _ (λ _. tt) (λ _.
-      by Moves (ltb v.found 64) _ _ (λ _. of-kind 6 k refl refl Open) (λ _. tt))
+      by Moves (ltb (old_place v) 64) _ _ (λ _. of-kind 6 k refl refl Open) (λ _. tt))
 
   own-moves : e.kind ≡ 3 → eqb e.side (own_side o) ≡ true → Moves (buy_limit_outcome t q m)
   unfolding buy_limit_outcome
@@ -297,7 +298,7 @@ module _ (o : Order) (a : Auction) (n : Now) (F : Follows o a n) (e : Event) (f 
   other-moves k d =
       let g : Ending = cond (leb (price_of m) (cond (is_non_routable m) q.bb q.nbb)) Opposite Open in
       let z = kept g (ap (λ (j : ℕ). eqb j 5) k) (and-no-right (eqb e.kind 3) d) in
-      by Moves (leb (price_of m) t.initiating) _ _ (λ _. by Moves (ltb v.at 64) _ _ (λ _. z) (λ _. tt)) (λ _. z)
+      by Moves (leb (price_of m) t.initiating) _ _ (λ _. by Moves (ltb (free_place v) 64) _ _ (λ _. z) (λ _. tt)) (λ _. z)
 
   limit-moves : e.kind ≡ 3 → Moves (limit_outcome t q v m)
   unfolding limit_outcome

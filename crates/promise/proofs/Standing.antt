@@ -34,7 +34,7 @@ use Rattle.auction.specs.declared.Auction.{Auction}
 use Rattle.auction.specs.declared.Terms.{Terms}
 use Rattle.auction.specs.rules.Accept.{opened_by, auction_of, Accepts}
 use Rattle.decision.specs.declared.Sight.{Sight}
-use Rattle.decision.specs.rules.Decide.{is_amend, amended_by}
+use Rattle.decision.specs.rules.Decide.{is_amend, amended_by, free_place, old_place}
 use Rattle.events.specs.rules.Step.{sight_of, board_after, carried, step_of}
 use Rattle.run.specs.rules.Run.{run, is_taken, taken_of}
 use Rattle.run.specs.promises.Demands.{InTime, Stands, Sound, Rising}
@@ -225,12 +225,12 @@ module _ (o : Order) (a : Auction) (e : Event) (s : Sound a) (w : Ours o a.head.
       (every_map (Stands a.head.sequence terms.initiating) (λ r. r.sequence < x.sequence) (live_of a.board) (λ r h. omega (arith, h.1, n, q)) s.live)
 
   -- a record's response is seated: it comes last
-  placed : (r : Response) → view.at < 64 → a.head.sequence < e.sequence → sent (is_sell o) r ≡ sent_by o e → stands_after o rs e ≡ rs ++ (sent_by o e ∷ []) → Stood (seated_at a.board view.at r)
+  placed : (r : Response) → free_place view < 64 → a.head.sequence < e.sequence → sent (is_sell o) r ≡ sent_by o e → stands_after o rs e ≡ rs ++ (sent_by o e ∷ []) → Stood (seated_at a.board (free_place view) r)
   placed r l n q z =
       let x : Response = sent_by o e in
-      let adds : Inserts x (on_board (is_sell o) a.board) (on_board (is_sell o) (seated_at a.board view.at r)) =
-      subst (λ (y : Response). Inserts y (on_board (is_sell o) a.board) (on_board (is_sell o) (seated_at a.board view.at r))) q
-      (inserts-map (sent (is_sell o)) (seating a.board view.at r s.board l ((sees a.board e s.board).free l)).adds) in
+      let adds : Inserts x (on_board (is_sell o) a.board) (on_board (is_sell o) (seated_at a.board (free_place view) r)) =
+      subst (λ (y : Response). Inserts y (on_board (is_sell o) a.board) (on_board (is_sell o) (seated_at a.board (free_place view) r))) q
+      (inserts-map (sent (is_sell o)) (seating a.board (free_place view) r s.board l ((sees a.board e s.board).free l)).adds) in
       sequence-last adds (lower n x refl) ∙ ap (λ (xs : List Response). xs ++ (x ∷ [])) now ∙ sym z
 
   -- the place of the GTX response that is named
@@ -266,15 +266,15 @@ module _ (o : Order) (a : Auction) (e : Event) (s : Sound a) (w : Ours o a.head.
             (stands-else o e rs (ne_eqb e.kind 1 (λ z. omega arith)) (ne_eqb e.kind 2 (λ z. omega arith)) (ne_eqb e.kind 6 (λ z. omega arith)) true (and_both (eq-eqb _ _ k3) here));
         clear = λ k f _.
             let k2 : e.kind ≡ 2 = sym (buy-kind e terms.sell) ∙ k in
-            let found : view.found ≡ place = found-is a.board e (inl k2) in
+            let found : old_place view ≡ place = found-is a.board e (inl k2) in
             subst (λ (i : ℕ). Stood (cleared a.board i)) (sym found)
             (freed (is_sell o) a.board (name_of e) s.board s.distinct (omega (arith, f, found)) ∙ ap (filter (λ r. not (is_gtx (name_of e) r))) now ∙ sym (stands-cancel o e rs k2));
         amend = λ k f _ _.
             let k6 : e.kind ≡ 6 = sym (buy-kind e terms.sell) ∙ k in
-            let found : view.found ≡ place = found-is a.board e (inr k6) in
-            let at_place : Stood (seated_at a.board view.found (amended_by terms (response_at a.board.places view.found) m)) =
+            let found : old_place view ≡ place = found-is a.board e (inr k6) in
+            let at_place : Stood (seated_at a.board (old_place view) (amended_by terms (response_at a.board.places (old_place view)) m)) =
             subst (λ (i : ℕ). Stood (seated_at a.board i (amended_by terms (response_at a.board.places i) m))) (sym found) (amended (omega (arith, f, found)) ok.ordinary.newer k6 ok.ordinary.formed) in
-            subst (λ (x : Response). Stood (seated_at a.board view.found (amended_by terms x m))) (sym (sees a.board e s.board).old) at_place;
+            subst (λ (x : Response). Stood (seated_at a.board (old_place view) (amended_by terms x m))) (sym (sees a.board e s.board).old) at_place;
         quote = λ _ _ l _. stays l;
         sell = λ k _ _.
             let k4 : e.kind ≡ 4 = sym (buy-kind e terms.sell) ∙ k in

@@ -6,7 +6,7 @@ use Prim.Native.Nat.{ℕ, zero, suc, ◌+◌, ◌-◌, ◌/◌, ◌%◌, min}
 use lib.Dec.{leb, ltb, eqb}
 use lib.ListN.{length, set, length-map, get_or-map}
 use Rattle.auction.proofs.Accepted.{opened}
-use Rattle.std.specs.Prelude.{Err, Ok, Result}
+use Rattle.std.specs.Prelude.{Err, None, Ok, Option, Result, Some}
 use Rattle.base.specs.Lists.{keep, filter, sum}
 use Rattle.base.specs.declared.refusal.Refusal.{Refusal}
 use Rattle.base.specs.declared.refusal.Refusal.TheVariants.{NoSuchResponse, BoardFull}
@@ -14,7 +14,8 @@ use Rattle.base.proofs.Bools.{by}
 use Rattle.words.specs.rules.Bits.{with_bit}
 use Rattle.board.specs.declared.Response.{Response}
 use Rattle.board.specs.declared.Board.{Board}
-use Rattle.board.specs.rules.Board.{no_response, response_at, empty_board, first_free, live_in, seated_at, find_in, is_named, inserted, in_sequence}
+use Rattle.board.specs.rules.Board.{no_response, response_at, empty_board, first_free, live_in, seated_at, find_in, is_named, inserted, in_sequence, place_at, found_at, found_place, found_response}
+use Rattle.board.specs.declared.Found.{Found}
 use Rattle.share.specs.rules.Fills.{Fill, fill_of, fills_by, sizes}
 use Rattle.share.specs.rules.Share.{in_turn, shares}
 use Rattle.tape.specs.declared.order.Order.{Order}
@@ -37,7 +38,7 @@ use Rattle.auction.specs.declared.Ending.TheVariants.{Open}
 use Rattle.decision.specs.declared.Sight.{Sight}
 use Rattle.decision.specs.declared.Change.{Change}
 use Rattle.decision.specs.declared.Change.TheVariants.{Nothing, Seat, Free, Quote, Sell}
-use Rattle.decision.specs.rules.Decide.{Outcome, does, is_cancel, is_amend, is_customer, is_non_routable, response_of, seats, amended_by, gtx_outcome, cancel_outcome, amend_outcome, sell_limit_outcome, bid_quotes, moves, buy_limit_outcome, limit_outcome, market_outcome, new_quotes, quotes_outcome, outcome_of}
+use Rattle.decision.specs.rules.Decide.{Outcome, does, is_cancel, is_amend, is_customer, is_non_routable, response_of, seats, amended_by, gtx_outcome, cancel_outcome, amend_outcome, sell_limit_outcome, bid_quotes, moves, buy_limit_outcome, limit_outcome, market_outcome, new_quotes, quotes_outcome, outcome_of, free_place}
 use Rattle.events.specs.declared.Turn.{Turn}
 use Rattle.events.specs.declared.Stepped.{Stepped}
 use Rattle.events.specs.rules.Step.{event_refusal, found_for, sight_of, board_after, head_after, unless_refused, carried, turn_of, close_turn, gives, seated_on, step_of}
@@ -59,8 +60,12 @@ bare_board b = record { places = map bare b.places; live = b.live }
 abbrev bare_auction : Auction → Auction
 bare_auction a = record { head = a.head; board = bare_board a.board }
 
+abbrev bare_found : Option Found → Option Found
+bare_found None = None
+bare_found (Some f) = Some (record { place = f.place; response = bare f.response })
+
 abbrev bare_sight : Sight → Sight
-bare_sight s = record { at = s.at; found = s.found; old = bare s.old }
+bare_sight s = record { free = s.free; named = bare_found s.named }
 
 abbrev bare_change : Change → Change
 bare_change Nothing = Nothing
@@ -120,19 +125,27 @@ module _ (t : Terms) (q : Quotes) (s : Sight) (e : Event) where
   gtx-bare =
       each (eqb e.side 1) (record { same = refl })
       (each (ltb t.initiating e.f16) (record { same = refl })
-      (seats-bare s.at (response_of true (min (size_of e) t.size) e) 0 Open BoardFull))
+      (seats-bare (free_place s) (response_of true (min (size_of e) t.size) e) 0 Open BoardFull))
 
   cancel-bare : Is bare_outcome (cancel_outcome (bare_sight s)) (cancel_outcome s)
   unfolding cancel_outcome
-  cancel-bare = each (ltb s.found 64) (record { same = refl }) (record { same = refl })
+  cancel-bare = go s.named
+    where
+      go : (n : Option Found) → Is bare_outcome (cancel_outcome (bare_sight (record { free = s.free; named = n }))) (cancel_outcome (record { free = s.free; named = n }))
+      go None = record { same = refl }
+      go (Some f) = each (ltb f.place 64) (record { same = refl }) (record { same = refl })
 
   amend-bare : Is bare_outcome (amend_outcome t (bare_sight s) (unnamed e)) (amend_outcome t s e)
   unfolding amend_outcome
-  amend-bare = each (ltb t.initiating e.f20) (record { same = refl }) (seats-bare s.found (amended_by t s.old e) s.old.size Open NoSuchResponse)
+  amend-bare = each (ltb t.initiating e.f20) (record { same = refl }) (go s.named)
+    where
+      go : (n : Option Found) → Is bare_outcome (seats (found_place (bare_found n)) (amended_by t (found_response (bare_found n)) (unnamed e)) (found_response (bare_found n)).size Open NoSuchResponse) (seats (found_place n) (amended_by t (found_response n) e) (found_response n).size Open NoSuchResponse)
+      go None = record { same = refl }
+      go (Some f) = seats-bare f.place (amended_by t f.response e) f.response.size Open NoSuchResponse
 
   sell-bare : Is bare_outcome (sell_limit_outcome t q (bare_sight s) (unnamed e)) (sell_limit_outcome t q s e)
   unfolding sell_limit_outcome
-  sell-bare = each (leb e.f16 t.initiating) (seats-bare s.at (response_of false (size_of e) e) 0 _ BoardFull) (record { same = refl })
+  sell-bare = each (leb e.f16 t.initiating) (seats-bare (free_place s) (response_of false (size_of e) e) 0 _ BoardFull) (record { same = refl })
 
   buy-limit-bare : Is bare_outcome (buy_limit_outcome t q (unnamed e)) (buy_limit_outcome t q e)
   unfolding buy_limit_outcome
@@ -214,11 +227,18 @@ live-bare w (p ∷ ps) = ap (keep (eqb (w % 2) 1) (bare p)) (live-bare (w / 2) p
 found-bare : (b : Board) (e : Event) → found_for (bare_board b) (unnamed e) ≡ found_for b e
 found-bare b e = ap (λ (i : ℕ). cond (is_cancel e || is_amend e) i 64) (find-bare false (name_of e) b.live b.places)
 
+at-bare : (b : Board) (i : ℕ) → found_at (bare_board b) i ≡ bare_found (found_at b i)
+at-bare b i = go (eqb i 64)
+  where
+    go : (t : Bool) → cond t None (Some (record { place = i; response = response_at (map bare b.places) i })) ≡ bare_found (cond t None (Some (record { place = i; response = response_at b.places i })))
+    go true = refl
+    go false = ap (λ (r : Response). Some (record { place = i; response = r })) (get_or-map bare b.places i no_response)
+
 sight-bare : (b : Board) (e : Event) → sight_of (bare_board b) (unnamed e) ≡ bare_sight (sight_of b e)
 unfolding sight_of
 sight-bare b e =
-    ap (λ (i : ℕ). record { at = first_free b; found = i; old = response_at (map bare b.places) i }) (found-bare b e)
-    ∙ ap (λ (r : Response). record { at = first_free b; found = found_for b e; old = r }) (get_or-map bare b.places (found_for b e) no_response)
+    ap (λ (i : ℕ). record { free = place_at (first_free b); named = found_at (bare_board b) i }) (found-bare b e)
+    ∙ ap (λ (n : Option Found). record { free = place_at (first_free b); named = n }) (at-bare b (found_for b e))
 
 board-bare : (b : Board) (c : Change) → board_after (bare_board b) (bare_change c) ≡ bare_board (board_after b c)
 unfolding seated_at

@@ -16,10 +16,11 @@ use Rattle.base.specs.declared.refusal.Refusal.TheVariants.{OwnSide, AboveInitia
 use Rattle.base.specs.Lists.Inserts.{here, there}
 use Rattle.base.proofs.Bools.{by, no}
 use Rattle.base.proofs.ListLaws.{every-inserts}
-use Rattle.board.specs.rules.Board.{response_at, is_live, live_of, seated_at, cleared, find_gtx}
+use Rattle.board.specs.rules.Board.{response_at, is_live, live_of, seated_at, cleared, find_gtx, found_at, found_place, found_response}
 use Rattle.board.specs.promises.Board.{Good, GtxAt, Amending}
 use Rattle.board.specs.declared.Board.{Board}
 use Rattle.board.specs.declared.Response.{Response}
+use Rattle.board.proofs.PlaceLaws.{found-back, some-response}
 use Rattle.board.proofs.BoardLaws.{amending, seated-good, clearing, cleared-good, find-named, named-found, no-named}
 use Rattle.tape.specs.declared.event.Event.{Event}
 use Rattle.tape.specs.rules.Fields.{name_of, new_size_of}
@@ -34,10 +35,11 @@ use Rattle.events.specs.declared.Answer.TheVariants.{Taken, Ended, Refused}
 use Rattle.decision.specs.declared.Change.TheVariants.{Seat}
 use Rattle.decision.specs.declared.Sight.{Sight}
 use Rattle.events.specs.declared.Stepped.{Stepped}
-use Rattle.decision.specs.rules.Decide.{is_amend, amended_by, amend_outcome, cancel_outcome, Outcome, does as outcome, outcome_of}
-use Rattle.events.specs.rules.Step.{sight_of, event_refusal, head_after, carried, turn_of, seated_on, step_by}
+use Rattle.decision.specs.rules.Decide.{is_amend, amended_by, amend_outcome, cancel_outcome, Outcome, does as outcome, outcome_of, old_place, old_response}
+use Rattle.events.specs.rules.Step.{found_for, sight_of, event_refusal, head_after, carried, turn_of, seated_on, step_by}
 use Rattle.run.specs.rules.Run.{is_taken}
 use Rattle.run.specs.promises.Demands.{Stands, Sound, Ordinary, InTime, Names, named_place, is_above, SeesNamed, NewFor, Amended, Amends}
+use Rattle.events.proofs.SightLaws.{sight-old}
 use Rattle.run.proofs.StepLaws.{cases}
 use Rattle.run.proofs.Resend.{any-change}
 use Rattle.run.proofs.BoardSteps.{clear-sizes}
@@ -46,14 +48,23 @@ use Rattle.run.proofs.SoundLaws.{new-size-of, sum_fits}
 -- ---- what is seen
 
 -- a cancel and an amend look the name up
-pub found-is : (b : Board) (e : Event) → Names e → (sight_of b e).found ≡ find_gtx b (name_of e)
-unfolding sight_of
-found-is b e (inl k) = ap (λ (t : Bool). cond (t || is_amend e) (find_gtx b (name_of e)) 64) (eq-eqb e.kind 2 k)
-found-is b e (inr k) = simp (ne_eqb e.kind 2 (λ z. omega arith), eq-eqb e.kind 6 k)
+for-names : (b : Board) (e : Event) → Names e → found_for b e ≡ find_gtx b (name_of e)
+for-names b e (inl k) = ap (λ (t : Bool). cond (t || is_amend e) (find_gtx b (name_of e)) 64) (eq-eqb e.kind 2 k)
+for-names b e (inr k) = simp (ne_eqb e.kind 2 (λ z. omega arith), eq-eqb e.kind 6 k)
+
+pub found-is : (b : Board) (e : Event) → Names e → old_place (sight_of b e) ≡ find_gtx b (name_of e)
+found-is b e k = sight-old b e ∙ for-names b e k
 
 pub sees_named : (a : Auction) (e : Event) → Names e → SeesNamed (sight_of a.board e) a e
 unfolding sight_of
-sees_named a e k = record { found = found-is a.board e k; old = ap (response_at a.board.places) (found-is a.board e k) }
+sees_named a e k = record { named = ap (found_at a.board) (for-names a.board e k) }
+
+-- the place that it tells, and what stands there
+named-is : (s : Sight) (a : Auction) (e : Event) → SeesNamed s a e → old_place s ≡ named_place a e
+named-is s a e sees = ap found_place sees.named ∙ found-back a.board (named_place a e)
+
+old-is : (s : Sight) (a : Auction) (e : Event) → SeesNamed s a e → named_place a e < 64 → old_response s ≡ response_at a.board.places (named_place a e)
+old-is s a e sees l = ap found_response sees.named ∙ some-response a.board (named_place a e) l
 
 -- ---- the turn of an event in time
 
@@ -86,20 +97,20 @@ module _ (s : Sight) (a : Auction) (e : Event) where
 
   -- ---- what an amend is answered
 
-  amend-step : e.kind ≡ 6 → InTime a.head e → (step_by s a e).answer ≡ cond (is_above a e) (Refused AboveInitiating) (cond (ltb s.found 64) Taken (Refused NoSuchResponse))
+  amend-step : e.kind ≡ 6 → InTime a.head e → (step_by s a e).answer ≡ cond (is_above a e) (Refused AboveInitiating) (cond (ltb (old_place s) 64) Taken (Refused NoSuchResponse))
   unfolding amend_outcome
-  amend-step k t = ap (λ (p : Stepped). p.answer) (in-time t) ∙ ap (λ (u : Outcome). (carried a.head e u).answer) (amend-is k) ∙ go (is_above a e) (ltb s.found 64) refl refl
+  amend-step k t = ap (λ (p : Stepped). p.answer) (in-time t) ∙ ap (λ (u : Outcome). (carried a.head e u).answer) (amend-is k) ∙ go (is_above a e) (ltb (old_place s) 64) refl refl
     where
-      go : (x y : Bool) → is_above a e ≡ x → ltb s.found 64 ≡ y → (carried a.head e (amend_outcome a.head.terms s m)).answer ≡ cond x (Refused AboveInitiating) (cond y Taken (Refused NoSuchResponse))
+      go : (x y : Bool) → is_above a e ≡ x → ltb (old_place s) 64 ≡ y → (carried a.head e (amend_outcome a.head.terms s m)).answer ≡ cond x (Refused AboveInitiating) (cond y Taken (Refused NoSuchResponse))
       go true y p q = simp p
       go false true p q = simp (p, q)
       go false false p q = simp (p, q)
 
-  cancel-step : e.kind ≡ 2 → InTime a.head e → (step_by s a e).answer ≡ cond (ltb s.found 64) Taken (Refused NoSuchResponse)
+  cancel-step : e.kind ≡ 2 → InTime a.head e → (step_by s a e).answer ≡ cond (ltb (old_place s) 64) Taken (Refused NoSuchResponse)
   unfolding cancel_outcome
-  cancel-step k t = ap (λ (p : Stepped). p.answer) (in-time t) ∙ ap (λ (u : Outcome). (carried a.head e u).answer) (cancel-is k) ∙ go (ltb s.found 64) refl
+  cancel-step k t = ap (λ (p : Stepped). p.answer) (in-time t) ∙ ap (λ (u : Outcome). (carried a.head e u).answer) (cancel-is k) ∙ go (ltb (old_place s) 64) refl
     where
-      go : (y : Bool) → ltb s.found 64 ≡ y → (carried a.head e (cancel_outcome s)).answer ≡ cond y Taken (Refused NoSuchResponse)
+      go : (y : Bool) → ltb (old_place s) 64 ≡ y → (carried a.head e (cancel_outcome s)).answer ≡ cond y Taken (Refused NoSuchResponse)
       go true q = simp q
       go false q = simp q
 
@@ -114,7 +125,7 @@ module _ (s : Sight) (a : Auction) (e : Event) where
       in-time-none t =
           subst None (sym (amend-step k t))
           (by None (is_above a e) _ _ (λ _. none AboveInitiating (λ z. omega arith) (λ z. omega arith)) (λ _.
-          by None (ltb s.found 64) _ _ (λ _. (λ z. no cc, λ z. no cc, λ z. no cc)) (λ _. none NoSuchResponse (λ z. omega arith) (λ z. omega arith))))
+          by None (ltb (old_place s) 64) _ _ (λ _. (λ z. no cc, λ z. no cc, λ z. no cc)) (λ _. none NoSuchResponse (λ z. omega arith) (λ z. omega arith))))
 
 -- ---- an amend that is taken
 
@@ -222,10 +233,10 @@ does v a e s k6 sees =
     made-for : NewFor a.head.terms (response_at a.board.places (named_place a e)) e r
     made-for = record { sequence = buy-sequence e sell; size = ap (λ (n : ℕ). min n a.head.terms.size) (amend-size e sell k6); price = refl; participant = buy-participant e sell; customer = refl; gtx = refl }
 
-    amended : Ordinary a.head e → v.found < 64 → Amended a e (seated_on a.board (carried a.head e (outcome (Seat v.found (amended_by a.head.terms v.old (buy_event sell e)) v.old.size) Open))).auction
+    amended : Ordinary a.head e → old_place v < 64 → Amended a e (seated_on a.board (carried a.head e (outcome (Seat (old_place v) (amended_by a.head.terms (old_response v) (buy_event sell e)) (old_response v).size) Open))).auction
     amended o f =
-        subst (λ (i : ℕ). Amended a e (seated_on a.board (carried a.head e (outcome (Seat i (amended_by a.head.terms v.old (buy_event sell e)) v.old.size) Open))).auction) (sym sees.found)
-        (subst (λ (x : Response). Amended a e (seated_on a.board (carried a.head e (outcome (Seat (named_place a e) (amended_by a.head.terms x (buy_event sell e)) x.size) Open))).auction) (sym sees.old)
+        subst (λ (i : ℕ). Amended a e (seated_on a.board (carried a.head e (outcome (Seat i (amended_by a.head.terms (old_response v) (buy_event sell e)) (old_response v).size) Open))).auction) (sym (named-is v a e sees))
+        (subst (λ (x : Response). Amended a e (seated_on a.board (carried a.head e (outcome (Seat (named_place a e) (amended_by a.head.terms x (buy_event sell e)) x.size) Open))).auction) (sym (old-is v a e sees found))
         (record {
           named = at a e s newer found r made-for.sequence refl;
           stands = subst (NewFor a.head.terms (response_at a.board.places (named_place a e)) e) (sym (made a e s newer found r made-for.sequence refl).stands) made-for;
@@ -245,7 +256,7 @@ does v a e s k6 sees =
         newer = o.newer
 
         found : named_place a e < 64
-        found = omega (arith, f, sees.found)
+        found = omega (arith, f, named-is v a e sees)
 
         old : ℕ
         old = (response_at a.board.places (named_place a e)).size
@@ -258,7 +269,7 @@ amends =
     record {
       sees_named = sees_named;
       does = does;
-      answers = λ s a e k n t. amend-step s a e k t ∙ ap (λ (i : ℕ). cond (is_above a e) (Refused AboveInitiating) (cond (ltb i 64) Taken (Refused NoSuchResponse))) n.found;
+      answers = λ s a e k n t. amend-step s a e k t ∙ ap (λ (i : ℕ). cond (is_above a e) (Refused AboveInitiating) (cond (ltb i 64) Taken (Refused NoSuchResponse))) (named-is s a e n);
       never = never;
-      cancel-answers = λ s a e k n t. cancel-step s a e k t ∙ ap (λ (i : ℕ). cond (ltb i 64) Taken (Refused NoSuchResponse)) n.found;
+      cancel-answers = λ s a e k n t. cancel-step s a e k t ∙ ap (λ (i : ℕ). cond (ltb i 64) Taken (Refused NoSuchResponse)) (named-is s a e n);
     }

@@ -1,5 +1,5 @@
 -- What seating and clearing keep of the live responses, what becomes of the sum of their sizes, and what an event sees of a board. Assumes nothing.
-use mathlib.Core.Path.{◌≡◌, refl, sym, ap, subst}
+use mathlib.Core.Path.{◌≡◌, refl, sym, ap, subst, ◌∙◌}
 use mathlib.Core.Bool.{Bool, true, false, ◌||◌}
 use mathlib.Core.List.{List, [], ◌∷◌, map}
 use mathlib.Core.Logic.{◌≢◌}
@@ -10,7 +10,7 @@ use Rattle.base.specs.Lists.{Every, Inserts, sum}
 use Rattle.base.specs.Lists.Inserts.{here, there}
 use Rattle.base.proofs.ListLaws.{inserts-every, every-inserts}
 use Rattle.base.proofs.Bools.{by}
-use Rattle.board.specs.rules.Board.{response_at, is_live, live_of, seated_at, cleared, find_gtx}
+use Rattle.board.specs.rules.Board.{response_at, is_live, first_free, live_of, seated_at, cleared, find_gtx}
 use Rattle.board.specs.promises.Board.{Good}
 use Rattle.board.specs.declared.Board.{Board}
 use Rattle.board.specs.declared.Response.{Response}
@@ -22,7 +22,8 @@ use Rattle.tape.specs.declared.event.Event.{Event}
 use Rattle.demand.specs.promises.Demands.{Absent, Distinct}
 use Rattle.tape.specs.rules.Fields.{name_of}
 use Rattle.decision.specs.rules.Decide.{is_cancel, is_amend}
-use Rattle.events.specs.rules.Step.{sight_of}
+use Rattle.events.specs.rules.Step.{found_for, sight_of}
+use Rattle.board.proofs.PlaceLaws.{place-back, found-back, response-back}
 use Rattle.run.specs.promises.Demands.{Fits}
 
 -- what an event sees of a board fits it
@@ -30,9 +31,10 @@ pub sees : (b : Board) (e : Event) → Good b → Fits b (sight_of b e)
 unfolding sight_of
 sees b e g =
     record {
-      free = λ h. clear-is 64 b.live h;
-      found = by (λ (i : ℕ). i < 64 → is_live b i ≡ true) (is_cancel e || is_amend e) (find_gtx b (name_of e)) 64 (λ _ h. (find-named false b (name_of e) g h).live) (λ _ h. absurd (omega arith));
-      old = refl;
+      free = subst (λ (i : ℕ). i < 64 → is_live b i ≡ false) (sym (place-back (first_free b))) (λ h. clear-is 64 b.live h);
+      found = subst (λ (i : ℕ). i < 64 → is_live b i ≡ true) (sym (found-back b (found_for b e)))
+          (by (λ (i : ℕ). i < 64 → is_live b i ≡ true) (is_cancel e || is_amend e) (find_gtx b (name_of e)) 64 (λ _ h. (find-named false b (name_of e) g h).live) (λ _ h. absurd (omega arith)));
+      old = response-back b (found_for b e) g ∙ ap (response_at b.places) (sym (found-back b (found_for b e)));
     }
 
 module _ (b : Board) (g : Good b) where

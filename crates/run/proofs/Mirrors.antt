@@ -12,7 +12,7 @@ use Rattle.base.specs.Lists.{Every}
 use Rattle.base.specs.declared.refusal.Refusal.TheVariants.{AuctionEnded, EventOutOfForm}
 use Rattle.base.proofs.Bools.{by, no}
 use Rattle.base.proofs.Numbers.{mirror-twice}
-use Rattle.board.specs.rules.Board.{response_at, first_free, find_gtx}
+use Rattle.board.specs.rules.Board.{first_free, place_at, find_gtx, found_at}
 use Rattle.board.specs.declared.Board.{Board}
 use Rattle.board.specs.declared.Response.{Response}
 use Rattle.share.specs.rules.Fills.{Fill, fill, fill_of}
@@ -116,7 +116,7 @@ late-same h = record { answer = refl; head = refl; change = refl }
 -- what is seen of the mirrored event is what is seen of the event
 sight-same : (b : Board) (e : Event) → sight_of b (mirrored_event e) ≡ sight_of b e
 unfolding sight_of
-sight-same b e = ap (λ (i : ℕ). record { at = first_free b; found = i; old = response_at b.places i }) found
+sight-same b e = ap (λ (i : ℕ). record { free = place_at (first_free b); named = found_at b i }) found
   where
     go : (t : Bool) → (is_cancel e || is_amend e) ≡ t → cond t (find_gtx b (name_of (mirrored_event e))) 64 ≡ cond t (find_gtx b (name_of e)) 64
     go true z = ap (find_gtx b) (mirror-name e (names-is e z))

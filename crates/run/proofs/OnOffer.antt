@@ -16,6 +16,7 @@ use Rattle.auction.specs.rules.Accept.{auction_of}
 use Rattle.auction.specs.rules.Range.{is_open, word}
 use Rattle.auction.specs.rules.Offer.{on_offer, moved_offer}
 use Rattle.decision.specs.declared.Sight.{Sight}
+use Rattle.decision.specs.rules.Decide.{old_place, old_response}
 use Rattle.decision.specs.declared.Change.{Change}
 use Rattle.decision.specs.declared.Change.TheVariants.{Nothing, Seat, Free, Quote, Sell}
 use Rattle.events.specs.declared.Answer.TheVariants.{Taken, Ended}
@@ -118,7 +119,7 @@ module _ (s : Sight) (a : Auction) (e : Event) where
   placed size away brought fits = record { any = λ _. ap₂ (λ (x y : ℕ). word (on_offer a - x + y)) (sym away) (sym brought); away-fits = λ _ _. omega (arith, away); brings-size = omega (arith, brought, fits) }
 
   -- what was found is gone, and a size may come
-  gone : (size : ℕ) → s.found < 64 → takes_away s e ≡ s.old.size → brings a.head.terms e ≡ size → size ≤ 100000 → Moved (moved_offer (on_offer a) s.old.size size)
+  gone : (size : ℕ) → old_place s < 64 → takes_away s e ≡ (old_response s).size → brings a.head.terms e ≡ size → size ≤ 100000 → Moved (moved_offer (on_offer a) (old_response s).size size)
   gone size f away brought fits =
       record {
         any = λ _. ap₂ (λ (x y : ℕ). word (on_offer a - x + y)) (sym away) (sym brought);

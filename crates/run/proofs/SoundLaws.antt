@@ -28,7 +28,7 @@ use Rattle.auction.specs.rules.Accept.{initiating_of, terms_of, quotes_of, opene
 use Rattle.auction.specs.rules.Range.{is_open, bound_by, bound_now, range_of}
 use Rattle.tape.specs.rules.Fields.{size_of, new_size_of}
 use Rattle.events.specs.rules.Step.{sight_of, board_after, quotes_after, market_after, offered_after, head_after, ended_by_time, carried, close_turn, seated_on, step_by, step_of, close_of}
-use Rattle.decision.specs.rules.Decide.{response_of, amended_by}
+use Rattle.decision.specs.rules.Decide.{response_of, amended_by, free_place, old_place, old_response}
 use Rattle.fills.specs.rules.Fills.{deal_of}
 use Rattle.run.specs.rules.Run.{run, played}
 use Rattle.run.specs.promises.Demands.{InTime, timed, Fits, Stands, Sound, Within, Trades, Demanded}
@@ -140,8 +140,8 @@ pub sum_fits : (a : Auction) → Sound a → sum (sizes (live_of a.board)) ≤ 6
 sum_fits a s = live-sizes a.board s.board (every_map (Stands a.head.sequence a.head.terms.initiating) (λ r. r.size ≤ 100000) (live_of a.board) (λ r h. h.3) s.live)
 
 -- what was found: its size is among those that add up
-pub old-size : (v : Sight) (a : Auction) → Fits a.board v → Sound a → v.found < 64 → sum (sizes (live_of a.board)) ≡ v.old.size + sum (sizes (live_of (cleared a.board v.found)))
-old-size v a fits s f = clear-sizes a.board s.board v.found (fits.found f) ∙ ap (λ (x : Response). x.size + sum (sizes (live_of (cleared a.board v.found)))) (sym fits.old)
+pub old-size : (v : Sight) (a : Auction) → Fits a.board v → Sound a → old_place v < 64 → sum (sizes (live_of a.board)) ≡ (old_response v).size + sum (sizes (live_of (cleared a.board (old_place v))))
+old-size v a fits s f = clear-sizes a.board s.board (old_place v) (fits.found f) ∙ ap (λ (x : Response). x.size + sum (sizes (live_of (cleared a.board (old_place v))))) (sym fits.old)
 
 module _ (v : Sight) (a : Auction) (e : Event) (fits : Fits a.board v) (s : Sound a) (o : InTime a.head e) where
   no_size : a.head.market.size ≡ 0
@@ -171,10 +171,10 @@ module _ (v : Sight) (a : Auction) (e : Event) (fits : Fits a.board v) (s : Soun
       (omega (arith, s.offered, sums.0, sums.1, live-sizes (seated_at a.board i r) good (every_map (Stands e.sequence a.head.terms.initiating) (λ r. r.size ≤ 100000) (live_of (seated_at a.board i r)) (λ r h. h.3) live)))
       (λ _. no_size) no_more
 
-  placed-sound : (r : Response) (g : Ending) → v.at < 64 → r.sequence ≡ e.sequence → Size r.size → r.price ≤ a.head.terms.initiating → Sound (after a e (Seat v.at r 0) g)
+  placed-sound : (r : Response) (g : Ending) → free_place v < 64 → r.sequence ≡ e.sequence → Size r.size → r.price ≤ a.head.terms.initiating → Sound (after a e (Seat (free_place v) r 0) g)
   placed-sound r g f q n p =
-      seated-sound v.at r 0 g q n p (λ P. seat-every a.board s.board P v.at r f (fits.free f)) (seat-distinct a.board s.board v.at r f (fits.free f))
-      (omega arith, omega (arith, seat-sizes a.board s.board v.at r f (fits.free f)))
+      seated-sound (free_place v) r 0 g q n p (λ P. seat-every a.board s.board P (free_place v) r f (fits.free f)) (seat-distinct a.board s.board (free_place v) r f (fits.free f))
+      (omega arith, omega (arith, seat-sizes a.board s.board (free_place v) r f (fits.free f)))
 
   does-sound : Outcomes a.head.terms a.head.quotes v (buy_event a.head.terms.sell e) (λ u. Sound (seated_on a.board (carried a.head e u)).auction)
   does-sound =
@@ -191,17 +191,17 @@ module _ (v : Sight) (a : Auction) (e : Event) (fits : Fits a.board v) (s : Soun
             placed-sound (response_of false (size_of (buy_event sell e)) (buy_event sell e)) g f (buy-sequence e sell)
             (subst Size (sym (priced-size e sell (mirror-three e k3))) (size-of e (inr (inl k3)) o.ordinary.formed)) p;
         clear = λ k f.
-            after-sound a e (Free v.found v.old.size) Open s s.bound-below (cleared-good a.board v.found s.board)
-            (clear-every a.board s.board (Stands e.sequence a.head.terms.initiating) v.found stand)
-            (clear-distinct a.board s.board v.found s.distinct)
+            after-sound a e (Free (old_place v) (old_response v).size) Open s s.bound-below (cleared-good a.board (old_place v) s.board)
+            (clear-every a.board s.board (Stands e.sequence a.head.terms.initiating) (old_place v) stand)
+            (clear-distinct a.board s.board (old_place v) s.distinct)
             (omega (arith, s.offered, old-size v a fits s f, sum_fits a s))
             (λ _. no_size) no_more;
         amend = λ k f p.
             let k6 : e.kind ≡ 6 = sym (buy-kind e sell) ∙ k in
-            let r : Response = amended_by a.head.terms v.old (buy_event sell e) in
-            seated-sound v.found r v.old.size Open (buy-sequence e sell) (capped _ _ (subst Size (sym (amend-size e sell k6)) (new-size-of e k6 o.ordinary.formed)) s.size) p
-            (λ P. amend-every a.board s.board P v.found r (fits.found f)) (amend-distinct a.board s.board v.found r (fits.found f))
-            (omega (arith, old-size v a fits s f), ap (λ (x : Response). x.size + sum (sizes (live_of (seated_at a.board v.found r)))) fits.old ∙ amend-sizes a.board s.board v.found r (fits.found f));
+            let r : Response = amended_by a.head.terms (old_response v) (buy_event sell e) in
+            seated-sound (old_place v) r (old_response v).size Open (buy-sequence e sell) (capped _ _ (subst Size (sym (amend-size e sell k6)) (new-size-of e k6 o.ordinary.formed)) s.size) p
+            (λ P. amend-every a.board s.board P (old_place v) r (fits.found f)) (amend-distinct a.board s.board (old_place v) r (fits.found f))
+            (omega (arith, old-size v a fits s f), ap (λ (x : Response). x.size + sum (sizes (live_of (seated_at a.board (old_place v) r)))) fits.old ∙ amend-sizes a.board s.board (old_place v) r (fits.found f));
         quote = λ n f _. after-sound a e (Quote n) Open s (f s.bound-below) s.board stand s.distinct s.offered (λ _. no_size) no_more;
         sell = λ _ _.
             after-sound a e (Sell (record { sequence = (buy_event sell e).sequence; size = size_of (buy_event sell e) })) Opposite s s.bound-below s.board stand s.distinct s.offered

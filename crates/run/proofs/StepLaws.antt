@@ -22,7 +22,7 @@ use Rattle.auction.specs.declared.Quotes.{Quotes}
 use Rattle.auction.specs.declared.Ending.{Ending}
 use Rattle.auction.specs.declared.Ending.TheVariants.{Open, Same, Opposite, Improve}
 use Rattle.events.specs.rules.Step.{event_refusal, stays, ended_by_time, unless_refused, carried, turn_of}
-use Rattle.decision.specs.rules.Decide.{is_cancel, is_amend, is_customer, is_non_routable, response_of, gtx_outcome, cancel_outcome, amended_by, amend_outcome, sell_limit_outcome, bid_quotes, moves, buy_limit_outcome, limit_outcome, market_outcome, new_quotes, quotes_outcome, Outcome, does, outcome_of}
+use Rattle.decision.specs.rules.Decide.{is_cancel, is_amend, is_customer, is_non_routable, response_of, gtx_outcome, cancel_outcome, amended_by, amend_outcome, sell_limit_outcome, bid_quotes, moves, buy_limit_outcome, limit_outcome, market_outcome, new_quotes, quotes_outcome, Outcome, does, outcome_of, free_place, old_place, old_response}
 use Rattle.tape.specs.rules.Fields.{size_of, price_of, new_price_of}
 use Rattle.run.specs.promises.Demands.{Ordinary, InTime, Names}
 use Rattle.events.specs.declared.Answer.TheVariants.{Late, Refused}
@@ -69,10 +69,10 @@ pub record Leaves (t : Terms) (m : Event) : Type 0 where
 pub record Outcomes (t : Terms) (q : Quotes) (s : Sight) (m : Event) (P : Outcome → Type 0) : Type 0 where
   pub refuses : (r : Refusal) → OfKind r → P (Err r)
   pub nothing : (g : Ending) → Leaves t m → P (does Nothing g)
-  pub gtx : m.kind ≡ 1 → eqb m.side 1 ≡ false → s.at < 64 → price_of m ≤ t.initiating → P (does (Seat s.at (response_of true (min (size_of m) t.size) m) 0) Open)
-  pub limit : (g : Ending) → m.kind ≡ 3 → eqb m.side 1 ≡ false → s.at < 64 → price_of m ≤ t.initiating → P (does (Seat s.at (response_of false (size_of m) m) 0) g)
-  pub clear : m.kind ≡ 2 → s.found < 64 → P (does (Free s.found s.old.size) Open)
-  pub amend : m.kind ≡ 6 → s.found < 64 → new_price_of m ≤ t.initiating → P (does (Seat s.found (amended_by t s.old m) s.old.size) Open)
+  pub gtx : m.kind ≡ 1 → eqb m.side 1 ≡ false → free_place s < 64 → price_of m ≤ t.initiating → P (does (Seat (free_place s) (response_of true (min (size_of m) t.size) m) 0) Open)
+  pub limit : (g : Ending) → m.kind ≡ 3 → eqb m.side 1 ≡ false → free_place s < 64 → price_of m ≤ t.initiating → P (does (Seat (free_place s) (response_of false (size_of m) m) 0) g)
+  pub clear : m.kind ≡ 2 → old_place s < 64 → P (does (Free (old_place s) (old_response s).size) Open)
+  pub amend : m.kind ≡ 6 → old_place s < 64 → new_price_of m ≤ t.initiating → P (does (Seat (old_place s) (amended_by t (old_response s) m) (old_response s).size) Open)
   pub quote : (n : Quotes) → (bound_by t q ≤ t.initiating → bound_by t n ≤ t.initiating) → Leaves t m → P (does (Quote n) Open)
   pub sell : m.kind ≡ 4 → eqb m.side 1 ≡ false → P (does (Sell (record { sequence = m.sequence; size = size_of m })) Opposite)
 
@@ -92,23 +92,23 @@ module _ (t : Terms) (q : Quotes) (s : Sight) (m : Event) (P : Outcome → Type 
   gtx-case e =
       by P (eqb m.side 1) _ _ (λ _. k.refuses OwnSide (omega arith, omega arith)) (λ d.
       by P (ltb t.initiating (price_of m)) _ _ (λ _. k.refuses AboveInitiating (omega arith, omega arith)) (λ p.
-      by P (ltb s.at 64) _ _ (λ f. k.gtx e d (ltb-true _ _ f) (ltb-false _ _ p)) (λ _. k.refuses BoardFull (omega arith, omega arith))))
+      by P (ltb (free_place s) 64) _ _ (λ f. k.gtx e d (ltb-true _ _ f) (ltb-false _ _ p)) (λ _. k.refuses BoardFull (omega arith, omega arith))))
 
   cancel-case : m.kind ≡ 2 → P (cancel_outcome s)
   unfolding cancel_outcome
-  cancel-case e = by P (ltb s.found 64) _ _ (λ h. k.clear e (ltb-true _ _ h)) (λ _. k.refuses NoSuchResponse (omega arith, omega arith))
+  cancel-case e = by P (ltb (old_place s) 64) _ _ (λ h. k.clear e (ltb-true _ _ h)) (λ _. k.refuses NoSuchResponse (omega arith, omega arith))
 
   amend-case : m.kind ≡ 6 → P (amend_outcome t s m)
   unfolding amend_outcome
   amend-case e =
       by P (ltb t.initiating (new_price_of m)) _ _ (λ _. k.refuses AboveInitiating (omega arith, omega arith)) (λ p.
-      by P (ltb s.found 64) _ _ (λ h. k.amend e (ltb-true _ _ h) (ltb-false _ _ p)) (λ _. k.refuses NoSuchResponse (omega arith, omega arith)))
+      by P (ltb (old_place s) 64) _ _ (λ h. k.amend e (ltb-true _ _ h) (ltb-false _ _ p)) (λ _. k.refuses NoSuchResponse (omega arith, omega arith)))
 
   sell-limit-case : m.kind ≡ 3 → eqb m.side 1 ≡ false → P (sell_limit_outcome t q s m)
   unfolding sell_limit_outcome
   sell-limit-case e d =
       by P (leb (price_of m) t.initiating) _ _
-      (λ p. by P (ltb s.at 64) _ _ (λ f. k.limit (cond (leb (price_of m) (cond (is_non_routable m) q.bb q.nbb)) Opposite Open) e d (ltb-true _ _ f) (leb-true _ _ p)) (λ _. k.refuses BoardFull (omega arith, omega arith)))
+      (λ p. by P (ltb (free_place s) 64) _ _ (λ f. k.limit (cond (leb (price_of m) (cond (is_non_routable m) q.bb q.nbb)) Opposite Open) e d (ltb-true _ _ f) (leb-true _ _ p)) (λ _. k.refuses BoardFull (omega arith, omega arith)))
       (λ p. k.nothing (cond (leb (price_of m) (cond (is_non_routable m) q.bb q.nbb)) Opposite Open) (limit-leaves e (and-no-right (not (eqb m.side 1)) p)))
 
   buy-limit-case : Leaves t m → P (buy_limit_outcome t q m)

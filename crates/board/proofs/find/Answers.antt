@@ -3,12 +3,12 @@ use Prim.Native.Nat.{ℕ, ◌<◌}
 use mathlib.Core.Path.{◌≡◌, sym, ap, ◌∙◌}
 use native.Mathlib.Omega.{arith}
 use borrow.Author.Rules.{rules}
-use lib.ListN.{length, get_or-eq_default}
+use lib.ListN.{length}
 use Rattle.words.specs.rules.Bits.{without_bit}
 use Rattle.words.proofs.BitLaws.{without-le, without-lt, without-lowest, LowestBit, lowest_set}
-use Rattle.board.specs.rules.Board.{no_response, response_at, find_in, is_named, find_named}
-use Rattle.board.specs.declared.Response.{Response}
+use Rattle.board.specs.rules.Board.{no_response, find_in, is_named, found_at}
 use Rattle.base.proofs.ListLaws.{length-mapped}
+use Rattle.board.proofs.PlaceLaws.{found-some}
 use Rattle.board.proofs.FindLaws.{find-low, find-rest, find_none}
 use Rattle.board.proofs.find.Goals as goal
 use Rattle.board.proofs.find.Goals.{After-first_set-i, After-without_lowest-rest}
@@ -32,7 +32,8 @@ returns-then-is_named c =
     let s = f.before.before.before in
     let i = f.first_set-i.result in
     let h : i < length s.args.b.places = omega (arith, len f, (low f).place) in
-    ap (λ (j : ℕ). record { place = j; response = response_at s.args.b.places j })
+    sym (found-some s.args.b i (low f).place)
+    ∙ ap (found_at s.args.b)
     (sym (find-low (is_named s.args.any s.args.sequence) f.loop-rest.rest s.args.b.places no_response i h (low f) (sym c.is_named.ensures ∙ c.if-is_named.true))
     ∙ f.loop-rest.invariant.1)
 
@@ -60,11 +61,8 @@ loop-rest-preserved c =
 
 pub returns : goal.returns
 returns c =
-    let e = c.before in
-    let s = e.before.before in
+    let s = c.before.before in
     let t = is_named s.args.any s.args.sequence in
     let ps = s.args.b.places in
     let long : length ps ≡ 64 = search (rules, length-mapped) in
-    let none : 64 ≡ find_named s.args.any s.args.b s.args.sequence = sym (ap (λ (v : ℕ). find_in t v ps) e.loop-rest-test.false ∙ find_none t ps ∙ long) ∙ e.loop-rest.invariant.1 in
-    let nobody : c.no_response.result ≡ response_at ps 64 = c.no_response.ensures ∙ sym (get_or-eq_default ps no_response (omega (arith, long))) in
-    ap (λ (r : Response). record { place = 64; response = r }) nobody ∙ ap (λ (j : ℕ). record { place = j; response = response_at ps j }) none
+    ap (found_at s.args.b) (sym long ∙ sym (ap (λ (v : ℕ). find_in t v ps) c.loop-rest-test.false ∙ find_none t ps) ∙ c.loop-rest.invariant.1)

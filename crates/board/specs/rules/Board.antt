@@ -1,5 +1,5 @@
 -- The board: what its functions give, as definitions that compute. Assumes nothing.
-use Rattle.std.specs.Prelude.{ℕ, suc, ◌/◌, ◌%◌, Bool, false, cond, ◌&&◌, ◌||◌, List, [], ◌∷◌, leb, ltb, eqb, get_or, set, replicate}
+use Rattle.std.specs.Prelude.{ℕ, suc, ◌/◌, ◌%◌, Bool, false, cond, ◌&&◌, ◌||◌, List, [], ◌∷◌, Option, Some, None, leb, ltb, eqb, get_or, set, replicate}
 use Rattle.words.specs.rules.Bits.{bit_at, with_bit, without_bit, ones_in, clear_in}
 use Rattle.base.specs.Lists.{keep}
 use Rattle.board.specs.declared.Response.{Response}
@@ -31,6 +31,15 @@ live_count b = ones_in 64 b.live
 -- the lowest free place, and 64 where none is free
 abbrev pub first_free : Board → ℕ
 first_free b = clear_in 64 b.live
+
+-- a place as an option, in which 64 is none
+abbrev pub place_at : ℕ → Option ℕ
+place_at i = cond (eqb i 64) None (Some i)
+
+-- and the place of an option
+abbrev pub place_in : Option ℕ → ℕ
+place_in None = 64
+place_in (Some i) = i
 
 -- the elements of a list whose bit in w is set: bit 0 is the first element's
 unfoldable pub live_in : {A : Type 0} → ℕ → List A → List A
@@ -72,11 +81,25 @@ find_named any b s = find_in (is_named any s) b.live b.places
 abbrev pub find_gtx : Board → ℕ → ℕ
 find_gtx b s = find_named false b s
 
--- and what stands there
-abbrev pub found : Bool → Board → ℕ → Found
-found any b s = record { place = find_named any b s; response = response_at b.places (find_named any b s) }
+-- a place with what stands there, and none at 64
+abbrev pub found_at : Board → ℕ → Option Found
+found_at b i = cond (eqb i 64) None (Some (record { place = i; response = response_at b.places i }))
 
-abbrev pub found_gtx : Board → ℕ → Found
+-- the place that was found, and 64 for none
+abbrev pub found_place : Option Found → ℕ
+found_place None = 64
+found_place (Some f) = f.place
+
+-- what stands there
+abbrev pub found_response : Option Found → Response
+found_response None = no_response
+found_response (Some f) = f.response
+
+-- the live one with this sequence
+abbrev pub found : Bool → Board → ℕ → Option Found
+found any b s = found_at b (find_named any b s)
+
+abbrev pub found_gtx : Board → ℕ → Option Found
 found_gtx b s = found false b s
 
 -- ---- rising order of sequence

@@ -4,6 +4,7 @@ use Rattle.base.specs.declared.refusal.Refusal.{Refusal}
 use Rattle.base.specs.declared.refusal.Refusal.TheVariants.{OwnSide, AboveInitiating, NoSuchResponse, BoardFull}
 use Rattle.words.specs.rules.Bits.{bit_at}
 use Rattle.board.specs.declared.Response.{Response}
+use Rattle.board.specs.rules.Board.{place_in, found_place, found_response}
 use Rattle.tape.specs.declared.event.Event.{Event}
 use Rattle.tape.specs.rules.Fields.{size_of, price_of, new_size_of, new_price_of, nbb_of, nbo_of, bb_of, bo_of}
 use Rattle.auction.specs.rules.Accept.{bid_mark, offer_mark}
@@ -23,6 +24,18 @@ Outcome = Result Deed Refusal
 
 abbrev pub does : Change → Ending → Outcome
 does change ending = Ok (record { change = change; ending = ending })
+
+-- the place that a sight has for a response, and 64 for none
+abbrev pub free_place : Sight → ℕ
+free_place s = place_in s.free
+
+-- the place of the GTX response that is named, and 64 for none
+abbrev pub old_place : Sight → ℕ
+old_place s = found_place s.named
+
+-- what stands there
+abbrev pub old_response : Sight → Response
+old_response s = found_response s.named
 
 abbrev pub is_cancel : Event → Bool
 is_cancel e = eqb e.kind 2
@@ -46,7 +59,7 @@ seats place r gone ending none = cond (ltb place 64) (does (Seat place r gone) e
 
 -- a response has to be placed: at the lowest free place, and the board is full where there is none
 abbrev pub places : Sight → Response → Ending → Outcome
-places s r ending = seats s.at r 0 ending BoardFull
+places s r ending = seats (free_place s) r 0 ending BoardFull
 
 -- a GTX response: its size is capped at the CUBE size
 unfoldable pub gtx_outcome : Terms → Sight → Event → Outcome
@@ -57,7 +70,7 @@ gtx_outcome t s e =
 
 -- a cancel: the place that was found is freed, and its size is gone
 unfoldable pub cancel_outcome : Sight → Outcome
-cancel_outcome s = cond (ltb s.found 64) (does (Free s.found s.old.size) Open) (Err NoSuchResponse)
+cancel_outcome s = cond (ltb (old_place s) 64) (does (Free (old_place s) (old_response s).size) Open) (Err NoSuchResponse)
 
 -- the GTX response that an amend makes of an old one: the event's sequence, the new size, capped at the CUBE size, the new price and the event's participant; the Customer mark stays
 abbrev pub amended_by : Terms → Response → Event → Response
@@ -67,7 +80,7 @@ amended_by t old e = record { sequence = e.sequence; size = min (new_size_of e) 
 unfoldable pub amend_outcome : Terms → Sight → Event → Outcome
 amend_outcome t s e =
     cond (ltb t.initiating (new_price_of e)) (Err AboveInitiating)
-    (seats s.found (amended_by t s.old e) s.old.size Open NoSuchResponse)
+    (seats (old_place s) (amended_by t (old_response s) e) (old_response s).size Open NoSuchResponse)
 
 -- a sell limit: marketable at the NBB or below (non-routable: the BB); it takes a place where it is not above the initiating price
 unfoldable pub sell_limit_outcome : Terms → Quotes → Sight → Event → Outcome

@@ -3,7 +3,7 @@ use Rattle.std.specs.Prelude.{cond, not, ◌||◌, ℕ, leb, ltb, Result, Ok, Er
 use Rattle.base.specs.declared.refusal.Refusal.{Refusal}
 use Rattle.base.specs.declared.refusal.Refusal.TheVariants.{AuctionEnded, EventOutOfForm, SequenceTaken, BeforeClock}
 use Rattle.board.specs.declared.Board.{Board}
-use Rattle.board.specs.rules.Board.{response_at, first_free, seated_at, cleared, find_gtx}
+use Rattle.board.specs.rules.Board.{first_free, place_at, seated_at, cleared, find_gtx, found_at}
 use Rattle.tape.specs.declared.event.Event.{Event}
 use Rattle.tape.specs.rules.Form.{event_formed}
 use Rattle.tape.specs.rules.Fields.{name_of}
@@ -41,9 +41,9 @@ event_refusal h e =
 abbrev pub found_for : Board → Event → ℕ
 found_for b e = cond (is_cancel e || is_amend e) (find_gtx b (name_of e)) 64
 
--- the place that a response would take, the lowest free one (64: none); the place of the GTX that is named; what stands there
+-- the place that a response would take, the lowest free one; the GTX that is named
 unfoldable pub sight_of : Board → Event → Sight
-sight_of b e = record { at = first_free b; found = found_for b e; old = response_at b.places (found_for b e) }
+sight_of b e = record { free = place_at (first_free b); named = found_at b (found_for b e) }
 
 -- ---- what a change makes of the board, the quotes, the market order and the contracts on offer
 

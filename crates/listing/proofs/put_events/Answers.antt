@@ -5,10 +5,10 @@ use Prim.Native.Nat.{ℕ, ◌+◌, ◌^◌, ◌<◌}
 use native.Mathlib.Omega.{arith}
 use Rattle.run.specs.rules.Run.{run, heard, closed}
 use Rattle.events.specs.rules.Step.{sight_of, board_after, turn_of}
-use Rattle.events.proofs.SightLaws.{found_at, sight-found}
+use Rattle.events.proofs.SightLaws.{sight-found}
+use Rattle.board.specs.rules.Board.{found_at}
 use Rattle.words.specs.rules.Bits.{with_bit, without_bit}
 use Rattle.words.proofs.BitLaws.{without-le, without-lt, without-lowest, LowestBit, lowest_set}
-use Rattle.board.specs.declared.Response.{Response}
 use Rattle.board.specs.promises.Board.{Good}
 use Rattle.board.proofs.BoardLaws.{empty-good}
 use Rattle.decision.specs.declared.Sight.{Sight}
@@ -33,7 +33,7 @@ loop-k-init c =
 -- ---- the search for the response that the event names, four places at a time
 pub loop-rest-init : goal.loop-rest-init
 loop-rest-init c =
-    inl (look-start _ _ _ _ (ap (λ (r : Response). record { place = 64; response = r }) c.response_at-nobody.ensures))
+    inl (look-start _ _ _ _ refl)
 
 -- what is known while it goes on
 

@@ -3,7 +3,7 @@ use mathlib.Core.Logic.{◌⊎◌}
 use Prim.Native.Nat.{◌^◌, ◌<◌}
 use Rattle.run.specs.rules.Run.{run, heard}
 use Rattle.events.specs.rules.Step.{found_for}
-use Rattle.events.proofs.SightLaws.{found_at}
+use Rattle.board.specs.rules.Board.{found_at}
 use Rattle.board.specs.promises.Board.{Good}
 use Rattle.listing.specs.rules.Listing.{event_lines}
 use Rattle.listing.proofs.WriterLaws.{LeftToWrite}

@@ -5,7 +5,7 @@ use Rattle.base.specs.Refusal.{number_of}
 use Rattle.base.specs.declared.refusal.Refusal.{Refusal}
 use Rattle.base.specs.Lists.{In, Every, sum}
 use Rattle.base.specs.declared.refusal.Refusal.TheVariants.{AuctionEnded, EventOutOfForm, SequenceTaken, BeforeClock, OwnSide, AboveInitiating, NoSuchResponse, BoardFull}
-use Rattle.board.specs.rules.Board.{response_at, is_live, live_count, live_of, find_gtx}
+use Rattle.board.specs.rules.Board.{response_at, is_live, live_count, live_of, find_gtx, found_at}
 use Rattle.board.specs.promises.Board.{Good, GtxAt}
 use Rattle.board.specs.declared.Board.{Board}
 use Rattle.board.specs.declared.Response.{Response}
@@ -21,7 +21,7 @@ use Rattle.mirror.specs.rules.Mirror.{mirrored_order, mirrored_event, buy_event}
 use Rattle.auction.specs.rules.Accept.{auction_of, accept_of, Accepts}
 use Rattle.auction.specs.rules.Range.{is_open, bound_by, range_of, word}
 use Rattle.auction.specs.rules.Offer.{on_offer}
-use Rattle.decision.specs.rules.Decide.{is_cancel, is_amend}
+use Rattle.decision.specs.rules.Decide.{is_cancel, is_amend, free_place, old_place, old_response}
 use Rattle.tape.specs.rules.Fields.{size_of, price_of, name_of, new_size_of, new_price_of}
 use Rattle.events.specs.rules.Step.{sight_of, ended_by_time, gives, step_by, step_of, close_of}
 use Rattle.fills.specs.rules.Fills.{deal_of, auction_fills}
@@ -38,9 +38,9 @@ use Rattle.decision.specs.declared.Sight.{Sight}
 
 -- a sight fits a board where the place that it offers is free, the one that it found is live, and it has what stands there
 pub record Fits (b : Board) (s : Sight) : Type 0 where
-  pub free : s.at < 64 → is_live b s.at ≡ false
-  pub found : s.found < 64 → is_live b s.found ≡ true
-  pub old : s.old ≡ response_at b.places s.found
+  pub free : free_place s < 64 → is_live b (free_place s) ≡ false
+  pub found : old_place s < 64 → is_live b (old_place s) ≡ true
+  pub old : old_response s ≡ response_at b.places (old_place s)
 
 -- ---- refusals, whatever is seen
 
@@ -182,8 +182,7 @@ is_above a e = ltb a.head.terms.initiating (new_price_of (buy_event a.head.terms
 
 -- a sight that finds the GTX response that an event names, and has it; what it offers as a free place is of no matter
 pub record SeesNamed (s : Sight) (a : Auction) (e : Event) : Type 0 where
-  pub found : s.found ≡ named_place a e
-  pub old : s.old ≡ response_at a.board.places (named_place a e)
+  pub named : s.named ≡ found_at a.board (named_place a e)
 
 -- the response r is what the amend e made of old, for the terms t: the event's sequence and participant, the new size, capped at the CUBE size, the new price, the old Customer mark
 pub record NewFor (t : Terms) (old : Response) (e : Event) (r : Response) : Type 0 where
@@ -239,7 +238,7 @@ brings t e =
 
 -- the size that it takes away: for a cancel and an amend, that of the response that was found
 abbrev pub takes_away : Sight → Event → ℕ
-takes_away s e = cond (is_cancel e || is_amend e) s.old.size 0
+takes_away s e = cond (is_cancel e || is_amend e) (old_response s).size 0
 
 pub record OnOffer : Type 0 where
   -- it is kept, and not looked for on the board
