@@ -112,6 +112,11 @@ module _ (h : Hand) (t i : ℕ) where
   unfolding met_of
   met-late late edge r ge lt e f q = rw (le-ltb t h.first ge, lt-leb h.latest t lt, ← e, ← f) q
 
+-- where one was served, none is to be looked at
+pub served-looks : (h : Hand) (l : Price) (c : ℕ) (r : Response) (at : ℕ) → 0 < (served_of h l c r at).run → (served_of h l c r at).unseen ≡ 0
+unfolding served_of hunting_of
+served-looks h l c r at = by (λ (n : Hand). 0 < n.run → n.unseen ≡ 0) (leb h.edge r.sequence) _ _ (λ _ p. absurd (omega arith)) (λ _ p. refl)
+
 -- ---- words that have no place in common
 
 none_in : {X : Type 0} (j : ℕ) → bit_at 0 j ≡ true → X

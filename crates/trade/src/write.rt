@@ -191,7 +191,8 @@ fn filled(h: Hand, l: Price, cut: u64, r: Response, out: &mut [u32]) -> Hand
     }
 }
 
-// The fills of a price. Answers the place after them. A turn looks at one more place for the lowest sequence, or writes the fill of the next in sequence, or goes on to those that come later.
+// The fills of a price. Answers the place after them. Those whose order is not known are looked over for the lowest sequences; the run that a look found is served, unless one that comes late is before its
+// next; then come those that come late, or the others after the Customers.
 pub(crate) fn write_price(l: Price, cut: Cut, b: &Board, out: &mut [u32], at: usize) -> usize
     requires price { Ready b.now.places l cut.at cut.spare }
     requires room { at + 3 * length (fills_at b.now.places l) ≤ length out.old }
@@ -199,14 +200,15 @@ pub(crate) fn write_price(l: Price, cut: Cut, b: &Board, out: &mut [u32], at: us
 {
     let mut h = hand_of(false, true, l.customers, l.customer, l.left, at);
     loop {
-        if h.unseen != 0 {
+        while h.unseen != 0 {
             let i = bits::first_set(h.unseen) as usize;
             h = met(h, u64::from(b.places[i].sequence), i);
-            continue;
         }
-        if h.run != 0 {
+        while h.run != 0 {
             let i = bits::first_set(h.run) as usize;
             h = filled(h, l, cut.at, b.places[i], out);
+        }
+        if h.unseen != 0 {
             continue;
         }
         if h.last & (h.late == 0) {
