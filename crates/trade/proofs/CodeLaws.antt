@@ -4,15 +4,15 @@ use mathlib.Core.Bool.{Bool, true, false, cond}
 use mathlib.Core.List.{List, [], ◌∷◌}
 use Prim.Native.Nat.{ℕ, suc, ◌+◌, ◌-◌, ◌*◌, ◌/◌, ◌%◌, ◌^◌, ◌≤◌, ◌<◌, min, max}
 use native.Mathlib.Omega.{arith}
-use borrow.Author.Tests.{ne_eqb}
 use lib.Dec.{eqb}
 use lib.ListN.{length, get_or}
-use Rattle.words.specs.rules.Bits.{bit_at, without_bit, count_trailing_zeros}
-use Rattle.words.proofs.BitLaws.{without-lt, lowest_set}
+use Rattle.std.specs.Prelude.{Some}
+use Rattle.words.specs.rules.Bits.{bit_at, with_bit, without_bit, count_trailing_zeros, TakesLowest}
+use Rattle.words.proofs.BitLaws.{without-lt, without-lowest, lowest_set}
 use Rattle.board.specs.declared.Response.{Response}
 use Rattle.base.specs.Lists.{keep, filter, sum}
 use Rattle.board.specs.rules.Board.{no_response, live_in}
-use Rattle.board.proofs.LiveLaws.{none-live, first_live}
+use Rattle.board.proofs.LiveLaws.{none-live, first_live, Sifted, sift-step}
 use Rattle.share.specs.rules.Share.{fractions}
 use Rattle.share.specs.rules.Fills.{sizes}
 use Rattle.trade.specs.rules.Trade.{guarantee_of}
@@ -67,15 +67,19 @@ turn-of ps rest i e p h q =
     let t = lowest_set rest i p h q in
     record { low = t.place; set = t.set; less = without-lt rest i t.set; cons = first_live rest i ps no_response (omega (arith, t.place)) t }
 
--- ---- the places to look at: none, where what is looked for is known
+-- the same of a loop's iterator: v is what it has left
+pub taken : (ps : List Response) (w i v : ℕ) → length ps ≡ 64 → w < 2 ^ 64 → TakesLowest w (Some i) v → Turn ps w i × (v ≡ without_bit w i) × (v < 2 ^ 64)
+taken ps w i v e f t =
+    let u = turn-of ps w i e t.0 f t.2 in
+    let q = t.3 ∙ without-lowest w i t.2 in
+    (u, q, omega (arith, u.less))
 
-pub unseen-le : (known : Bool) (w : ℕ) → cond known 0 w ≤ w
-unseen-le true w = omega arith
-unseen-le false w = omega arith
-
--- all, where n is not 0
-pub unseen-all : (n w : ℕ) → 0 < n → cond (eqb n 0) 0 w ≡ w
-unseen-all n w h = ap (λ (b : Bool). cond b 0 w) (ne_eqb n 0 (λ z. omega arith))
+-- and of a loop that sifts
+pub sift-taken : (t : Response → Bool) (ps : List Response) (word kept w i v : ℕ) (b : Bool) → length ps ≡ 64 → w < 2 ^ 64 → TakesLowest w (Some i) v → t (get_or ps i no_response) ≡ b → Sifted t ps word kept w
+    → (v < 2 ^ 64) × Sifted t ps word (cond b (with_bit kept i) kept) v
+sift-taken t ps word kept w i v b e f k z s =
+    let u = taken ps w i v e f k in
+    (u.2, rw (u.1, ← z) (sift-step t ps word kept w i no_response (omega (arith, u.0.low)) u.0.low u.0.set s))
 
 -- ---- what a scan has to go
 

@@ -20,9 +20,9 @@ use Rattle.board.specs.inside.Places.{word_of}
 use Rattle.board.proofs.LiveLaws.{none-live, Sifted, sift-start, sift-end, sift-step}
 use Rattle.share.specs.rules.Fills.{sizes}
 use Rattle.trade.specs.declared.Found.{Found}
-use Rattle.trade.specs.inside.Code.{works_at, customer_at, other_at, rank_after, rank_of, nothing_at, added_to, found_at, found_with, later_with, FoundAt, least_of, Stands}
+use Rattle.trade.specs.inside.Code.{works_at, customer_at, other_at, rank_after, rank_of, nothing_at, added_to, found_at, found_with, later_with, FoundAt, least_of, Stands, Two}
 use Rattle.trade.proofs.CodeLaws.{Turn, least-le, sizes-turn, sizes-none, count_turn, live-short}
-use Rattle.trade.proofs.StepLaws.{word-left, word-rest}
+use Rattle.trade.proofs.StepLaws.{word_split, word-left, word-rest}
 
 -- ---- the rank: it tells whether sequences rise
 
@@ -424,7 +424,7 @@ module _ (bound last : ℕ) (ps : List Response) (word : ℕ) where
   unfolding least_of filter
   finds-price from f h low s = omega (arith, rw (none-live ps) at (s from (omega arith) h).least)
 
-  pub sees-first : (f n : Found) → Sees f n 0 → Stands bound last ps word f
+  sees-first : (f n : Found) → Sees f n 0 → Stands bound last ps word f
   sees-first f n s =
       let l : f.price ≤ last = omega (arith, s.ordered, s.low) in
       record {
@@ -477,7 +477,7 @@ module _ (bound last : ℕ) (ps : List Response) (word : ℕ) where
     rest-reach : p ≤ least_of bound last (live_in word ps) → live_in m ps ≡ filter (reach bound (p + 1)) (live_in word ps)
     rest-reach h = rest_live ∙ ap (filter (λ r. not (works_at bound p r))) (sym (reach-all bound last p (live_in word ps) h)) ∙ reach-next bound p (live_in word ps)
 
-  pub sees-second : (f n : Found) → Sees f n 0 → length ps ≡ 64 → word < 2 ^ 64 → (m : ℕ) → m + word_of (works_at bound f.price) word ps ≡ word → f.price < last → Stands bound last ps m n
+  sees-second : (f n : Found) → Sees f n 0 → length ps ≡ 64 → word < 2 ^ 64 → (m : ℕ) → m + word_of (works_at bound f.price) word ps ≡ word → f.price < last → Stands bound last ps m n
   sees-second f n s e b m rest h =
       let fits : word < 2 ^ length ps = rw e b in
       let l : f.price + 1 ≤ n.price = omega (arith, s.apart) in
@@ -488,3 +488,13 @@ module _ (bound last : ℕ) (ps : List Response) (word : ℕ) where
         low = s.low;
         found = rest-found fits f.price m rest n.price n y (finds-end (f.price + 1) n l (sees-small f n 0 s).1 s.second);
       }
+
+-- what a look finds
+pub two-found : (bound last : ℕ) (ps : List Response) (word : ℕ) (f n : Found) → length ps ≡ 64 → word < 2 ^ 64 → Sees bound last ps word f n 0 → Two bound last ps word f n
+two-found bound last ps word f n e h s =
+    record {
+      first = sees-first bound last ps word f n s;
+      second = λ l.
+          sees-second bound last ps word f n s e h (word_of (λ r. not (works_at bound f.price r)) word ps)
+          (omega (arith, word_split (works_at bound f.price) word ps (rw e h))) l;
+    }

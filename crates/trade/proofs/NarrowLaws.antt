@@ -9,14 +9,15 @@ use native.Mathlib.Omega.{arith}
 use borrow.Author.Tests.{le-leb, lt-leb, eqb-true, eqb-false}
 use lib.Dec.{leb, ltb, eqb}
 use lib.ListN.{length, get_or}
-use Rattle.words.specs.rules.Bits.{with_bit, without_bit, ones_in}
+use Rattle.std.specs.Prelude.{Some}
+use Rattle.words.specs.rules.Bits.{with_bit, ones_in, TakesLowest}
 use Rattle.base.specs.Lists.{keep, filter, sum}
 use Rattle.base.proofs.Numbers.{le-or-lt}
 use Rattle.base.proofs.ListLaws.{filter-length}
 use Rattle.board.specs.declared.Response.{Response}
 use Rattle.board.specs.rules.Board.{no_response, live_in}
 use Rattle.board.specs.inside.Places.{word_of}
-use Rattle.board.proofs.LiveLaws.{none-live, count-live, word-filters, Sifted, sift-start, sift-step, sift-end}
+use Rattle.board.proofs.LiveLaws.{none-live, count-live, word-filters, Sifted, sift-start, sift-end}
 use Rattle.share.specs.rules.Share.{fractions, leftover_count, how_many}
 use Rattle.share.specs.rules.Fills.{sizes}
 use Rattle.share.specs.inside.Cut.{Cuts}
@@ -24,8 +25,8 @@ use Rattle.share.proofs.ShareLaws.{wholes, left-at-most, cut-whole}
 use Rattle.share.proofs.CutLaws.{cut-upper, cut-lower, cut_level, some_upper, upper-lower}
 use Rattle.trade.specs.declared.Among.{Among}
 use Rattle.trade.specs.declared.Upper.{Upper}
-use Rattle.trade.specs.inside.Code.{fractions_in, Short, no_cut, mean_of, among_of, counted_of, narrowed_of}
-use Rattle.trade.proofs.CodeLaws.{Turn, fractions-turn, fractions-none, fractions-length, live-short}
+use Rattle.trade.specs.inside.Code.{fractions_in, Short, is_upper, UpperOf, no_cut, mean_of, among_of, counted_of, narrowed_of}
+use Rattle.trade.proofs.CodeLaws.{taken, sift-taken, fractions-turn, fractions-none, fractions-length, live-short}
 use Rattle.trade.proofs.StepLaws.{word-le, word-rest}
 
 -- ---- the mean of n numbers, rounded up
@@ -73,9 +74,6 @@ module _ (R T : ℕ) (ps : List Response) where
   abbrev fs : ℕ → List ℕ
   fs w = fractions_in R T ps w
 
-  abbrev is_upper : ℕ → Response → Bool
-  is_upper mean r = leb mean (R * r.size % T)
-
   -- places among which the cut of k over the word is looked for
   pub record Seeks (word k : ℕ) (a : Among) : Type 0 where
     pub fit : a.word < 2 ^ 64
@@ -90,7 +88,7 @@ module _ (R T : ℕ) (ps : List Response) where
   -- of these, u has the upper ones, but for those of rest, which are still to be looked at
   pub record Looked (a : Among) (u : Upper) (rest : ℕ) : Type 0 where
     pub fit : rest < 2 ^ 64
-    pub sifted : Sifted (is_upper a.mean) ps a.word u.word rest
+    pub sifted : Sifted (is_upper R T a.mean) ps a.word u.word rest
     pub upper : sum (filter (leb a.mean) (fs a.word)) ≡ u.sum + sum (filter (leb a.mean) (fs rest))
 
   -- the upper ones and the others are some each, and the half that has the cut is less than all
@@ -146,18 +144,36 @@ module _ (R T : ℕ) (ps : List Response) (e : length ps ≡ 64) where
     pub seeks-start : total ≤ 70368744161280 → 0 < total / T → word < 2 ^ 64 → Seeks R T ps word left (among_of word total (total / T))
     seeks-start l p h = rw wholes-left (seeks-of word left word total left h q l (rw wholes-left at p) start-many (λ c s _ g. g))
 
-  pub looked-start : (a : Among) (rest : ℕ) → rest ≡ a.word → rest < 2 ^ 64 → Looked R T ps a (record { word = 0; sum = 0 }) rest
-  looked-start a rest q h = rw q (record { fit = rw q at h; sifted = sift-start (is_upper R T ps a.mean) ps a.word; upper = omega arith })
+  pub looked-start : (a : Among) → a.word < 2 ^ 64 → Looked R T ps a (record { word = 0; sum = 0 }) a.word
+  looked-start a h = record { fit = h; sifted = sift-start (is_upper R T a.mean) ps a.word; upper = omega arith }
 
-  pub looked-step : (a : Among) (u v : Upper) (rest i x : ℕ) → Turn ps rest i → x ≡ R * (get_or ps i no_response).size % T
-      → v.word ≡ cond (leb a.mean x) (with_bit u.word i) u.word → v.sum ≡ u.sum + cond (leb a.mean x) x 0 → without_bit rest i < 2 ^ 64
-      → Looked R T ps a u rest → Looked R T ps a v (without_bit rest i)
-  looked-step a u v rest i x t q w s f l =
-      let c : fs R T ps rest ≡ x ∷ fs R T ps (without_bit rest i) = rw q (fractions-turn R T ps rest i t) in
+  module _ (a : Among) (u : Upper) (rest i v x : ℕ) (t : TakesLowest rest (Some i) v) (q : x ≡ R * (get_or ps i no_response).size % T) (l : Looked R T ps a u rest) where
+    looked-sum : u.sum + cond (leb a.mean x) x 0 + sum (filter (leb a.mean) (fs R T ps v)) ≡ sum (filter (leb a.mean) (fs R T ps a.word))
+    looked-sum =
+        let k = taken ps rest i v e l.fit t in
+        let c : fs R T ps rest ≡ x ∷ fs R T ps v = rw (q, k.1) (fractions-turn R T ps rest i k.0) in
+        omega (arith, l.upper, ap (λ (xs : List ℕ). sum (filter (leb a.mean) xs)) c ∙ sum-cons (leb a.mean) x (fs R T ps v))
+
+    -- no more than all
+    pub looked-low : a.mean ≤ x → u.sum + x ≤ sum (fs R T ps a.word)
+    looked-low h = omega (arith, rw (le-leb a.mean x h) at looked-sum, sum-split (leb a.mean) (fs R T ps a.word))
+
+    pub looked-upper : a.mean ≤ x → Looked R T ps a (record { word = with_bit u.word i; sum = u.sum + x }) v
+    looked-upper h =
+        let k = sift-taken (is_upper R T a.mean) ps a.word u.word rest i v true e l.fit t (rw (← q) (le-leb a.mean x h)) l.sifted in
+        record { fit = k.0; sifted = k.1; upper = sym (rw (le-leb a.mean x h) at looked-sum) }
+
+    pub looked-lower : x < a.mean → Looked R T ps a u v
+    looked-lower h =
+        let k = sift-taken (is_upper R T a.mean) ps a.word u.word rest i v false e l.fit t (rw (← q) (lt-leb a.mean x h)) l.sifted in
+        record { fit = k.0; sifted = k.1; upper = omega (arith, rw (lt-leb a.mean x h) at looked-sum) }
+
+  pub looked-all : (a : Among) (u : Upper) → Looked R T ps a u 0 → UpperOf R T ps a u
+  unfolding sum filter
+  looked-all a u l =
       record {
-        fit = f;
-        sifted = rw (w, q) (sift-step (is_upper R T ps a.mean) ps a.word u.word rest i no_response (omega (arith, t.low)) t.low t.set l.sifted);
-        upper = omega (arith, l.upper, s, ap (λ (xs : List ℕ). sum (filter (leb a.mean) xs)) c ∙ sum-cons (leb a.mean) x (fs R T ps (without_bit rest i)));
+        word-is = sift-end (is_upper R T a.mean) ps a.word u.word l.sifted;
+        sum-is = omega (arith, l.upper, ap (λ (xs : List ℕ). sum (filter (leb a.mean) xs)) (fractions-none R T ps));
       }
 
   module _ (word k : ℕ) (a : Among) (seeks : Seeks R T ps word k a) where
@@ -168,38 +184,38 @@ module _ (R T : ℕ) (ps : List Response) (e : length ps ≡ 64) where
     mean-at-most = rw (seeks.mean-is, many a.word, ← seeks.sum_is) (mean-least a.sum (ones_in 64 a.word) (omega (arith, seeks.some, seeks.enough)))
 
     -- what is upper comes to no more than all
-    pub upper-low : (u : Upper) (rest : ℕ) → Looked R T ps a u rest → u.sum ≤ a.sum
-    upper-low u rest l = omega (arith, l.upper, seeks.sum_is, sum-split (leb a.mean) (fs R T ps a.word))
+    upper-low : (u : Upper) → UpperOf R T ps a u → u.sum ≤ a.sum
+    upper-low u l = omega (arith, l.sum-is, seeks.sum_is, sum-split (leb a.mean) (fs R T ps a.word))
 
     all_fit : a.word < 2 ^ length ps
     all_fit = rw e seeks.fit
 
     -- where all are upper, all are at the mean, and that is the cut
-    pub cut-found : (u : Upper) (rest : ℕ) → Looked R T ps a u rest → u.word ≡ a.word → Cuts k (fs R T ps word) a.mean a.leftovers
-    cut-found u rest l q =
-        let w : word_of (is_upper R T ps a.mean) a.word ps ≡ a.word = omega (arith, l.sifted.total, word-le (is_upper R T ps a.mean) a.word ps all_fit) in
+    cut-found : (u : Upper) → UpperOf R T ps a u → u.word ≡ a.word → Cuts k (fs R T ps word) a.mean a.leftovers
+    cut-found u l q =
+        let w : word_of (is_upper R T a.mean) a.word ps ≡ a.word = sym l.word-is ∙ q in
         let f : filter (leb a.mean) (fs R T ps a.word) ≡ fs R T ps a.word =
-        sym (fractions-filter (leb a.mean) (live_in a.word ps)) ∙ ap (λ (rs : List Response). fractions R T (sizes rs)) (sym (word-filters (is_upper R T ps a.mean) a.word ps)) ∙ ap (fs R T ps) w in
+        sym (fractions-filter (leb a.mean) (live_in a.word ps)) ∙ ap (λ (rs : List Response). fractions R T (sizes rs)) (sym (word-filters (is_upper R T a.mean) a.word ps)) ∙ ap (fs R T ps) w in
         seeks.leads a.mean a.leftovers seeks.some
         (cut_level a.mean a.leftovers (fs R T ps a.word) (ap length f) (omega (arith, mean-at-least, seeks.sum_is)) (omega (arith, many a.word, seeks.enough)))
 
     -- else it is in one of the halves
-    module _ (u : Upper) (l : Looked R T ps a u 0) (q : u.word ≡ a.word → ⊥) where
-      upper-word : u.word ≡ word_of (is_upper R T ps a.mean) a.word ps
-      upper-word = sift-end (is_upper R T ps a.mean) ps a.word u.word l.sifted
+    module _ (u : Upper) (l : UpperOf R T ps a u) (q : u.word ≡ a.word → ⊥) where
+      upper-word : u.word ≡ word_of (is_upper R T a.mean) a.word ps
+      upper-word = l.word-is
 
       uppers : fs R T ps u.word ≡ filter (leb a.mean) (fs R T ps a.word)
       uppers =
           ap (fs R T ps) upper-word
-          ∙ ap (λ (rs : List Response). fractions R T (sizes rs)) (word-filters (is_upper R T ps a.mean) a.word ps)
+          ∙ ap (λ (rs : List Response). fractions R T (sizes rs)) (word-filters (is_upper R T a.mean) a.word ps)
           ∙ fractions-filter (leb a.mean) (live_in a.word ps)
 
       upper_in : u.word ≤ a.word
-      upper_in = rw upper-word (word-le (is_upper R T ps a.mean) a.word ps all_fit)
+      upper_in = rw upper-word (word-le (is_upper R T a.mean) a.word ps all_fit)
 
       others : fs R T ps (a.word - u.word) ≡ filter (λ x. not (leb a.mean x)) (fs R T ps a.word)
       others =
-          ap (λ (rs : List Response). fractions R T (sizes rs)) (word-rest (is_upper R T ps a.mean) a.word (a.word - u.word) ps all_fit (omega (arith, upper-word, upper_in)))
+          ap (λ (rs : List Response). fractions R T (sizes rs)) (word-rest (is_upper R T a.mean) a.word (a.word - u.word) ps all_fit (omega (arith, upper-word, upper_in)))
           ∙ fractions-filter (λ x. not (leb a.mean x)) (live_in a.word ps)
 
       upper-many : ones_in 64 u.word ≡ how_many (leb a.mean) (fs R T ps a.word)
@@ -216,8 +232,7 @@ module _ (R T : ℕ) (ps : List Response) (e : length ps ≡ 64) where
       others-some h = omega (arith, both-many, seeks.enough)
 
       upper-sum : u.sum ≡ sum (fs R T ps u.word)
-      unfolding sum filter
-      upper-sum = omega (arith, l.upper, ap (λ (xs : List ℕ). sum (filter (leb a.mean) xs)) (fractions-none R T ps), ap sum uppers)
+      upper-sum = l.sum-is ∙ ap sum (sym uppers)
 
       others-sum : a.sum - u.sum ≡ sum (fs R T ps (a.word - u.word))
       others-sum = omega (arith, upper-sum, ap sum uppers, ap sum others, sum-split (leb a.mean) (fs R T ps a.word), seeks.sum_is)
@@ -227,7 +242,7 @@ module _ (R T : ℕ) (ps : List Response) (e : length ps ≡ 64) where
       narrowed-seeks =
           ⊎_elim
           (λ h. rw (← narrowed-upper a u h)
-          (seeks-of word k u.word u.sum a.leftovers (omega (arith, upper_in, seeks.fit)) upper-sum (omega (arith, upper-low u 0 l, seeks.low)) seeks.some h
+          (seeks-of word k u.word u.sum a.leftovers (omega (arith, upper_in, seeks.fit)) upper-sum (omega (arith, upper-low u l, seeks.low)) seeks.some h
           (λ c s p g. seeks.leads c s p (cut-upper a.mean a.leftovers c s (fs R T ps a.word) p (rw (← uppers) g)))))
           (λ h. rw (← narrowed-lower a u h)
           (seeks-of word k (a.word - u.word) (a.sum - u.sum) (a.leftovers - ones_in 64 u.word) (omega (arith, seeks.fit)) others-sum (omega (arith, seeks.low)) (omega arith) (omega (arith, both-many, seeks.enough))
@@ -255,31 +270,19 @@ module _ (R T : ℕ) (ps : List Response) (e : length ps ≡ 64) where
               ⊎_elim (λ g. g) (λ g. absurd (omega (arith, upper-some, many u.word, fractions-length R T (live_in u.word ps), none u.word (omega arith)))) (le-or-lt 1 u.word)
 
       pub halves : Halves R T ps word k a u
-      halves = record { upper_in = upper_in; upper-low = upper-low u 0 l; upper-some = upper-some; others-some = others-some; seeks = narrowed-seeks; less = narrowed-less }
+      halves = record { upper_in = upper_in; upper-low = upper-low u l; upper-some = upper-some; others-some = others-some; seeks = narrowed-seeks; less = narrowed-less }
 
 -- ---- the search over the places of a word
 
--- what the search has still to do
-abbrev pub seek_work : List Response → Among → ℕ → ℕ
-seek_work ps a rest = a.word * 65 + length (live_in rest ps)
-
-abbrev none : Upper
-none = record { word = 0; sum = 0 }
-
 module _ (R T : ℕ) (ps : List Response) (word : ℕ) where
-  abbrev leftover : ℕ
+  abbrev pub leftover : ℕ
   leftover = leftover_count R (sizes (live_in word ps))
 
   -- where the search stands: there are places to look among, or there are no leftovers
-  pub record Search (a : Among) (u : Upper) (rest : ℕ) : Type 0 where
+  pub record Search (a : Among) : Type 0 where
     pub fit : a.word < 2 ^ 64
-    pub looked : Looked R T ps a u rest
-    pub whole : a.word ≡ 0 → (u.word ≡ 0) × Cuts leftover (fs R T ps word) a.mean a.leftovers
+    pub whole : a.word ≡ 0 → Cuts leftover (fs R T ps word) a.mean a.leftovers
     pub seeks : 0 < a.word → Seeks R T ps word leftover a
-
-  -- where the cut is not found, there are some
-  pub search-some : (a : Among) (u : Upper) (rest : ℕ) → Search a u rest → u.word ≢ a.word → 0 < a.word
-  search-some a u rest k q = ⊎_elim (λ g. g) (λ g. let z : a.word ≡ 0 = omega arith in absurd (q ((k.whole z).0 ∙ sym z))) (le-or-lt 1 a.word)
 
 -- the sizes come to T, which is more than R
 module _ (R T : ℕ) (ps : List Response) (e : length ps ≡ 64) (word : ℕ) (v : Short ps word R T) (fits : word < 2 ^ 64) where
@@ -304,16 +307,15 @@ module _ (R T : ℕ) (ps : List Response) (e : length ps ≡ 64) (word : ℕ) (v
     pub counts : (0 < T) × (total ≤ 70368744161280) × (0 < total / T → 0 < ones_in 64 word)
     counts = (omega (arith, v.short), omega (arith, sum_low word), start-some R T ps e word total v q)
 
-    pub search-start : Search R T ps word (counted_of false word total T) none (counted_of false word total T).word
+    pub search-start : Search R T ps word (counted_of word total T)
     unfolding counted_of no_cut among_of
     search-start = go (eqb (total / T) 0) refl
       where
-        go : (b : Bool) → eqb (total / T) 0 ≡ b → Search R T ps word (cond b (no_cut T) (among_of word total (total / T))) none (cond b (no_cut T) (among_of word total (total / T))).word
+        go : (b : Bool) → eqb (total / T) 0 ≡ b → Search R T ps word (cond b (no_cut T) (among_of word total (total / T)))
         go true z =
             record {
               fit = omega arith;
-              looked = looked-start R T ps e (no_cut T) 0 refl (omega arith);
-              whole = λ _. (refl, rw (sym (wholes-left R T ps e word total v q) ∙ eqb-true (total / T) 0 z) (cut-whole R T (sizes (live_in word ps)) (omega (arith, v.short))));
+              whole = λ _. rw (sym (wholes-left R T ps e word total v q) ∙ eqb-true (total / T) 0 z) (cut-whole R T (sizes (live_in word ps)) (omega (arith, v.short)));
               seeks = λ h. absurd (omega arith);
             }
         go false z =
@@ -321,51 +323,35 @@ module _ (R T : ℕ) (ps : List Response) (e : length ps ≡ 64) (word : ℕ) (v
             let some : 0 < word = ones-some word (start-some R T ps e word total v q (omega arith)) in
             record {
               fit = fits;
-              looked = looked-start R T ps e (among_of word total (total / T)) word refl fits;
               whole = λ h. absurd (omega (arith, some));
               seeks = λ _. seeks-start R T ps e word total v q (omega (arith, sum_low word)) (omega arith) fits;
             }
 
-  -- what is upper is a sum of fractions
-  pub upper-within : (a : Among) (u : Upper) (rest : ℕ) → Search R T ps word a u rest → u.sum ≤ 70368744161280
-  upper-within a u rest k = omega (arith, k.looked.upper, sum-split (leb a.mean) (fs R T ps a.word), sum_low a.word)
+  -- those whose fraction is at least the mean are found
+  module _ (a : Among) (u : Upper) (k : Search R T ps word a) (l : UpperOf R T ps a u) where
+    -- they are all, and the cut is the mean, or there are none to look among
+    pub search-end : u.word ≡ a.word → Cuts (leftover R T ps word) (fs R T ps word) a.mean a.leftovers
+    search-end q = ⊎_elim (λ g. cut-found R T ps e word (leftover R T ps word) a (k.seeks g) u l q) (λ g. let z : a.word ≡ 0 = omega arith in k.whole z) (le-or-lt 1 a.word)
 
-  pub search-look : (a : Among) (u w : Upper) (rest i x : ℕ) → 0 < a.word → Turn ps rest i → x ≡ R * (get_or ps i no_response).size % T
-      → w.word ≡ cond (leb a.mean x) (with_bit u.word i) u.word → w.sum ≡ u.sum + cond (leb a.mean x) x 0
-      → Search R T ps word a u rest → Search R T ps word a w (without_bit rest i)
-  search-look a u w rest i x some t q ew es k =
-      record {
-        fit = k.fit;
-        looked = looked-step R T ps e a u w rest i x t q ew es (omega (arith, t.less, k.looked.fit)) k.looked;
-        whole = λ z. absurd (omega (arith, some));
-        seeks = k.seeks;
-      }
+    -- they are not, and it goes on in the half that has the cut
+    module _ (q : u.word ≢ a.word) where
+      none-within : a.word ≡ 0 → u.word ≡ 0
+      none-within z = omega (arith, l.word-is, word-le (is_upper R T a.mean) a.word ps (rw e k.fit))
 
-  -- it is found, or there is none
-  pub search-end : (a : Among) (u : Upper) (rest : ℕ) → Search R T ps word a u rest → u.word ≡ a.word → Cuts (leftover R T ps word) (fs R T ps word) a.mean a.leftovers
-  search-end a u rest k q =
-      ⊎_elim (λ g. cut-found R T ps e word (leftover R T ps word) a (k.seeks g) u rest k.looked q) (λ g. let z : a.word ≡ 0 = omega arith in (k.whole z).1) (le-or-lt 1 a.word)
+      abbrev some : 0 < a.word
+      some = ⊎_elim (λ g. g) (λ g. let z : a.word ≡ 0 = omega arith in absurd (q (none-within z ∙ sym z))) (le-or-lt 1 a.word)
 
-  -- all were looked at, and it goes on in the half that has the cut
-  module _ (a : Among) (u : Upper) (k : Search R T ps word a u 0) (q : u.word ≢ a.word) where
-    abbrev some : 0 < a.word
-    some = search-some R T ps word a u 0 k q
+      pub search-halves : Halves R T ps word (leftover R T ps word) a u
+      search-halves = halves R T ps e word (leftover R T ps word) a (k.seeks some) u l q
 
-    pub search-halves : Halves R T ps word (leftover R T ps word) a u
-    search-halves = halves R T ps e word (leftover R T ps word) a (k.seeks some) u k.looked q
+      pub search-low : a.sum ≤ 70368744161280
+      search-low = (k.seeks some).low
 
-    pub search-low : a.sum ≤ 70368744161280
-    search-low = (k.seeks some).low
-
-    pub search-next : Search R T ps word (narrowed_of a u) none (narrowed_of a u).word
-    search-next =
-        let s = search-halves.seeks in
-        record {
-          fit = s.fit;
-          looked = looked-start R T ps e (narrowed_of a u) (narrowed_of a u).word refl s.fit;
-          whole = λ z. absurd (omega (arith, ones-some (narrowed_of a u).word (omega (arith, s.enough, s.some))));
-          seeks = λ _. s;
-        }
-
-    pub search-less : seek_work ps (narrowed_of a u) (narrowed_of a u).word < seek_work ps a 0
-    search-less = omega (arith, search-halves.less, live-short (narrowed_of a u).word ps)
+      pub search-next : Search R T ps word (narrowed_of a u)
+      search-next =
+          let s = search-halves.seeks in
+          record {
+            fit = s.fit;
+            whole = λ z. absurd (omega (arith, ones-some (narrowed_of a u).word (omega (arith, s.enough, s.some))));
+            seeks = λ _. s;
+          }

@@ -1,27 +1,30 @@
 -- The near places: what stands at the lowest price among them stands there among all that are left.
 use mathlib.Core.Path.{◌≡◌, refl, sym, ap, subst, ◌∙◌}
-use mathlib.Core.Bool.{Bool, true, false, cond, not, ◌&&◌, ◌||◌, and-false, false≢true}
+use mathlib.Core.Bool.{Bool, true, false, cond, not, ◌&&◌, false≢true}
 use mathlib.Core.List.{List, [], ◌∷◌}
 use mathlib.Core.Logic.{◌⊎◌, ◌≢◌, inl, inr, ⊎_elim}
+use Rattle.std.specs.Prelude.{Option, Some, None, unwrap_or}
 use Prim.Native.Nat.{ℕ, zero, suc, ◌+◌, ◌*◌, ◌/◌, ◌%◌, ◌^◌, ◌≤◌, ◌<◌, min, max}
 use native.Mathlib.Omega.{arith}
-use borrow.Author.Tests.{not-true, not-false, eqb-true, eqb-false, eq-eqb, ne_eqb, ltb-true, ltb-false}
+use Rattle.std.proofs.lemmas.Option.{none-some}
+use borrow.Author.Tests.{not-false, eqb-true, eq-eqb, ne_eqb, ltb-true, ltb-false}
 use lib.Bits.{bit_and, and_step, and_zero_l, and_zero_r, and_comm, and_self, and_le_r}
-use lib.Dec.{eqb, ltb}
+use lib.Dec.{eqb}
 use lib.ListN.{length}
 use Rattle.words.specs.rules.Bits.{count_trailing_zeros}
-use Rattle.base.proofs.Bools.{and_left, and_right, bool-or, by}
+use Rattle.base.proofs.Bools.{by}
 use Rattle.base.proofs.ListLaws.{filter-filter, filter-test}
 use Rattle.base.specs.Lists.{keep, filter, In}
 use Rattle.board.specs.declared.Response.{Response}
 use Rattle.board.specs.rules.Board.{response_at, live_in}
 use Rattle.board.specs.inside.Places.{word_of}
 use Rattle.board.proofs.LiveLaws.{word-filters}
+use Rattle.trade.specs.declared.Deal.{Deal}
 use Rattle.trade.specs.declared.Found.{Found}
 use Rattle.trade.specs.declared.Walked.{Walked}
-use Rattle.trade.specs.inside.Code.{works_at, customer_at, other_at, least_of, Stands, or_all, due_of}
+use Rattle.trade.specs.inside.Code.{works_at, customer_at, other_at, least_of, Stands, Two, or_all, close_of, due_of, limit_of, below, chosen_of, sorted_of, FoundNext, walk_from}
 use Rattle.trade.proofs.CodeLaws.{Turn, turn-of}
-use Rattle.trade.proofs.FoundLaws.{Sees, sees-second, word-within}
+use Rattle.trade.proofs.FoundLaws.{word-within}
 use Rattle.trade.proofs.StepLaws.{word_split, word-all, word-le, word-left}
 
 -- ---- words and `bit_and`
@@ -80,10 +83,6 @@ none_or : (n : ℕ) → (n ≡ 0) ⊎ (n ≢ 0)
 none_or zero = inl refl
 none_or (suc n) = inr (λ z. omega arith)
 
--- those that work below a limit
-abbrev pub below : ℕ → ℕ → Response → Bool
-below bound limit r = ltb (max r.price bound) limit
-
 module _ (bound : ℕ) (ps : List Response) where
   -- of the places of rest, those of near work below all others
   pub record Near (near rest : ℕ) : Type 0 where
@@ -106,18 +105,10 @@ module _ (bound : ℕ) (ps : List Response) where
       }
 
   -- near ones are chosen: those below a limit, or all where there is none
-  pub near-chosen : (limit kept near rest : ℕ) → rest < 2 ^ length ps → kept ≡ word_of (below bound limit) rest ps → near ≡ or_all kept rest
-      → Near near rest × (rest ≢ 0 → bit_and near rest ≢ 0)
-  near-chosen limit kept near rest h e f =
-      ⊎_elim
-      (λ z.
-      let g : near ≡ rest = f ∙ ap (λ (b : Bool). cond b rest kept) z in
-      (rw g (near-all rest h), λ n y. n (sym (and_self rest) ∙ ap (λ (k : ℕ). bit_and k rest) (sym g) ∙ y)))
-      (λ z.
-      let g : near ≡ kept = f ∙ ap (λ (b : Bool). cond b rest kept) z in
-      let m : kept ≢ 0 = eqb-false kept 0 z in
-      (rw (g ∙ e) (near-below limit rest), λ n y. m (e ∙ sym (word_in (below bound limit) rest ps) ∙ ap (λ (k : ℕ). bit_and k rest) (sym (g ∙ e)) ∙ y)))
-      (bool-or (eqb kept 0))
+  near-chosen : (limit rest : ℕ) → rest < 2 ^ length ps → Near (or_all (word_of (below bound limit) rest ps) rest) rest
+  near-chosen limit rest h =
+      by (λ near. Near near rest) (eqb (word_of (below bound limit) rest ps) 0) rest (word_of (below bound limit) rest ps)
+      (λ e. near-all rest h) (λ e. near-below limit rest)
 
   -- they stay near where some of rest are gone
   pub near-left : (t : Response → Bool) (near rest m : ℕ) → rest < 2 ^ length ps → m + word_of t rest ps ≡ rest → Near near rest → Near near m
@@ -238,38 +229,59 @@ module _ (bound : ℕ) (ps : List Response) where
         (λ z. near-stands last f s z (rw (over-close z) at k))
         (none_or (bit_and near rest))
 
--- ---- whether near ones are to be chosen anew
+-- ---- near ones are chosen anew where that is due
 
-pub due-some : (s : Walked) (n : Found) (close : ℕ) → due_of s n close ≡ true → (close ≡ 0) × (s.rest ≢ 0)
+-- where it is not, though none of them is left and the next price is known to have no place, no place is left
+due-none : (s : Walked) (n : Found) → s.next ≡ Some n → close_of s ≡ 0 → s.from ≢ 0 → n.customers ≡ 0 → n.others ≡ 0 → due_of s ≡ false → s.rest ≡ 0
 unfolding due_of
-due-some s n close e =
-    let from = not (eqb s.from 0) in
-    let known = not (s.known && (not (eqb n.customers 0) || not (eqb n.others 0))) in
-    let some = not (eqb s.rest 0) in
-    (eqb-true close 0 (and_left (eqb close 0) _ e), eqb-false s.rest 0 (not-true (eqb s.rest 0) (and_right known some (and_right from (known && some) (and_right (eqb close 0) (from && (known && some)) e)))))
+due-none s n k z f c o e =
+    eqb-true s.rest 0 (not-false (eqb s.rest 0) (rw (eq-eqb (close_of s) 0 z, ne_eqb s.from 0 f, k, eq-eqb n.customers 0 c, eq-eqb n.others 0 o) at e))
 
--- where they are not, though none of them is left and none is known to come, no place is left
-due-none : (s : Walked) (n : Found) (close : ℕ) → close ≡ 0 → s.from ≢ 0 → n.customers ≡ 0 → n.others ≡ 0 → due_of s n close ≡ false → s.rest ≡ 0
-unfolding due_of
-due-none s n close z f c o e =
-    eqb-true s.rest 0 (not-false (eqb s.rest 0) (rw (eq-eqb close 0 z, ne_eqb s.from 0 f, eq-eqb n.customers 0 c, eq-eqb n.others 0 o, and-false s.known) at e))
+-- what holds of a walk after that
+pub record Sorted (bound last : ℕ) (ps : List Response) (s n : Walked) : Type 0 where
+  pub from : n.from ≡ s.from
+  pub rest : n.rest ≡ s.rest
+  pub left : n.left ≡ s.left
+  pub held : n.held ≡ s.held
+  pub at : n.at ≡ s.at
+  pub near : Near bound ps n.near n.rest
+  pub known : (f : Found) → n.next ≡ Some f → (s.next ≡ Some f) × (due_of s ≡ false)
 
--- a turn more, where near ones are to be chosen
-unfoldable pub choosing : ℕ → ℕ
-choosing close = cond (eqb close 0) 1 0
+pub sorts : (bound last : ℕ) (ps : List Response) (s : Walked) → s.rest < 2 ^ length ps → Near bound ps s.near s.rest → Sorted bound last ps s (sorted_of bound last ps s)
+unfolding sorted_of
+sorts bound last ps s h k =
+    by (Sorted bound last ps s) (due_of s) (chosen_of bound last ps s) s
+    (λ e. record { from = refl; rest = refl; left = refl; held = refl; at = refl; near = near-chosen bound ps (limit_of s.from last) s.rest h; known = λ f q. absurd (none-some f q) })
+    (λ e. record { from = refl; rest = refl; left = refl; held = refl; at = refl; near = k; known = λ f q. (q, e) })
 
-pub choosing-le : (close : ℕ) → choosing close ≤ 1
-unfolding choosing
-choosing-le close = by (λ (n : ℕ). n ≤ 1) (eqb close 0) 1 0 (λ e. omega arith) (λ e. omega arith)
+-- what is to come is the same
+pub sorted-walk : (d : Deal) (rs : List Response) (bound last : ℕ) (ps : List Response) (s n : Walked) → Sorted bound last ps s n → walk_from d rs s.from s.left s.held ≡ walk_from d rs n.from n.left n.held
+sorted-walk d rs bound last ps s n k = rw (k.from, k.left, k.held)
 
-pub choosing-done : (close next : ℕ) → close ≡ 0 → next ≢ 0 → choosing next < choosing close
-unfolding choosing
-choosing-done close next e f = rw (eq-eqb close 0 e, ne_eqb next 0 f) (omega arith)
+-- what stands at the next price
+pub arrives : (bound last : ℕ) (ps : List Response) → length ps ≡ 64 → (s : Walked) → s.rest < 2 ^ 64 → Near bound ps s.near s.rest → ((n : Found) → s.next ≡ Some n → Stands bound last ps s.rest n)
+    → (f : Found) (found : Option Found) → FoundNext bound last ps s f found → Stands bound last ps s.rest f
+arrives bound last ps e s h a known f found k = go s.next refl
+  where
+    go : (next : Option Found) → s.next ≡ next → Stands bound last ps s.rest f
+    go None q = look-first bound ps e s.near s.rest h last f a (k.fresh q).2.first
+    go (Some n) q = rw (k.known n q).0 (known n q)
 
--- the next price, where its places are not to be chosen first: m has the places of rest without those at the lowest price
-pub look-next : (bound last : ℕ) (ps : List Response) → length ps ≡ 64 → (near rest : ℕ) → rest < 2 ^ 64 → Near bound ps near rest → (f n : Found) → Sees bound last ps (or_all (bit_and near rest) rest) f n 0 → f.price < last
-    → (m : ℕ) → m + word_of (works_at bound f.price) rest ps ≡ rest → (s : Walked) → s.rest ≡ m → s.from ≢ 0 → due_of s n (bit_and near m) ≡ false → Stands bound last ps m n
-look-next bound last ps e near rest h a f n k l m g s r z d = ⊎_elim all some (none_or (bit_and near rest))
+-- and at the one after it
+pub found-two : (bound last : ℕ) (ps : List Response) (s : Walked) (f : Found) (found : Option Found) → FoundNext bound last ps s f found → (n : Found) → found ≡ Some n → Two bound last ps (or_all (close_of s) s.rest) f n
+found-two bound last ps s f found k n q = go s.next refl
+  where
+    go : (next : Option Found) → s.next ≡ next → Two bound last ps (or_all (close_of s) s.rest) f n
+    go None z =
+        let m = k.fresh z in
+        let same : m.0 ≡ n = ap (λ (o : Option Found). unwrap_or o f) (sym m.1 ∙ q) in
+        rw same at m.2
+    go (Some m) z = absurd (none-some n (sym (k.known m z).1 ∙ q))
+
+-- the next price, where near ones are not to be chosen first: a look found f at the lowest price, and those of rest that do not work there are left
+pub look-next : (bound last : ℕ) (ps : List Response) → length ps ≡ 64 → (s : Walked) (rest : ℕ) → rest < 2 ^ 64 → Near bound ps s.near rest → (f n : Found) → Two bound last ps (or_all (bit_and s.near rest) rest) f n → f.price < last
+    → s.rest + word_of (works_at bound f.price) rest ps ≡ rest → s.next ≡ Some n → s.from ≢ 0 → due_of s ≡ false → Stands bound last ps s.rest n
+look-next bound last ps e s rest h a f n k l g r z d = ⊎_elim all some (none_or (bit_and s.near rest))
   where
     t : Response → Bool
     t = works_at bound f.price
@@ -277,27 +289,34 @@ look-next bound last ps e near rest h a f n k l m g s r z d = ⊎_elim all some 
     fit : rest < 2 ^ length ps
     fit = rw e h
 
-    all : bit_and near rest ≡ 0 → Stands bound last ps m n
-    all y = sees-second bound last ps rest f n (rw (over-all bound ps e near rest h y) at k) e h m g l
+    -- those of a word that are left
+    second : (w m : ℕ) → w < 2 ^ length ps → Two bound last ps w f n → m + word_of t w ps ≡ w → Stands bound last ps m n
+    second w m b two q = rw (word-left t w m ps b q) (two.second l)
 
-    some : bit_and near rest ≢ 0 → Stands bound last ps m n
-    some y = ⊎_elim none more (none_or (bit_and near m))
+    all : bit_and s.near rest ≡ 0 → Stands bound last ps s.rest n
+    all y = second rest s.rest fit (rw (over-all bound ps e s.near rest h y) at k) g
+
+    some : bit_and s.near rest ≢ 0 → Stands bound last ps s.rest n
+    some y = ⊎_elim none more (none_or (close_of s))
       where
         close : ℕ
-        close = word_of (λ r. not (t r)) (bit_and near rest) ps
+        close = word_of (λ r. not (t r)) (bit_and s.near rest) ps
 
-        left : close + word_of t (bit_and near rest) ps ≡ bit_and near rest
-        left = omega (arith, word_split t (bit_and near rest) ps (omega (arith, and_le_r near rest, fit)))
+        close-fit : bit_and s.near rest < 2 ^ length ps
+        close-fit = omega (arith, and_le_r s.near rest, fit)
 
-        stands : Stands bound last ps (bit_and near m) n
-        stands = rw (close-left bound ps t near rest m close fit g left) (sees-second bound last ps (bit_and near rest) f n (rw (over-close bound ps e near rest h y) at k) e (omega (arith, and_le_r near rest)) close left l)
+        left : close + word_of t (bit_and s.near rest) ps ≡ bit_and s.near rest
+        left = omega (arith, word_split t (bit_and s.near rest) ps close-fit)
 
-        more : bit_and near m ≢ 0 → Stands bound last ps m n
-        more x = near-stands bound ps e near m (omega arith) last n (near-left bound ps t near rest m fit g a) x stands
+        stands : Stands bound last ps (close_of s) n
+        stands = rw (close-left bound ps t s.near rest s.rest close fit g left) (second (bit_and s.near rest) close close-fit (rw (over-close bound ps e s.near rest h y) at k) left)
 
-        none : bit_and near m ≡ 0 → Stands bound last ps m n
+        more : close_of s ≢ 0 → Stands bound last ps s.rest n
+        more x = near-stands bound ps e s.near s.rest (omega arith) last n (near-left bound ps t s.near rest s.rest fit g a) x stands
+
+        none : close_of s ≡ 0 → Stands bound last ps s.rest n
         none x =
             let c : n.customers ≡ 0 = omega (arith, ap (λ (w : ℕ). word_of (customer_at bound n.price) w ps) x, stands.found.customers, word-le (customer_at bound n.price) 0 ps (omega (arith, fit))) in
             let o : n.others ≡ 0 = omega (arith, ap (λ (w : ℕ). word_of (other_at bound n.price) w ps) x, stands.found.others, word-le (other_at bound n.price) 0 ps (omega (arith, fit))) in
-            let y : bit_and near m ≡ m = x ∙ sym (sym r ∙ due-none s n (bit_and near m) x z c o d) in
+            let y : close_of s ≡ s.rest = x ∙ sym (due-none s n r x z c o d) in
             rw y at stands

@@ -25,27 +25,27 @@ use Rattle.share.specs.inside.Fills.{WroteFills, written}
 use Rattle.trade.specs.declared.Given.{Given}
 use Rattle.trade.specs.declared.Hand.{Hand}
 use Rattle.trade.specs.declared.Price.{Price}
-use Rattle.trade.specs.inside.Code.{rank_of, Gives, hunting_of, hand_of, done_at, runs_on, met_of, next_fills, next_of, served_fills, served_of}
+use Rattle.trade.specs.inside.Code.{rank_of, Gives, hunting_of, hand_of, runs_on, met_of, next_fills, next_of, served_fills, served_of}
 use Rattle.trade.proofs.FoundLaws.{rank_rises}
 use Rattle.trade.proofs.WriteLaws.{Pick}
 
 -- ---- what the functions give, one law for each return
 
-wrote_none : (words : List ℕ) (at next : ℕ) → next ≡ at → WroteFills words at [] next words
+pub wrote_none : (words : List ℕ) (at next : ℕ) → next ≡ at → WroteFills words at [] next words
 unfolding written
 wrote_none words at next e = record { words = refl; place = omega arith }
 
 -- what is kept by a look, and what a hand is made with
 abbrev pub Kept : Bool → Bool → ℕ → ℕ → Hand → Type 0
-Kept last turns k at n = (n.last ≡ last) × (n.turns ≡ turns) × (n.k ≡ k) × (n.at ≡ at) × (n.done ≡ false)
+Kept last turns k at n = (n.last ≡ last) × (n.turns ≡ turns) × (n.k ≡ k) × (n.at ≡ at)
 
 pub hunting-kept : (last turns : Bool) (word k at : ℕ) → Kept last turns k at (hunting_of last turns word k at)
 unfolding hunting_of
-hunting-kept last turns word k at = (refl, refl, refl, refl, refl)
+hunting-kept last turns word k at = (refl, refl, refl, refl)
 
 pub hand-kept : (last turns : Bool) (word n k at : ℕ) → Kept last turns k at (hand_of last turns word n k at)
 unfolding hand_of
-hand-kept last turns word n k at = by (Kept last turns k at) (ltb n 4294967295) _ _ (λ _. (refl, refl, refl, refl, refl)) (λ _. hunting-kept last turns word k at)
+hand-kept last turns word n k at = by (Kept last turns k at) (ltb n 4294967295) _ _ (λ _. (refl, refl, refl, refl)) (λ _. hunting-kept last turns word k at)
 
 -- where the run is served
 module _ (h : Hand) (l : Price) (spare at : ℕ) where
@@ -53,21 +53,9 @@ module _ (h : Hand) (l : Price) (spare at : ℕ) where
   unfolding next_of next_fills
   late_is n = let p = ne_eqb h.late 0 n in (rw p refl, rw p refl)
 
-  pub done-is : h.late ≡ 0 → h.last ≡ true → (next_of h l spare at ≡ done_at h) × (next_fills h l ≡ [])
+  pub others-is : h.late ≡ 0 → (next_of h l spare at ≡ hand_of true l.turns l.others l.other (cond l.turns l.shared spare) at) × (next_fills h l ≡ fill_of 0 l.reported l.contra)
   unfolding next_of next_fills
-  done-is e q =
-      let p = eq-eqb h.late 0 e in (
-        ap₂ {C = Hand} (λ (a b : Bool). cond a (cond b (done_at h) (hand_of true l.turns l.others l.other (cond l.turns l.shared spare) at)) (hunting_of h.last h.turns h.late h.k h.at)) p q,
-        ap₂ {C = List Fill} (λ (a b : Bool). cond a (cond b [] (fill_of 0 l.reported l.contra)) []) p q,
-      )
-
-  pub others-is : h.late ≡ 0 → h.last ≡ false → (next_of h l spare at ≡ hand_of true l.turns l.others l.other (cond l.turns l.shared spare) at) × (next_fills h l ≡ fill_of 0 l.reported l.contra)
-  unfolding next_of next_fills
-  others-is e q =
-      let p = eq-eqb h.late 0 e in (
-        ap₂ {C = Hand} (λ (a b : Bool). cond a (cond b (done_at h) (hand_of true l.turns l.others l.other (cond l.turns l.shared spare) at)) (hunting_of h.last h.turns h.late h.k h.at)) p q,
-        ap₂ {C = List Fill} (λ (a b : Bool). cond a (cond b [] (fill_of 0 l.reported l.contra)) []) p q,
-      )
+  others-is e = let p = eq-eqb h.late 0 e in (rw p refl, rw p refl)
 
 -- the others, after the Contra Order's fill, which ends before n
 pub others-are : (turns : Bool) (word m shared spare n : ℕ) (words : List ℕ) (at : ℕ) (fs : List Fill) (ys : List ℕ) (h : Hand) (b : Bool) → turns ≡ b → WroteFills words at fs n ys → h ≡ hand_of true b word m (cond b shared spare) n
@@ -84,16 +72,13 @@ module _ (h : Hand) (l : Price) where
       let x = late_is h l spare r.at n in
       (rw x.1 (wrote_none words h.at r.at f), e ∙ sym x.0)
 
-  pub next-writes : h.late ≡ 0 → h.last ≡ false → next_fills h l ≡ fill_of 0 l.reported l.contra
-  next-writes e f = (others-is h l 0 0 e f).1
+  pub next-writes : h.late ≡ 0 → next_fills h l ≡ fill_of 0 l.reported l.contra
+  next-writes e = (others-is h l 0 0 e).1
 
-  pub next-others : (spare : ℕ) (words ys : List ℕ) (r : Hand) → h.late ≡ 0 → h.last ≡ false → WroteFills words h.at (fill_of 0 l.reported l.contra) r.at ys
+  pub next-others : (spare : ℕ) (words ys : List ℕ) (r : Hand) → h.late ≡ 0 → WroteFills words h.at (fill_of 0 l.reported l.contra) r.at ys
       → r ≡ hand_of true l.turns l.others l.other (cond l.turns l.shared spare) r.at
       → WroteFills words h.at (next_fills h l) r.at ys × (r ≡ next_of h l spare r.at)
-  next-others spare words ys r e f w q = let x = others-is h l spare r.at e f in (rw x.1 w, q ∙ sym x.0)
-
-  pub next-done : (spare : ℕ) (words : List ℕ) → h.late ≡ 0 → h.last ≡ true → WroteFills words h.at (next_fills h l) h.at words × (done_at h ≡ next_of h l spare h.at)
-  next-done spare words e f = let x = done-is h l spare h.at e f in (rw x.1 (wrote_none words h.at h.at refl), sym x.0)
+  next-others spare words ys r e w q = let x = others-is h l spare r.at e in (rw x.1 w, q ∙ sym x.0)
 
   pub served-again : (c : ℕ) (r : Response) (words : List ℕ) (n : Hand) → h.edge ≤ r.sequence → n ≡ hunting_of h.last h.turns (h.run + h.late) h.k h.at
       → WroteFills words h.at (served_fills h l c r) n.at words × (n ≡ served_of h l c r n.at)
@@ -109,7 +94,7 @@ module _ (h : Hand) (l : Price) where
   pub served-first : (c : ℕ) (r : Response) (g : Given) (words ys : List ℕ) (run n : ℕ) → r.sequence < h.edge → Gives h.turns l.shared l.total c h.k r.size g
       → run ≡ without_lowest h.run → WroteFills words h.at (fill_of r.sequence l.reported g.quantity) n ys
       → WroteFills words h.at (served_fills h l c r) n ys
-      × (◌≡◌ {A = Hand} (record { done = false; last = h.last; turns = h.turns; run = run; late = h.late; unseen = 0; edge = h.edge; first = 4294967296; latest = 0; k = g.left; at = n }) (served_of h l c r n))
+      × (◌≡◌ {A = Hand} (record { last = h.last; turns = h.turns; run = run; late = h.late; unseen = 0; edge = h.edge; first = 4294967296; latest = 0; k = g.left; at = n }) (served_of h l c r n))
   unfolding served_of
   served-first c r g words ys run n lt e q w =
       (rw (served-writes c r g lt e) w, rw (lt-leb h.edge r.sequence lt, q, e.left))
@@ -126,6 +111,11 @@ module _ (h : Hand) (t i : ℕ) where
   pub met-late : (late edge : ℕ) (r : Hand) → h.first ≤ t → t < h.latest → late ≡ with_bit h.late i → edge ≡ min h.edge (t + 1) → r ≡ runs_on h h.run late edge h.first h.latest → r ≡ met_of h t i
   unfolding met_of
   met-late late edge r ge lt e f q = rw (le-ltb t h.first ge, lt-leb h.latest t lt, ← e, ← f) q
+
+-- where one was served, none is to be looked at
+pub served-looks : (h : Hand) (l : Price) (c : ℕ) (r : Response) (at : ℕ) → 0 < (served_of h l c r at).run → (served_of h l c r at).unseen ≡ 0
+unfolding served_of hunting_of
+served-looks h l c r at = by (λ (n : Hand). 0 < n.run → n.unseen ≡ 0) (leb h.edge r.sequence) _ _ (λ _ p. absurd (omega arith)) (λ _ p. refl)
 
 -- ---- words that have no place in common
 
@@ -388,28 +378,11 @@ module _ (ps : List Response) (h : Hand) (size : length ps ≡ 64) (s : Serves p
   serves-next l spare at none gone n = rw (ne_eqb h.late 0 n) (serves-late none gone)
 
 -- the others come
-pub serves-others : (ps : List Response) (h : Hand) (l : Price) (spare at : ℕ) → length ps ≡ 64 → h.late ≡ 0 → h.last ≡ false → l.others < 2 ^ 64 → l.other ≡ rank_of 0 (live_in l.others ps)
+pub serves-others : (ps : List Response) (h : Hand) (l : Price) (spare at : ℕ) → length ps ≡ 64 → h.late ≡ 0 → l.others < 2 ^ 64 → l.other ≡ rank_of 0 (live_in l.others ps)
     → Serves ps (next_of h l spare at) × (rest_of (next_of h l spare at) ≡ l.others)
 unfolding next_of
-serves-others ps h l spare at size none e fits rank =
-    rw (eq-eqb h.late 0 none, e) (serves-hand ps size true l.turns l.others l.other (cond l.turns l.shared spare) at fits rank)
-
--- nothing more comes
-pub serves-done : (ps : List Response) (h : Hand) → Serves ps (done_at h) × (rest_of (done_at h) ≡ 0)
-unfolding done_at
-serves-done ps h = (
-  record {
-    fits = omega arith;
-    clear = λ j t u. none_in j t;
-    run-below = λ j k t u. none_in j t;
-    late_below = λ j k t u. none_in j t;
-    rises = λ j k l t u. none_in j t;
-    near = λ j t. none_in j t;
-    before = λ j k l t u v. none_in j t;
-    looks = λ o. absurd (⊎_elim (λ p. omega arith) (λ p. omega (arith, p.1)) o);
-  },
-  omega arith,
-)
+serves-others ps h l spare at size none fits rank =
+    rw (eq-eqb h.late 0 none) (serves-hand ps size true l.turns l.others l.other (cond l.turns l.shared spare) at fits rank)
 
 -- ---- a place is looked at
 
@@ -571,7 +544,7 @@ unfoldable pub idle_of : Hand → Bool
 idle_of h = leb 4294967296 h.first && eqb h.unseen 0
 
 unfoldable pub serve_work : Hand → ℕ
-serve_work h = cond h.done 0 (suc (weighs 18446744073709551616 h.last (rest_of h) (idle_of h) h.unseen))
+serve_work h = weighs 18446744073709551616 h.last (rest_of h) (idle_of h) h.unseen
 
 weighs-look : (B : ℕ) (last : Bool) (rest u v : ℕ) → v < u → weighs B last rest false v < weighs B last rest false u
 unfolding weighs
@@ -600,18 +573,15 @@ weighs-others B rest unseen idle was l u =
 weighs-same : (B : ℕ) {last last' : Bool} {rest rest' : ℕ} {idle idle' : Bool} {u u' : ℕ} → last ≡ last' → rest ≡ rest' → idle ≡ idle' → u ≡ u' → weighs B last rest idle u ≡ weighs B last' rest' idle' u'
 weighs-same B p q r v = rw (p, q, r, v)
 
-work-of : (h : Hand) → h.done ≡ false → serve_work h ≡ suc (weighs 18446744073709551616 h.last (rest_of h) (idle_of h) h.unseen)
-unfolding serve_work
-work-of h e = ap (λ (b : Bool). cond b 0 (suc (weighs 18446744073709551616 h.last (rest_of h) (idle_of h) h.unseen))) e
-
 -- n has less to do than h, by what is known of the two
 work-less : (n h : Hand) (last last' : Bool) (rest rest' : ℕ) (idle idle' : Bool) (u u' : ℕ)
-    → n.done ≡ false → n.last ≡ last → rest_of n ≡ rest → idle_of n ≡ idle → n.unseen ≡ u
-    → h.done ≡ false → h.last ≡ last' → rest_of h ≡ rest' → idle_of h ≡ idle' → h.unseen ≡ u'
+    → n.last ≡ last → rest_of n ≡ rest → idle_of n ≡ idle → n.unseen ≡ u
+    → h.last ≡ last' → rest_of h ≡ rest' → idle_of h ≡ idle' → h.unseen ≡ u'
     → weighs 18446744073709551616 last rest idle u < weighs 18446744073709551616 last' rest' idle' u'
     → serve_work n < serve_work h
-work-less n h last last' rest rest' idle idle' u u' dn ln rn in' un dh lh rh ih uh lt =
-    omega (arith, work-of n dn, work-of h dh, weighs-same 18446744073709551616 ln rn in' un, weighs-same 18446744073709551616 lh rh ih uh)
+unfolding serve_work
+work-less n h last last' rest rest' idle idle' u u' ln rn in' un lh rh ih uh lt =
+    omega (arith, weighs-same 18446744073709551616 ln rn in' un, weighs-same 18446744073709551616 lh rh ih uh)
 
 -- looking, or just after a look; and idle
 not-idle-look : (h : Hand) → 0 < h.unseen → idle_of h ≡ false
@@ -629,50 +599,49 @@ is-idle h l e = and_both (le-leb 4294967296 h.first l) (eq-eqb h.unseen 0 e)
 -- ---- a place is looked at
 
 met-fields : (h : Hand) (t i : ℕ) → t < 4294967296
-    → ((met_of h t i).done ≡ false) × ((met_of h t i).last ≡ h.last) × ((met_of h t i).unseen ≡ without_lowest h.unseen) × ((met_of h t i).first < 4294967296)
+    → ((met_of h t i).last ≡ h.last) × ((met_of h t i).unseen ≡ without_lowest h.unseen) × ((met_of h t i).first < 4294967296)
 unfolding met_of
 met-fields h t i small =
     ⊎_elim
     (λ ge.
     ⊎_elim
-    (λ le. rw (le-ltb t h.first ge, le-leb h.latest t le) (refl, refl, refl, omega arith))
-    (λ lt. rw (le-ltb t h.first ge, lt-leb h.latest t lt) (refl, refl, refl, omega arith))
+    (λ le. rw (le-ltb t h.first ge, le-leb h.latest t le) (refl, refl, omega arith))
+    (λ lt. rw (le-ltb t h.first ge, lt-leb h.latest t lt) (refl, refl, omega arith))
     (le-or-lt h.latest t))
-    (λ lt. rw (lt-ltb t h.first lt) (refl, refl, refl, small))
+    (λ lt. rw (lt-ltb t h.first lt) (refl, refl, small))
     (le-or-lt h.first t)
 
-pub work-met : (ps : List Response) (h : Hand) (i t : ℕ) → Serves ps h → 0 < h.unseen → i ≡ count_trailing_zeros 64 h.unseen → t ≡ seq_at ps i → t < 4294967296 → h.done ≡ false
-    → serve_work (met_of h t i) < serve_work h
-work-met ps h i t s some at_i t-is small going =
+pub work-met : (ps : List Response) (h : Hand) (i t : ℕ) → Serves ps h → 0 < h.unseen → i ≡ count_trailing_zeros 64 h.unseen → t ≡ seq_at ps i → t < 4294967296 → serve_work (met_of h t i) < serve_work h
+work-met ps h i t s some at_i t-is small =
     let f = met-fields h t i small in
     let low = lowest_set h.unseen i some (omega (arith, s.fits)) at_i in
     let less : without_lowest h.unseen < h.unseen = rw (without-lowest h.unseen i at_i) (without-lt h.unseen i low.set) in
     work-less (met_of h t i) h h.last h.last (rest_of h) (rest_of h) false false (without_lowest h.unseen) h.unseen
-    f.0 f.1 (serves-met ps h i t s some at_i t-is small).1 (not-idle-first (met_of h t i) f.3) f.2
-    going refl refl (not-idle-look h some) refl
+    f.0 (serves-met ps h i t s some at_i t-is small).1 (not-idle-first (met_of h t i) f.2) f.1
+    refl refl (not-idle-look h some) refl
     (weighs-look 18446744073709551616 h.last (rest_of h) h.unseen (without_lowest h.unseen) less)
 
 -- ---- where no place is to be looked at
 
-hunting-work : (n h : Hand) (turns : Bool) (word k at : ℕ) → n ≡ hunting_of h.last turns word k at → 0 < word → word < 2 ^ 64 → h.done ≡ false → rest_of h ≡ word → idle_of h ≡ true → h.unseen ≡ 0 → serve_work n < serve_work h
+hunting-work : (n h : Hand) (turns : Bool) (word k at : ℕ) → n ≡ hunting_of h.last turns word k at → 0 < word → word < 2 ^ 64 → rest_of h ≡ word → idle_of h ≡ true → h.unseen ≡ 0 → serve_work n < serve_work h
 unfolding hunting_of
-hunting-work n h turns word k at e p fits going is idle none =
+hunting-work n h turns word k at e p fits is idle none =
     rw e
     (work-less (hunting_of h.last turns word k at) h h.last h.last word word false true word 0
-    refl refl (omega arith) (not-idle-look (hunting_of h.last turns word k at) p) refl
-    going refl is idle none
+    refl (omega arith) (not-idle-look (hunting_of h.last turns word k at) p) refl
+    refl is idle none
     (weighs-again 18446744073709551616 h.last word word fits))
 
 hand-fields : (last turns : Bool) (word n k at : ℕ)
-    → ((hand_of last turns word n k at).done ≡ false) × ((hand_of last turns word n k at).last ≡ last) × (rest_of (hand_of last turns word n k at) ≡ word) × ((hand_of last turns word n k at).unseen ≤ word)
+    → ((hand_of last turns word n k at).last ≡ last) × (rest_of (hand_of last turns word n k at) ≡ word) × ((hand_of last turns word n k at).unseen ≤ word)
 unfolding hand_of hunting_of
 hand-fields last turns word n k at =
     ⊎_elim
-    (λ le. rw (le-ltb n 4294967295 le) (refl, refl, omega arith, omega arith))
-    (λ lt. rw (lt-ltb n 4294967295 lt) (refl, refl, omega arith, omega arith))
+    (λ le. rw (le-ltb n 4294967295 le) (refl, omega arith, omega arith))
+    (λ lt. rw (lt-ltb n 4294967295 lt) (refl, omega arith, omega arith))
     (le-or-lt 4294967295 n)
 
-module _ (ps : List Response) (h : Hand) (size : length ps ≡ 64) (s : Serves ps h) (none : h.unseen ≡ 0) (going : h.done ≡ false) where
+module _ (ps : List Response) (h : Hand) (size : length ps ≡ 64) (s : Serves ps h) (none : h.unseen ≡ 0) where
   -- what was found at the last look is served at once
   served-at-once : (i : ℕ) → 0 < h.run → i ≡ count_trailing_zeros 64 h.run → h.edge ≤ seq_at ps i → 4294967296 ≤ h.first
   served-at-once i some at_i le =
@@ -689,9 +658,9 @@ module _ (ps : List Response) (h : Hand) (size : length ps ≡ 64) (s : Serves p
       (le-or-lt 4294967296 h.first)
 
   served-fields : (l : Price) (c : ℕ) (r : Response) (at : ℕ) → r.sequence < h.edge
-      → ((served_of h l c r at).done ≡ false) × ((served_of h l c r at).last ≡ h.last) × ((served_of h l c r at).unseen ≡ 0) × (4294967296 ≤ (served_of h l c r at).first)
+      → ((served_of h l c r at).last ≡ h.last) × ((served_of h l c r at).unseen ≡ 0) × (4294967296 ≤ (served_of h l c r at).first)
   unfolding served_of
-  served-fields l c r at lt = rw (lt-leb h.edge r.sequence lt) (refl, refl, refl, omega arith)
+  served-fields l c r at lt = rw (lt-leb h.edge r.sequence lt) (refl, refl, omega arith)
 
   again-is : (l : Price) (c : ℕ) (r : Response) (at : ℕ) → h.edge ≤ r.sequence → served_of h l c r at ≡ hunting_of h.last h.turns (h.run + h.late) h.k h.at
   unfolding served_of
@@ -702,32 +671,24 @@ module _ (ps : List Response) (h : Hand) (size : length ps ≡ 64) (s : Serves p
       let q : r.sequence ≡ seq_at ps i = ap (λ (x : Response). x.sequence) e in
       ⊎_elim
       (λ le.
-      hunting-work (served_of h l c r at) h h.turns (h.run + h.late) h.k h.at (again-is l c r at le) (omega arith) (omega (arith, s.fits)) going (omega arith)
+      hunting-work (served_of h l c r at) h h.turns (h.run + h.late) h.k h.at (again-is l c r at le) (omega arith) (omega (arith, s.fits)) (omega arith)
       (is-idle h (served-at-once i some at_i (omega arith)) none) none)
       (λ lt.
       let below : seq_at ps i < h.edge = omega arith in
       let f = served-fields l c r at lt in
       work-less (served_of h l c r at) h h.last h.last (without_bit (rest_of h) i) (rest_of h) true (idle_of h) 0 0
-      f.0 f.1 (serves-served ps h size s i none some at_i below l c r at e).1 (is-idle (served_of h l c r at) f.3 f.2) f.2
-      going refl refl refl none
+      f.0 (serves-served ps h size s i none some at_i below l c r at e).1 (is-idle (served_of h l c r at) f.2 f.1) f.1
+      refl refl refl none
       (weighs-serve 18446744073709551616 h.last (rest_of h) (without_bit (rest_of h) i) (idle_of h) (omega arith) (serves-pick ps h size s i none some at_i below).less))
       (le-or-lt h.edge r.sequence)
 
-  -- those that come late, the others, or nothing
-  done-work : serve_work (done_at h) ≡ 0
-  unfolding done_at serve_work
-  done-work = refl
-
-  pub work-next : (l : Price) (spare at : ℕ) → h.run ≡ 0 → l.others < 2 ^ 64 → serve_work (next_of h l spare at) < serve_work h
-  work-next l spare at gone fits =
+  -- those that come late, or the others after the Customers
+  pub work-next : (l : Price) (spare at : ℕ) → h.run ≡ 0 → (h.late ≡ 0 → h.last ≡ false) → l.others < 2 ^ 64 → serve_work (next_of h l spare at) < serve_work h
+  work-next l spare at gone first fits =
       ⊎_elim
-      (λ e.
-      ⊎_elim
-      (λ f. rw (done-is h l spare at e f).0 (omega (arith, done-work, work-of h going)))
-      (λ f. rw (others-is h l spare at e f).0 (others-work e f))
-      (bool-or h.last))
+      (λ e. rw (others-is h l spare at e).0 (others-work e))
       (λ n.
-      hunting-work (next_of h l spare at) h h.turns h.late h.k h.at (late_is h l spare at n).0 (omega arith) (omega (arith, s.fits)) going (omega arith)
+      hunting-work (next_of h l spare at) h h.turns h.late h.k h.at (late_is h l spare at n).0 (omega arith) (omega (arith, s.fits)) (omega arith)
       (is-idle h (first-high n) none) none)
       (eq-or h.late 0)
     where
@@ -738,11 +699,11 @@ module _ (ps : List Response) (h : Hand) (size : length ps ≡ 64) (s : Serves p
           (λ lt. let b = (s.looks (inr (lt, omega arith))).begun lt in absurd (omega (arith, b.0)))
           (le-or-lt 4294967296 h.first)
 
-      others-work : h.late ≡ 0 → h.last ≡ false → serve_work (hand_of true l.turns l.others l.other (cond l.turns l.shared spare) at) < serve_work h
-      others-work e f =
+      others-work : h.late ≡ 0 → serve_work (hand_of true l.turns l.others l.other (cond l.turns l.shared spare) at) < serve_work h
+      others-work e =
           let n = hand_of true l.turns l.others l.other (cond l.turns l.shared spare) at in
           let g = hand-fields true l.turns l.others l.other (cond l.turns l.shared spare) at in
           work-less n h true false l.others 0 (idle_of n) (idle_of h) n.unseen 0
-          g.0 g.1 g.2 refl refl
-          going f (omega arith) refl none
-          (weighs-others 18446744073709551616 l.others n.unseen (idle_of n) (idle_of h) fits (omega (arith, g.3)))
+          g.0 g.1 refl refl
+          (first e) (omega arith) refl none
+          (weighs-others 18446744073709551616 l.others n.unseen (idle_of n) (idle_of h) fits (omega (arith, g.2)))

@@ -5,14 +5,14 @@ use mathlib.Core.List.{List, [], ◌∷◌, ◌++◌, append_assoc, append-nil}
 use mathlib.Core.Logic.{◌⊎◌, inl, inr, ⊎_elim}
 use Prim.Native.Nat.{ℕ, ◌+◌, ◌^◌, ◌≤◌, ◌<◌, min}
 use native.Mathlib.Omega.{arith}
-use borrow.Author.Tests.{leb-true, leb-false, eqb-true, eqb-false, le-leb, lt-leb}
+use borrow.Author.Tests.{leb-true, leb-false, eqb-true, le-leb, lt-leb}
 use lib.Dec.{leb, ltb, eqb}
 use lib.ListN.{length, get_or}
 use Rattle.words.specs.rules.Bits.{without_bit, without_lowest, count_trailing_zeros}
 use Rattle.base.specs.Lists.{sum}
 use Rattle.base.proofs.Bools.{by, or_left}
 use Rattle.base.proofs.ListLaws.{filter-length}
-use Rattle.base.proofs.Numbers.{le-or-lt}
+use Rattle.base.proofs.Numbers.{le-or-lt, eq-or}
 use Rattle.board.specs.declared.Response.{Response}
 use Rattle.board.specs.rules.Board.{no_response, live_in, inserted, in_sequence}
 use Rattle.board.proofs.LiveLaws.{none-live}
@@ -22,10 +22,10 @@ use Rattle.share.specs.inside.Cut.{Cuts}
 use Rattle.share.proofs.ShareLaws.{shares_sum, shares-length}
 use Rattle.trade.specs.declared.Hand.{Hand}
 use Rattle.trade.specs.declared.Price.{Price}
-use Rattle.trade.specs.inside.Code.{in_turn_of, rank_of, quantity_of, remainder_of, dealt, each_fills, share_fills, place_fills, fractions_in, Short, hunting_of, hand_of, done_at, met_of, next_fills, next_of, served_fills, served_of}
+use Rattle.trade.specs.inside.Code.{in_turn_of, rank_of, quantity_of, remainder_of, dealt, each_fills, share_fills, place_fills, fractions_in, Short, hunting_of, hand_of, met_of, next_fills, next_of, served_fills, served_of, Ready}
 use Rattle.trade.proofs.CodeLaws.{turn-of, fractions-length, live-short}
 use Rattle.trade.proofs.WriteLaws.{Pick, each-pick, each_none, shares-all, shares_parts, only, remainder-le}
-use Rattle.trade.proofs.RunLaws.{Kept, hunting-kept, hand-kept, late_is, done-is, others-is, rest_of, Serves, serves-hand, serves-met, serves-pick, serves-served, serves-again, serves-next, serves-others, serves-done}
+use Rattle.trade.proofs.RunLaws.{Kept, hunting-kept, hand-kept, late_is, others-is, rest_of, Serves, serves-hand, serves-met, serves-pick, serves-served, serves-again, serves-next, serves-others}
 
 -- ---- one response alone
 
@@ -127,20 +127,8 @@ module _ (l : Price) (c : ℕ) (ps : List Response) where
 met-kept : (h : Hand) (t i : ℕ) → Kept h.last h.turns h.k h.at (met_of h t i)
 unfolding met_of
 met-kept h t i =
-    by (Kept h.last h.turns h.k h.at) (ltb t h.first) _ _ (λ _. (refl, refl, refl, refl, refl))
-    (λ _. by (Kept h.last h.turns h.k h.at) (leb h.latest t) _ _ (λ _. (refl, refl, refl, refl, refl)) (λ _. (refl, refl, refl, refl, refl)))
-
-done-low : (h : Hand) → (done_at h).k ≤ 4294967295
-unfolding done_at
-done-low h = omega arith
-
-done-turns : (h : Hand) → (done_at h).turns ≡ h.turns
-unfolding done_at
-done-turns h = refl
-
-done-last : (h : Hand) → (done_at h).last ≡ true
-unfolding done_at
-done-last h = refl
+    by (Kept h.last h.turns h.k h.at) (ltb t h.first) _ _ (λ _. (refl, refl, refl, refl))
+    (λ _. by (Kept h.last h.turns h.k h.at) (leb h.latest t) _ _ (λ _. (refl, refl, refl, refl)) (λ _. (refl, refl, refl, refl)))
 
 module _ (l : Price) (c : ℕ) (ps : List Response) where
   -- what a hand has still to write
@@ -152,23 +140,17 @@ module _ (l : Price) (c : ℕ) (ps : List Response) where
     pub serves : Serves ps h
     pub low : h.k ≤ 4294967295
     pub short : h.turns ≡ false → l.shared < l.total
-    pub done : h.done ≡ true → (h.last ≡ true) × (rest_of h ≡ 0)
 
   to-serve : (n : Hand) (last turns : Bool) (k at rest : ℕ) → Kept last turns k at n → rest_of n ≡ rest → to_serve n ≡ serve_fills l c ps last turns k rest
   to-serve n last turns k at rest e r = rw (e.0, e.1, e.2, r) refl
 
-  -- of one that is done nothing
-  done-serve : (h : Hand) → to_serve (done_at h) ≡ []
-  unfolding done_at
-  done-serve h = serve-done l c ps h.turns 0
-
   hands-of : (n : Hand) (last turns : Bool) (k at : ℕ) → Kept last turns k at n → Serves ps n → k ≤ 4294967295 → (turns ≡ false → l.shared < l.total) → Hands n
   hands-of n last turns k at e v low short =
-      record { serves = v; low = omega (arith, e.2); short = λ f. short (sym e.1 ∙ f); done = λ f. absurd (true≢false (sym f ∙ e.4)) }
+      record { serves = v; low = omega (arith, e.2); short = λ f. short (sym e.1 ∙ f) }
 
-  -- where it is done, nothing is left to write
-  pub to-serve-done : (h : Hand) → Hands h → h.done ≡ true → to_serve h ≡ []
-  to-serve-done h g q = let n = g.done q in ap₂ {C = List Fill} (λ (b : Bool) (r : ℕ). serve_fills l c ps b h.turns h.k r) n.0 n.1 ∙ serve-done l c ps h.turns h.k
+  -- the others come last: where none of them is left, nothing is left to write
+  pub to-serve-done : (h : Hand) → h.last ≡ true → rest_of h ≡ 0 → to_serve h ≡ []
+  to-serve-done h q n = ap₂ {C = List Fill} (λ (b : Bool) (r : ℕ). serve_fills l c ps b h.turns h.k r) q n ∙ serve-done l c ps h.turns h.k
 
   -- Customers come first
   pub hands_start : length ps ≡ 64 → l.customers < 2 ^ 64 → l.customer ≡ rank_of 0 (live_in l.customers ps) → l.left ≤ 4294967295 → (at : ℕ)
@@ -209,44 +191,36 @@ module _ (l : Price) (c : ℕ) (ps : List Response) where
         let v = serves-served ps h e g.serves i z some q below l c r at refl in
         let m = remainder_of h.turns l.shared l.total c h.k r.size in
         rw b (
-          hands-of _ h.last h.turns m at (refl, refl, refl, refl, refl) (rw b at v.0) (omega (arith, g.low, remainder-le h.turns l.shared l.total c h.k r.size)) g.short,
+          hands-of _ h.last h.turns m at (refl, refl, refl, refl) (rw b at v.0) (omega (arith, g.low, remainder-le h.turns l.shared l.total c h.k r.size)) g.short,
           serve-fill l c ps h.last h.turns h.k (rest_of h) i (serves-pick ps h e g.serves i z some q below)
-              ∙ ap {B = List Fill} (λ fs. fill_of r.sequence l.reported (quantity_of h.turns l.shared l.total c h.k r.size) ++ fs) (sym (to-serve (record { done = false; last = h.last; turns = h.turns; run = without_lowest h.run; late = h.late; unseen = 0; edge = h.edge; first = 4294967296; latest = 0; k = m; at = at }) h.last h.turns m at (without_bit (rest_of h) i) (refl, refl, refl, refl, refl) (rw b at v.1))),
+              ∙ ap {B = List Fill} (λ fs. fill_of r.sequence l.reported (quantity_of h.turns l.shared l.total c h.k r.size) ++ fs) (sym (to-serve (record { last = h.last; turns = h.turns; run = without_lowest h.run; late = h.late; unseen = 0; edge = h.edge; first = 4294967296; latest = 0; k = m; at = at }) h.last h.turns m at (without_bit (rest_of h) i) (refl, refl, refl, refl) (rw b at v.1))),
         ))
         (le-or-lt h.edge r.sequence)
 
-    -- the run is served: those that come late, the Contra Order and the others, or nothing
-    module _ (z : h.unseen ≡ 0) (y : h.run ≡ 0) (fits : l.others < 2 ^ 64) (rank : l.other ≡ rank_of 0 (live_in l.others ps)) (total : l.total ≡ sum (sizes (live_in l.others ps)))
-        (turns-is : l.turns ≡ in_turn_of l.total l.shared l.others) (shared : l.shared ≤ 4294967295) (spare : ℕ)
-        (cuts : l.turns ≡ false → Cuts (leftover_count l.shared (sizes (live_in l.others ps))) (fractions_in l.shared l.total ps l.others) c spare) (at : ℕ) where
+    -- the run is served: those that come late, or the Contra Order and the others
+    module _ (z : h.unseen ≡ 0) (y : h.run ≡ 0) (first : h.late ≡ 0 → h.last ≡ false) (fits : l.others < 2 ^ 64) (spare : ℕ) (ready : Ready ps l c spare) (at : ℕ) where
       rest-late : rest_of h ≡ h.late
       rest-late = omega arith
 
       pub hands_next : Hands (next_of h l spare at) × (to_serve h ≡ next_fills h l ++ to_serve (next_of h l spare at))
-      hands_next = go (eqb h.late 0) h.last refl refl
+      hands_next = ⊎_elim others late (eq-or h.late 0)
         where
-          go : (a b : Bool) → eqb h.late 0 ≡ a → h.last ≡ b → Hands (next_of h l spare at) × (to_serve h ≡ next_fills h l ++ to_serve (next_of h l spare at))
-          go false b p q =
-              let v = serves-next ps h e g.serves l spare at z y (eqb-false h.late 0 p) in
-              let x = late_is h l spare at (eqb-false h.late 0 p) in
+          late : (h.late ≡ 0 → ⊥) → Hands (next_of h l spare at) × (to_serve h ≡ next_fills h l ++ to_serve (next_of h l spare at))
+          late p =
+              let v = serves-next ps h e g.serves l spare at z y p in
+              let x = late_is h l spare at p in
               let k = hunting-kept h.last h.turns h.late h.k h.at in
               rw (x.0, x.1) (hands-of _ h.last h.turns h.k h.at k (rw x.0 at v.0) g.low g.short, sym (to-serve (hunting_of h.last h.turns h.late h.k h.at) h.last h.turns h.k h.at (rest_of h) k (rw x.0 at v.1)))
-          go true true p q =
-              let v = serves-done ps h in
-              let n : rest_of h ≡ 0 = rest-late ∙ eqb-true h.late 0 p in
-              let x = done-is h l spare at (eqb-true h.late 0 p) q in
-              rw (x.0, x.1) (
-                record { serves = v.0; low = done-low h; short = λ f. g.short (sym (done-turns h) ∙ f); done = λ _. (done-last h, v.1) },
-                ap₂ {C = List Fill} (λ (b : Bool) (r : ℕ). serve_fills l c ps b h.turns h.k r) q n ∙ serve-done l c ps h.turns h.k ∙ sym (done-serve h),
-              )
-          go true false p q =
-              let v = serves-others ps h l spare at e (eqb-true h.late 0 p) q fits rank in
-              let x = others-is h l spare at (eqb-true h.late 0 p) q in
-              let n : rest_of h ≡ 0 = rest-late ∙ eqb-true h.late 0 p in
+
+          others : h.late ≡ 0 → Hands (next_of h l spare at) × (to_serve h ≡ next_fills h l ++ to_serve (next_of h l spare at))
+          others p =
+              let v = serves-others ps h l spare at e p fits ready.others-rank in
+              let x = others-is h l spare at p in
+              let n : rest_of h ≡ 0 = rest-late ∙ p in
               let m = cond l.turns l.shared spare in
               let k = hand-kept true l.turns l.others l.other m at in
               rw (x.0, x.1) (
-                hands-of _ true l.turns m at k (rw x.0 at v.0) (given-low l c ps e fits total turns-is spare cuts shared) (λ f. turns-not l.total l.shared l.others (sym turns-is ∙ f)),
-                ap₂ {C = List Fill} (λ (b : Bool) (r : ℕ). serve_fills l c ps b h.turns h.k r) q n ∙ serve-others l c ps e fits total turns-is spare cuts h.turns h.k
+                hands-of _ true l.turns m at k (rw x.0 at v.0) (given-low l c ps e fits ready.total-is ready.in-turn spare ready.cuts ready.shared-low) (λ f. turns-not l.total l.shared l.others (sym ready.in-turn ∙ f)),
+                ap₂ {C = List Fill} (λ (b : Bool) (r : ℕ). serve_fills l c ps b h.turns h.k r) (first p) n ∙ serve-others l c ps e fits ready.total-is ready.in-turn spare ready.cuts h.turns h.k
                     ∙ ap {B = List Fill} (λ fs. fill_of 0 l.reported l.contra ++ fs) (sym (to-serve (hand_of true l.turns l.others l.other m at) true l.turns m at l.others k (rw x.0 at v.1))),
               )

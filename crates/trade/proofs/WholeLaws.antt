@@ -2,7 +2,7 @@
 use mathlib.Core.Path.{◌≡◌, refl, sym, ap, ap₂, ◌∙◌}
 use mathlib.Core.Bool.{Bool, true, false, cond, ◌&&◌}
 use mathlib.Core.List.{List, ◌++◌}
-use mathlib.Core.Logic.{◌≢◌, ⊎_elim}
+use mathlib.Core.Logic.{◌≢◌}
 use Prim.Native.Nat.{ℕ, ◌+◌, ◌-◌, ◌*◌, ◌/◌, ◌^◌, ◌≤◌, ◌<◌, min, max}
 use native.Mathlib.Nat.{zero-add}
 use native.Mathlib.Omega.{arith}
@@ -11,7 +11,6 @@ use lib.Dec.{eqb, leb}
 use borrow.Rule.Slice.PartMut.{put_mid}
 use lib.ListN.{length, take, drop, length-drop}
 use lib.Seq.{drop-drop}
-use Rattle.base.proofs.Numbers.{le-or-lt}
 use Rattle.base.proofs.SetsLaws.{part-back, rest-is}
 use Rattle.words.specs.rules.Bits.{count_trailing_zeros, ones_in}
 use Rattle.board.specs.declared.Response.{Response}
@@ -69,14 +68,11 @@ module _ (d : Deal) (ps : List Response) (live low : ℕ) (e : low ≡ least_of 
       go true false m z = let n : live ≢ 0 = eqb-false live 0 z in market-low (eqb-true d.mode 2 m) l (omega arith) f
       go false b m z = market-stop (eqb-false d.mode 2 m) (max d.stop d.bound) refl
 
--- its fill: where it takes nothing there is none, whatever the price
-pub market-fill : (d : Deal) (b : Board) (low takes : ℕ) → length b.places ≡ 64 → b.live < 2 ^ 64 → (0 < takes → low ≡ least_of d.bound (top d) (live_of b))
-    → fill_of d.market (reported_price d.sell (market_by d b.live low)) takes ≡ fill_of d.market (reported_price d.sell (market_price d (offers b))) takes
-market-fill d b low takes l f lowest =
-    ⊎_elim
-    (λ h. ap {B = List Fill} (λ (p : ℕ). fill_of d.market (reported_price d.sell p) takes) (market-by d b.places b.live low (lowest h) l f))
-    (λ h. let z : takes ≡ 0 = omega arith in rw z refl)
-    (le-or-lt 1 takes)
+-- its fill
+pub market-fill : (d : Deal) (b : Board) (last takes : ℕ) → length b.places ≡ 64 → b.live < 2 ^ 64 → last ≡ top d
+    → fill_of d.market (reported_price d.sell (market_by d b.live (least_of d.bound last (live_of b)))) takes ≡ fill_of d.market (reported_price d.sell (market_price d (offers b))) takes
+market-fill d b last takes l f e =
+    rw e (ap {B = List Fill} (λ (p : ℕ). fill_of d.market (reported_price d.sell p) takes) (market-by d b.places b.live (least_of d.bound (top d) (live_of b)) refl l f))
 
 -- ---- all the fills
 

@@ -6,7 +6,8 @@ ghost use Rattle.std.specs.Prelude.{◌≡◌, true, ◌+◌, ◌*◌, ◌^◌, 
 ghost use Rattle.share.specs.rules.Fills.{fill_of};
 ghost use Rattle.share.specs.inside.Fills.{WroteFills};
 ghost use Rattle.trade.specs.rules.Write.{reported_price, fills_of, fill_answer, fill_words};
-ghost use Rattle.trade.specs.inside.Code.{market_by, priced_of, passed_of};
+ghost use Rattle.board.specs.rules.Board.{live_of};
+ghost use Rattle.trade.specs.inside.Code.{market_by, priced_of, passed_of, least_of};
 
 use base::Refusal;
 use board::Board;
@@ -78,6 +79,13 @@ struct Among {
     mean: u64,
 }
 
+// The cut of the leftovers: one for each fraction above it, and for so many of those at it.
+#[derive(Clone, Copy)]
+struct Cut {
+    at: u64,
+    spare: u64,
+}
+
 // Of these places, those whose fraction is at least the mean, and the sum of these.
 #[derive(Clone, Copy)]
 struct Upper {
@@ -90,7 +98,6 @@ struct Upper {
 // while there are any, `first` is the lowest sequence that was seen, and `latest` the last of the run.
 #[derive(Clone, Copy)]
 struct Hand {
-    done: bool,
     last: bool,
     turns: bool,
     run: u64,
@@ -103,18 +110,21 @@ struct Hand {
     at: usize,
 }
 
-// Where the walk stands: the lowest price to come, the places not yet walked, the size left, what the Contra Order holds, the next word, and whether the next price is known.
+// Where the walk stands: the lowest price to come, the places not yet walked, those that are near (some are walked), the size left, what the Contra Order holds, the next word, and what stands at
+// the next price, where that is known.
 #[derive(Clone, Copy)]
 struct Walked {
     from: u64,
     rest: u64,
+    near: u64,
     left: u64,
     held: u64,
     at: usize,
-    known: bool,
+    next: Option<Found>,
 }
 
 // What is found at a price, with the plan of its mode.
+#[tactic(auto, unfolding(crate::specs::inside::Code::priced_of))]
 fn price_of(d: Deal, g: u64, s: Walked, f: Found) -> Price
     requires { (g ≤ 4294967295) × (f.price ≤ 4294967295) × (f.served + f.total ≤ 274877906880) }
     ensures { result ≡ priced_of d g s f }
@@ -142,10 +152,11 @@ fn price_of(d: Deal, g: u64, s: Walked, f: Found) -> Price
     }
 }
 
-// The walk stands after a price whose fills end before a word.
-fn passed(s: Walked, l: Price, at: usize) -> Walked
+// The walk stands after a price whose fills end before a word; found is what was found of the next price.
+#[tactic(auto, unfolding(crate::specs::inside::Code::passed_of))]
+fn passed(s: Walked, l: Price, found: Option<Found>, at: usize) -> Walked
     requires { (l.customers + l.others ≤ s.rest) × (s.held + l.contra < 18446744073709551616) × (l.price < 18446744073709551615) }
-    ensures { result ≡ passed_of s l at }
+    ensures { result ≡ passed_of s l found at }
 {
     Walked {
         from: l.price + 1,
@@ -153,140 +164,68 @@ fn passed(s: Walked, l: Price, at: usize) -> Walked
         left: l.after,
         held: s.held + l.contra,
         at,
-        known: !s.known,
+        next: found,
+        ..s
     }
 }
 
 // The price of the market order that ended the auction: lowest is the lowest working price, if there is a response, but at most the last price of the walk.
+#[tactic(auto, unfolding(crate::specs::inside::Code::market_by))]
 fn market_price(d: Deal, live: u64, lowest: u64) -> u64
     requires { lowest ≤ 4294967295 }
     ensures { (result ≡ market_by d live lowest) × (result ≤ 4294967295) }
 {
     if d.mode == 2 {
         if live == 0 {
-            return (base::wide(d.initiating) + base::wide(d.bound) + 1) / 2;
+            return (u64::from(d.initiating) + u64::from(d.bound) + 1) / 2;
         }
         return lowest;
     }
-    base::lesser(lowest, numbers::working(d.stop, d.bound))
+    lowest.min(numbers::working(d.stop, d.bound))
 }
 
 // The fill of the market order that ended the auction, at the first of the lent words; where it takes nothing there is none.
-fn write_market(d: Deal, live: u64, lowest: u64, takes: u64, out: &mut [u32]) -> usize
-    requires { (lowest ≤ 4294967295) × (takes ≤ 4294967295) × (3 ≤ length out.old) }
-    ensures { WroteFills out.old 0 (fill_of d.market (reported_price d.sell (market_by d live lowest)) takes) result out.new }
+fn write_market(d: Deal, b: &Board, top: u64, takes: u64, out: &mut [u32]) -> usize
+    requires room { 3 ≤ length out.old }
+    requires fits { (length b.now.places ≡ 64) × (top ≤ 4294967295) × (takes ≤ 4294967295) }
+    ensures { WroteFills out.old 0 (fill_of d.market (reported_price d.sell (market_by d b.now.live (least_of d.bound top (live_of b.now)))) takes) result out.new }
 {
-    let price = numbers::reported_price(d.sell, market_price(d, live, lowest));
+    if takes == 0 {
+        return 0;
+    }
+    let lowest = scan::lowest(b, b.live, d.bound, top);
+    let price = numbers::reported_price(d.sell, market_price(d, b.live, lowest));
     write::put_fill(out, 0, d.market, price, takes)
 }
 
-// All the fills, from the first of the lent words on. Answers the place after them. The board is looked over here alone, and no place of it is copied: what is made of a place is
-// decided of its response, and of words of places.
+// All the fills, from the first of the lent words on. Answers the place after them. The board is lent, and no place of it is copied.
 fn write_all(d: Deal, b: &Board, out: &mut [u32]) -> usize
     requires room { 390 ≤ length out.old }
     requires fits { (length b.now.places ≡ 64) × (b.now.live < 2 ^ 64) }
     ensures { WroteFills out.old 0 (fills_of d b.now) result out.new }
 {
     let top = numbers::top_of(d);
-    let size = base::wide(d.size);
-    let takes = base::lesser(size, base::wide(d.selling));
+    let size = u64::from(d.size);
+    let takes = size.min(u64::from(d.selling));
     let left = size - takes;
     let g = numbers::guarantee_of(size, bits::ones(b.live));
-    // The lowest working price, for the market order alone.
-    let mut lowest = top;
-    let mut word = scan::unseen(takes == 0, b.live);
-    while word != 0 {
-        let i = bits::first_set(word) as usize;
-        lowest = base::lesser(numbers::working(b.places[i].price, d.bound), lowest);
-        word = bits::without_lowest(word);
-    }
-    let at = write_market(d, b.live, lowest, takes, out);
+    let at = write_market(d, b, top, takes, out);
     let mut s = Walked {
         from: 0,
         rest: b.live,
+        near: 0,
         left,
         held: 0,
         at,
-        known: false,
+        next: None,
     };
-    let mut n = scan::nothing(top);
-    let mut near: u64 = 0;
     // From the lowest working price up, until nothing is left or the last price is passed.
     while numbers::going(s.left, s.from, top) {
-        // The first look goes over all places, the others over the near ones alone: those that work below a limit. Where none of them is left, near ones are chosen among the rest.
-        let close = near & s.rest;
-        if scan::is_due(s, n, close) {
-            let limit = scan::limit_of(s.from, top);
-            near = 0;
-            let mut unsorted = s.rest;
-            while unsorted != 0 {
-                let i = bits::first_set(unsorted) as usize;
-                near = scan::nearer(near, limit, numbers::working(b.places[i].price, d.bound), i);
-                unsorted = bits::without_lowest(unsorted);
-            }
-            near = scan::or_all(near, s.rest);
-            s.known = false;
-            continue;
-        }
-        // A look finds what stands at the two lowest prices: every other price is known from the look before.
-        let mut f = scan::kept(s.known, n, top);
-        let mut unseen = scan::unseen(s.known, scan::or_all(close, s.rest));
-        n = scan::nothing(top);
-        while unseen != 0 {
-            let i = bits::first_set(unseen) as usize;
-            let r = b.places[i];
-            unseen = bits::without_lowest(unseen);
-            if n.price < base::wide(r.price) {
-                continue;
-            }
-            let p = numbers::working(r.price, d.bound);
-            if p == f.price {
-                f = scan::added(f, r, i);
-                continue;
-            }
-            n = scan::later(f, n, r, p, i);
-            f = scan::found(f, r, p, i);
-        }
+        s = scan::sorted(s, b, d.bound, top);
+        let (f, found) = scan::looked(s, b, d.bound, top);
         let l = price_of(d, g, s, f);
-        // The cut of the leftovers: the fractions are added up, then a turn looks at one more place, or takes the half that has the cut.
-        let mut sum: u64 = 0;
-        let mut rest = scan::unseen(l.turns, l.others);
-        while rest != 0 {
-            let i = bits::first_set(rest) as usize;
-            sum += scan::fraction_of(l.shared, l.total, b.places[i].size);
-            rest = bits::without_lowest(rest);
-        }
-        let mut a = leftovers::counted(l.turns, l.others, sum, l.total);
-        let mut u = Upper { word: 0, sum: 0 };
-        rest = a.word;
-        while u.word != a.word {
-            if rest != 0 {
-                let i = bits::first_set(rest) as usize;
-                let fraction = scan::fraction_of(l.shared, l.total, b.places[i].size);
-                u = leftovers::upper(u, a.mean, i, fraction);
-                rest = bits::without_lowest(rest);
-                continue;
-            }
-            a = leftovers::narrowed(a, u);
-            u = Upper { word: 0, sum: 0 };
-            rest = a.word;
-        }
-        // The fills: a turn looks at one more place for the lowest sequence, or writes the fill of the next in sequence, or goes on to those that come later.
-        let mut h = write::hand_of(false, true, l.customers, l.customer, l.left, s.at);
-        while !h.done {
-            if h.unseen != 0 {
-                let i = bits::first_set(h.unseen) as usize;
-                h = write::met(h, base::wide(b.places[i].sequence), i);
-                continue;
-            }
-            if h.run == 0 {
-                h = write::next(h, l, a.leftovers, out);
-                continue;
-            }
-            let i = bits::first_set(h.run) as usize;
-            h = write::filled(h, l, a.mean, b.places[i], out);
-        }
-        s = passed(s, l, h.at);
+        let at = write::write_price(l, leftovers::cut(l, b), b, out, s.at);
+        s = passed(s, l, found, at);
     }
     s.at
 }

@@ -310,3 +310,6 @@ lowest_set w i p h e =
 pub without-lowest : (w i : ℕ) → i ≡ count_trailing_zeros 64 w → without_lowest w ≡ without_bit w i
 unfolding without_lowest
 without-lowest w i e = ap (without_bit w) (sym e)
+
+pub lowest-gone : (w : ℕ) → 0 < w → w < 2 ^ 64 → without_lowest w < w
+lowest-gone w p h = rw (without-lowest w (count_trailing_zeros 64 w) refl) (without-lt w (count_trailing_zeros 64 w) (lowest_set w (count_trailing_zeros 64 w) p h refl).set)

@@ -28,6 +28,9 @@ first-set κs a = (tt, λ y z v w p q. (p ∙ sym q, refl))
 pub without-lowest : Settled stated.bits.without_lowest.ended contracts.bits.without_lowest.Reads.Asked contracts.bits.without_lowest.Reads.Learnt
 without-lowest κs a = (tt, λ y z v w p q. (p ∙ sym q, refl))
 
+pub places-of : Settled stated.bits.Places.of.ended contracts.bits.Places.of.Reads.Asked contracts.bits.Places.of.Reads.Learnt
+places-of κs a = (tt, λ y z v w p q. (p ∙ sym q, refl))
+
 pub join : Settled stated.bytes.join.ended contracts.bytes.join.Reads.Asked contracts.bytes.join.Reads.Learnt
 join κs a = (tt, λ y z v w p q. (p ∙ sym q, refl))
 

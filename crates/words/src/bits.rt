@@ -1,6 +1,7 @@
 // The bits of a word of 64 bits: a board's places, a record's marks.
 ghost use Rattle.std.specs.Prelude.{◌≡◌};
-ghost use Rattle.words.specs.rules.Bits.{bit_at, with_bit, without_bit, without_lowest, ones_in, clear_in, count_trailing_zeros};
+ghost use Rattle.std.specs.Iterator.{at_most};
+ghost use Rattle.words.specs.rules.Bits.{bit_at, with_bit, without_bit, without_lowest, ones_in, clear_in, count_trailing_zeros, TakesLowest};
 
 // Bit i of a word. A word has no bit from 64 on.
 pub fn test(w: u64, i: usize) -> bool
@@ -56,4 +57,36 @@ pub fn without_lowest(w: u64) -> u64
     ensures { result ≡ without_lowest w }
 {
     if w == 0 { 0 } else { w & (w - 1) }
+}
+
+// The places of a word whose bits are set, from the lowest on.
+#[derive(Drop)]
+pub struct Places {
+    left: u64,
+}
+
+impl Places {
+    // Those of this word.
+    pub fn of(word: u64) -> Places
+        ensures { result ≡ record { left = word } }
+    {
+        Places { left: word }
+    }
+}
+
+impl Iterator for Places {
+    type Item = usize;
+
+    ghost next_gives = { λ s r t. TakesLowest s.left r t.left };
+
+    ghost remaining = { λ s. at_most s.left };
+
+    fn next(&mut self) -> Option<usize> {
+        if self.left == 0 {
+            return None;
+        }
+        let i = first_set(self.left) as usize;
+        self.left = without_lowest(self.left);
+        Some(i)
+    }
 }

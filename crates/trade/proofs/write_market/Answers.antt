@@ -1,9 +1,11 @@
-use native.Mathlib.Omega.{arith}
-use Rattle.trade.proofs.Counts.{length-fill}
+use Rattle.std.proofs.Common.{arith, refl}
+use Rattle.board.specs.rules.Board.{live_of}
+use Rattle.trade.proofs.CodeLaws.{least-le}
+use Rattle.trade.proofs.RunLaws.{wrote_none}
 use Rattle.trade.proofs.write_market.Goals as goal
 
-pub put_fill-requires : goal.put_fill-requires
-put_fill-requires c = let s = c.before.before.before.before in record { quantity_bound = s.requires.1; quantity_in_bounds = omega (arith, s.requires.2, length-fill s.args.d.market c.reported_price-price.result s.args.takes) }
+pub returns-then-takes-eq0 : goal.returns-then-takes-eq0
+returns-then-takes-eq0 c = rw c.if-takes-eq0.true (wrote_none c.args.out.now 0 0 refl)
 
-pub returns : goal.returns
-returns c = rw (c.reported_price-price.ensures, c.market_price.ensures.0) at c.put_fill.ensures
+pub market_price-requires : goal.market_price-requires
+market_price-requires c = let a = c.args in omega (arith, c.lowest-lowest.ensures, least-le a.d.bound a.top (live_of a.b.now), c.requires.fits.1)

@@ -1,13 +1,13 @@
 -- What the private functions of `trade` give, in numbers and words.
-use Rattle.std.specs.Prelude.{◌≡◌, Bool, true, false, cond, not, ◌&&◌, ◌||◌, List, [], ◌∷◌, ◌++◌, ℕ, suc, ◌+◌, ◌-◌, ◌*◌, ◌/◌, ◌%◌, ◌≤◌, ◌<◌, min, max, leb, ltb, eqb}
+use Rattle.std.specs.Prelude.{◌≡◌, Option, Some, None, Bool, true, false, cond, not, ◌&&◌, ◌||◌, List, [], ◌∷◌, ◌++◌, length, ℕ, suc, ◌+◌, ◌-◌, ◌*◌, ◌/◌, ◌%◌, ◌≤◌, ◌<◌, min, max, leb, ltb, eqb, bit_and}
 use Rattle.words.specs.rules.Bits.{with_bit, without_lowest, ones_in}
 use Rattle.board.specs.declared.Response.{Response}
 use Rattle.base.specs.Lists.{filter, sum}
 use Rattle.board.specs.rules.Board.{live_in, in_sequence}
 use Rattle.board.specs.inside.Places.{word_of}
-use Rattle.share.specs.rules.Share.{floors, fractions, plus, shares, in_turn}
+use Rattle.share.specs.rules.Share.{floors, fractions, plus, shares, in_turn, leftover_count}
 use Rattle.share.specs.rules.Fills.{Fill, fill_of, fills_by, sizes}
-use Rattle.share.specs.inside.Cut.{one_by, spare_by, by_cut}
+use Rattle.share.specs.inside.Cut.{one_by, spare_by, by_cut, Cuts}
 use Rattle.trade.specs.declared.Among.{Among}
 use Rattle.trade.specs.declared.Deal.{Deal}
 use Rattle.trade.specs.declared.Found.{Found}
@@ -169,13 +169,22 @@ narrowed_of a u =
     let n = ones_in 64 u.word in
     cond (leb a.leftovers n) (among_of u.word u.sum a.leftovers) (among_of (a.word - u.word) (a.sum - u.sum) (a.leftovers - n))
 
+-- the places whose fraction is at least a mean
+abbrev pub is_upper : ℕ → ℕ → ℕ → Response → Bool
+is_upper R T mean r = leb mean (R * r.size % T)
+
+-- u has those of a, and their sum
+pub record UpperOf (R T : ℕ) (places : List Response) (a : Among) (u : Upper) : Type 0 where
+  pub word-is : u.word ≡ word_of (is_upper R T a.mean) a.word places
+  pub sum-is : u.sum ≡ sum (filter (leb a.mean) (fractions_in R T places a.word))
+
 -- no place to look among, and this cut
 unfoldable pub no_cut : ℕ → Among
 no_cut c = record { word = 0; sum = 0; leftovers = 0; mean = c }
 
 -- the places of a word, whose fractions come to the total: that is T once for each leftover
-unfoldable pub counted_of : Bool → ℕ → ℕ → ℕ → Among
-counted_of turns word total T = cond turns (no_cut 0) (cond (eqb (total / T) 0) (no_cut T) (among_of word total (total / T)))
+unfoldable pub counted_of : ℕ → ℕ → ℕ → Among
+counted_of word total T = cond (eqb (total / T) 0) (no_cut T) (among_of word total (total / T))
 
 -- pro rata
 unfoldable pub share_fills : ℕ → ℕ → List Response → List Fill
@@ -184,6 +193,22 @@ share_fills p R rs = fills_by p rs (shares R (sizes rs))
 -- Customers in turn, the Contra Order, the others pro rata
 unfoldable pub place_fills : ℕ → ℕ → List Response → ℕ → ℕ → List Response → List Fill
 place_fills p left cs contra R os = each_fills p true 0 0 0 left cs ++ (fill_of 0 p contra ++ share_fills p R os)
+
+-- the fills of a price, as they are written
+abbrev pub fills_at : List Response → Price → List Fill
+fills_at places l = place_fills l.reported l.left (in_sequence (live_in l.customers places)) l.contra l.shared (in_sequence (live_in l.others places))
+
+-- what is known of a price whose fills are written, where the cut is c, and so many are spare there
+pub record Ready (places : List Response) (l : Price) (c spare : ℕ) : Type 0 where
+  pub size : length places ≡ 64
+  pub customers-rank : l.customer ≡ rank_of 0 (live_in l.customers places)
+  pub others-rank : l.other ≡ rank_of 0 (live_in l.others places)
+  pub total-is : l.total ≡ sum (sizes (live_in l.others places))
+  pub in-turn : l.turns ≡ in_turn_of l.total l.shared l.others
+  pub left-low : l.left ≤ 4294967295
+  pub shared-low : l.shared ≤ 4294967295
+  pub contra-low : l.contra ≤ 4294967295
+  pub cuts : l.turns ≡ false → Cuts (leftover_count l.shared (sizes (live_in l.others places))) (fractions_in l.shared l.total places l.others) c spare
 
 -- ---- the walk over the places of a word
 
@@ -223,17 +248,53 @@ priced_of d G s f =
       turns = in_turn_of f.total R f.others;
     }
 
--- where the walk stands after a price whose fills end before the word `at`
-unfoldable pub passed_of : Walked → Price → ℕ → Walked
-passed_of s l at = record { from = l.price + 1; rest = s.rest - l.customers - l.others; left = l.after; held = s.held + l.contra; at = at; known = not s.known }
+-- where the walk stands after a price whose fills end before the word `at`, where `found` is what was found of the next
+unfoldable pub passed_of : Walked → Price → Option Found → ℕ → Walked
+passed_of s l found at =
+    record { from = l.price + 1; rest = s.rest - l.customers - l.others; near = s.near; left = l.after; held = s.held + l.contra; at = at; next = found }
 
 -- the places of a word, or all that are left where it has none
 abbrev pub or_all : ℕ → ℕ → ℕ
 or_all word rest = cond (eqb word 0) rest word
 
--- whether near places are to be chosen among all that are left: none of them, `close`, is left, a price was walked, and the next, n, is not known to have a place
-unfoldable pub due_of : Walked → Found → ℕ → Bool
-due_of s n close = eqb close 0 && (not (eqb s.from 0) && (not (s.known && (not (eqb n.customers 0) || not (eqb n.others 0))) && not (eqb s.rest 0)))
+-- those of a walk's near places that are left
+abbrev pub close_of : Walked → ℕ
+close_of s = bit_and s.near s.rest
+
+-- whether the next price is known to have a place
+abbrev pub has_places : Option Found → Bool
+has_places None = false
+has_places (Some f) = not (eqb f.customers 0) || not (eqb f.others 0)
+
+-- whether near places are to be chosen among all that are left: none of them is left, a price was walked, and the next is not known to have a place
+unfoldable pub due_of : Walked → Bool
+due_of s = eqb (close_of s) 0 && (not (eqb s.from 0) && (not (has_places s.next) && not (eqb s.rest 0)))
+
+-- the price below which a place is near
+abbrev pub limit_of : ℕ → ℕ → ℕ
+limit_of from last = from + (last - from) / 4 + 1
+
+-- those that work below a limit
+abbrev pub below : ℕ → ℕ → Response → Bool
+below bound limit r = ltb (max r.price bound) limit
+
+-- near places chosen: those below the limit, or all where there is none
+abbrev pub chosen_of : ℕ → ℕ → List Response → Walked → Walked
+chosen_of bound last ps s =
+    record { from = s.from; rest = s.rest; near = or_all (word_of (below bound (limit_of s.from last)) s.rest ps) s.rest; left = s.left; held = s.held; at = s.at; next = None }
+
+unfoldable pub sorted_of : ℕ → ℕ → List Response → Walked → Walked
+sorted_of bound last ps s = cond (due_of s) (chosen_of bound last ps s) s
+
+-- what stands at the least working price of the places of a word, and at the next
+pub record Two (bound last : ℕ) (ps : List Response) (word : ℕ) (f n : Found) : Type 0 where
+  pub first : Stands bound last ps word f
+  pub second : f.price < last → Stands bound last ps (word_of (λ r. not (works_at bound f.price r)) word ps) n
+
+-- what stands at the next price of the walk, f: it is known, or a look over the near places, or all, finds it, and what is at the one after it
+pub record FoundNext (bound last : ℕ) (ps : List Response) (s : Walked) (f : Found) (found : Option Found) : Type 0 where
+  pub known : (n : Found) → s.next ≡ Some n → (f ≡ n) × (found ≡ None)
+  pub fresh : s.next ≡ None → (n : Found) × (found ≡ Some n) × Two bound last ps (or_all (close_of s) s.rest) f n
 
 -- the walk of the definition from a price on, without fuel
 unfoldable pub walk_from : Deal → List Response → ℕ → ℕ → ℕ → List Level
@@ -244,23 +305,19 @@ walk_from d rs from left held = walk d rs (suc (top d) - from) from left held
 -- the places of a word, to be looked over for the lowest sequence
 unfoldable pub hunting_of : Bool → Bool → ℕ → ℕ → ℕ → Hand
 hunting_of last turns word k at =
-    record { done = false; last = last; turns = turns; run = 0; late = 0; unseen = word; edge = 4294967296; first = 4294967296; latest = 0; k = k; at = at }
+    record { last = last; turns = turns; run = 0; late = 0; unseen = word; edge = 4294967296; first = 4294967296; latest = 0; k = k; at = at }
 
 -- the places of a word in their order, where that is by sequence: n is the sequence of the last then
 unfoldable pub hand_of : Bool → Bool → ℕ → ℕ → ℕ → ℕ → Hand
 hand_of last turns word n k at =
     cond (ltb n 4294967295)
-    (record { done = false; last = last; turns = turns; run = word; late = 0; unseen = 0; edge = 4294967296; first = 4294967296; latest = 0; k = k; at = at })
+    (record { last = last; turns = turns; run = word; late = 0; unseen = 0; edge = 4294967296; first = 4294967296; latest = 0; k = k; at = at })
     (hunting_of last turns word k at)
-
--- nothing is left to write
-unfoldable pub done_at : Hand → Hand
-done_at h = record { done = true; last = true; turns = h.turns; run = 0; late = 0; unseen = 0; edge = 0; first = 0; latest = 0; k = 0; at = h.at }
 
 -- the run goes on so, past the place that was looked at
 abbrev pub runs_on : Hand → ℕ → ℕ → ℕ → ℕ → ℕ → Hand
 runs_on h run late edge first latest =
-    record { done = false; last = h.last; turns = h.turns; run = run; late = late; unseen = without_lowest h.unseen; edge = edge; first = first; latest = latest; k = h.k; at = h.at }
+    record { last = h.last; turns = h.turns; run = run; late = late; unseen = without_lowest h.unseen; edge = edge; first = first; latest = latest; k = h.k; at = h.at }
 
 -- place i is looked at, whose sequence is t
 unfoldable pub met_of : Hand → ℕ → ℕ → Hand
@@ -271,13 +328,11 @@ met_of h t i =
 
 -- what is written, and what comes, where the run is served
 unfoldable pub next_fills : Hand → Price → List Fill
-next_fills h l = cond (eqb h.late 0) (cond h.last [] (fill_of 0 l.reported l.contra)) []
+next_fills h l = cond (eqb h.late 0) (fill_of 0 l.reported l.contra) []
 
 unfoldable pub next_of : Hand → Price → ℕ → ℕ → Hand
 next_of h l spare at =
-    cond (eqb h.late 0)
-    (cond h.last (done_at h) (hand_of true l.turns l.others l.other (cond l.turns l.shared spare) at))
-    (hunting_of h.last h.turns h.late h.k h.at)
+    cond (eqb h.late 0) (hand_of true l.turns l.others l.other (cond l.turns l.shared spare) at) (hunting_of h.last h.turns h.late h.k h.at)
 
 -- and where the first of the run, r, is served, or all are looked over again
 unfoldable pub served_fills : Hand → Price → ℕ → Response → List Fill
@@ -287,7 +342,6 @@ unfoldable pub served_of : Hand → Price → ℕ → Response → ℕ → Hand
 served_of h l c r at =
     cond (leb h.edge r.sequence) (hunting_of h.last h.turns (h.run + h.late) h.k h.at)
     (record {
-      done = false;
       last = h.last;
       turns = h.turns;
       run = without_lowest h.run;
