@@ -8,7 +8,6 @@ ghost use Rattle.auction.specs.rules.Firm.{participant_of};
 use crate::Auction;
 
 // Which participant stands behind the live response with this sequence; after the ending, which stood.
-#[tactic(auto, unfolding(crate::specs::rules::Firm::participant_of))]
 pub fn participant_of(a: Auction, sequence: u32) -> Option<u32>
     ensures { result ≡ participant_of a sequence }
 {
