@@ -66,30 +66,15 @@ digits-some n = omega (arith, length-append (digits 19 (n / 10)) (digit n ∷ []
 length_more : (n : ℕ) → 10 ≤ n → n < 2 ^ 64 → length (decimal n) ≡ 1 + length (decimal (n / 10))
 length_more n h small = ap length (decimal-more n h small) ∙ omega (arith, length-append (decimal (n / 10)) (digit n ∷ []))
 
-pub digits_1 : (n : ℕ) → n < 10 → 1 ≡ length (decimal n)
-digits_1 n h = sym (ap length (decimal-one n h))
+pub digits_1 : (n : ℕ) → n < 10 → length (decimal n) ≡ 1
+digits_1 n h = ap length (decimal-one n h)
 
-pub digits_2 : (n : ℕ) → 10 ≤ n → n < 100 → 2 ≡ length (decimal n)
-digits_2 n h small = omega (arith, length_more n h (omega arith), digits_1 (n / 10) (omega arith))
-
-pub digits_3 : (n : ℕ) → 100 ≤ n → n < 1000 → 3 ≡ length (decimal n)
-digits_3 n h small = omega (arith, length_more n (omega arith) (omega arith), digits_2 (n / 10) (omega arith) (omega arith))
-
-pub digits_4 : (n : ℕ) → 1000 ≤ n → n < 10000 → 4 ≡ length (decimal n)
-digits_4 n h small = omega (arith, length_more n (omega arith) (omega arith), digits_3 (n / 10) (omega arith) (omega arith))
-
--- four digits fewer
-pub four-fewer : (n : ℕ) → 10000 ≤ n → n < 2 ^ 64 → length (decimal n) ≡ 4 + length (decimal (n / 10000))
-four-fewer n h small =
-    let e : n / 10 / 10 / 10 / 10 ≡ n / 10000 = omega arith in
-    omega (
-      arith,
-      length_more n (omega arith) small,
-      length_more (n / 10) (omega arith) (omega arith),
-      length_more (n / 10 / 10) (omega arith) (omega arith),
-      length_more (n / 10 / 10 / 10) (omega arith) (omega arith),
-      ap (λ (m : ℕ). length (decimal m)) e,
-    )
+-- a digit more than the highest power of ten that is not above it
+pub digits-power : (k n : ℕ) → 10 ^ k ≤ n → n < 10 * 10 ^ k → n < 2 ^ 64 → length (decimal n) ≡ k + 1
+digits-power zero n h i small = omega (arith, digits_1 n (omega arith))
+digits-power (suc k) n h i small =
+    let e : 10 ^ suc k ≡ 10 * 10 ^ k = omega (arith, pow-suc 10 k) in
+    omega (arith, length_more n (omega (arith, e)) small, digits-power k (n / 10) (omega (arith, e)) (omega (arith, e)) (omega arith))
 
 -- ---- the digits are written from the last on: those of `rest` are still to come, and the others stand in ys from w on
 
@@ -150,7 +135,7 @@ left-last {n} {ys} {w} {rest} h l =
 -- the last two at once
 pub left-two : {n : ℕ} {ys : List ℕ} {w rest : ℕ} → 10 ≤ rest → rest < 100 → DigitsLeft n ys w rest → set (set ys 1 (digit rest)) 0 (digit (rest / 10)) ≡ decimal n
 left-two {n} {ys} {w} {rest} h small l =
-    let e : 1 ≡ w - 1 = omega (arith, l.place, digits_2 rest h small) in
+    let e : 1 ≡ w - 1 = omega (arith, l.place, length_more rest h l.small, digits_1 (rest / 10) (omega arith)) in
     ap (λ (k : ℕ). set (set ys k (digit rest)) 0 (digit (rest / 10))) e ∙ left-last (omega arith) (left-turn h l)
 
 -- ---- digits read back

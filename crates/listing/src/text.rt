@@ -1,5 +1,5 @@
 // Text into lent bytes: words, and numbers in plain decimal.
-ghost use Rattle.std.specs.Prelude.{◌≡◌, ◌++◌, ◌≤◌, ◌<◌, length};
+ghost use Rattle.std.specs.Prelude.{◌≡◌, ◌++◌, length};
 ghost use Rattle.listing.specs.rules.Text.{digit, decimal};
 ghost use Rattle.listing.specs.inside.Writes.{Fits, Writes};
 
@@ -17,34 +17,14 @@ fn last_digit(n: u64) -> u8
     48 + (n % 10) as u8
 }
 
-// How many digits a number below 10000 has.
-fn few_digits(n: u64) -> usize
-    requires { n < 10000 }
-    ensures { result ≡ length (decimal n) }
-{
-    if n < 10 {
-        return 1;
-    }
-    if n < 100 {
-        return 2;
-    }
-    if n < 1000 {
-        return 3;
-    }
-    4
-}
-
 // How many digits a number has.
 fn count_digits(n: u64) -> usize
-    ensures { (result ≡ length (decimal n)) × (result ≤ 20) }
+    ensures { result ≡ length (decimal n) }
 {
-    let mut k = 0;
-    let mut rest = n;
-    while 10000 <= rest {
-        k += 4;
-        rest /= 10000;
+    match n.checked_ilog10() {
+        Some(power) => power as usize + 1,
+        None => 1,
     }
-    k + few_digits(rest)
 }
 
 // The digits of a number into as many bytes, from the last on, two at a time.
