@@ -74,13 +74,7 @@ pub(crate) fn matched(mode: u8, g: u64, held: u64, a: u64) -> u64
 pub(crate) fn is_last(entry: u64, top: u64, p: u64, left: u64, need: u64) -> bool
     ensures { result ≡ last_of entry top p left need }
 {
-    if p < entry {
-        return false;
-    }
-    if p == top {
-        return true;
-    }
-    left <= need
+    (entry <= p) && ((p == top) || (left <= need))
 }
 
 // What the Contra Order takes before the others.
@@ -134,17 +128,14 @@ pub(crate) fn left_of(left: u64, c: u64, t: u64, want: u64, last: bool) -> u64
 pub(crate) fn in_turn(total: u64, shared: u64, others: u64) -> bool
     ensures { result ≡ in_turn_of total shared others }
 {
-    (total <= shared) | (bits::without_lowest(others) == 0)
+    (total <= shared) || (bits::without_lowest(others) == 0)
 }
 
 // The walk goes on while something is left and the last price is not passed.
 pub(crate) fn going(left: u64, from: u64, top: u64) -> bool
     ensures { result ≡ (ltb 0 left && leb from top) }
 {
-    if left == 0 {
-        return false;
-    }
-    from <= top
+    (0 < left) && (from <= top)
 }
 
 // A price as it is reported: a sell's is mirrored back.
@@ -152,8 +143,6 @@ pub(crate) fn reported_price(sell: bool, p: u64) -> u32
     requires { p ≤ 4294967295 }
     ensures { result ≡ reported_price sell p }
 {
-    if sell {
-        return base::mirror(p as u32);
-    }
-    p as u32
+    let p = p as u32;
+    if sell { base::mirror(p) } else { p }
 }

@@ -30,7 +30,7 @@ pub(crate) fn nothing(p: u64) -> Found
 fn ranked(m: u32, s: u32) -> u32
     ensures { result ≡ rank_after m s }
 {
-    if m <= s { s } else { 4294967295 }
+    if m <= s { s } else { u32::MAX }
 }
 
 // What was found, with a response at place i that works at its price.
@@ -41,23 +41,17 @@ pub(crate) fn added(f: Found, r: Response, i: usize) -> Found
 {
     if r.customer {
         return Found {
-            price: f.price,
             customers: bits::with_bit(f.customers, i),
-            others: f.others,
             served: f.served + u64::from(r.size),
-            total: f.total,
             customer: ranked(f.customer, r.sequence),
-            other: f.other,
+            ..f
         };
     }
     Found {
-        price: f.price,
-        customers: f.customers,
         others: bits::with_bit(f.others, i),
-        served: f.served,
         total: f.total + u64::from(r.size),
-        customer: f.customer,
         other: ranked(f.other, r.sequence),
+        ..f
     }
 }
 
@@ -197,16 +191,7 @@ fn look(b: &Board, unseen: u64, bound: u32, top: u64) -> (Found, Found)
 fn is_due(s: Walked) -> bool
     ensures { result ≡ due_of s }
 {
-    if s.near & s.rest != 0 {
-        return false;
-    }
-    if s.from == 0 {
-        return false;
-    }
-    if has_places(s.next) {
-        return false;
-    }
-    s.rest != 0
+    (s.near & s.rest == 0) && (s.from != 0) && !has_places(s.next) && (s.rest != 0)
 }
 
 fn has_places(next: Option<Found>) -> bool
