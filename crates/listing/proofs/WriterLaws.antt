@@ -11,6 +11,7 @@ use lib.Seq.{sets, sets-eq, length-sets, drop-drop}
 use Rattle.words.specs.inside.Writing.{WroteBytes}
 use Rattle.words.proofs.WroteLaws.{wrote-append, wrote-same}
 use Rattle.listing.specs.declared.text.Writer.{Writer}
+use Rattle.listing.specs.rules.Listing.{refused_line, range_text, auction_line, answer_text, event_text, event_line, event_line_with, end_text, end_line, party_text, fill_line, total_line}
 use Rattle.listing.specs.inside.Writes.{Fits, Writes}
 
 -- a text into the part that is as long
@@ -66,3 +67,8 @@ pub left-end : {u v : Writer} {s t : List ℕ} → LeftToWrite u v s t → t ≡
 left-end {v = v} l e = l.rest v (writes-same (record { lent = refl; wrote = record { words = refl; place = omega arith }; room = refl }) (sym e))
 
 pub ruleset writing = (length-append, writes-append)
+
+-- opens what each line says
+unfoldable pub lines : Type 0
+unfolding refused_line range_text auction_line answer_text event_text event_line event_line_with end_text end_line party_text fill_line total_line
+lines = Unit {0}

@@ -9,7 +9,7 @@ use crate::text::Writer;
 use auction::{Ending, Head, Range, price_range};
 use events::Answer;
 
-#[tactic(auto, using(crate::proofs::WriterLaws::writing), unfolding(crate::specs::rules::Listing::refused_line, crate::specs::rules::Listing::range_text, crate::specs::rules::Listing::auction_line, crate::specs::rules::Listing::answer_text, crate::specs::rules::Listing::event_text, crate::specs::rules::Listing::event_line, crate::specs::rules::Listing::event_line_with, crate::specs::rules::Listing::end_text, crate::specs::rules::Listing::end_line, crate::specs::rules::Listing::party_text, crate::specs::rules::Listing::fill_line, crate::specs::rules::Listing::total_line))]
+#[tactic(auto, using(crate::proofs::WriterLaws::writing), unfolding(crate::proofs::WriterLaws::lines))]
 impl Writer<'_> {
     pub(crate) fn refused(&mut self, number: u32)
         requires { Fits self.old (refused_line number) }
