@@ -7,7 +7,7 @@ ghost use Rattle.decision.specs.rules.Decide.{does, seats, places, gtx_outcome, 
 ghost use Rattle.auction.specs.rules.Range.{bound_by};
 
 use auction::{Ending, Market, Quotes, Terms, bound_by};
-use base::{Refusal, higher, lower, wide};
+use base::Refusal;
 use board::{Found, Response};
 use tape::{Event, Kind};
 use words::bits::mark;
@@ -91,7 +91,7 @@ fn gtx(t: Terms, s: Sight, e: Event) -> Result<Deed, Refusal>
     if t.initiating < e.f16 {
         return Err(Refusal::AboveInitiating);
     }
-    place(s, response(true, lower(e.f12, t.size), e), Ending::Open)
+    place(s, response(true, e.f12.min(t.size), e), Ending::Open)
 }
 
 #[tactic(auto, unfolding(crate::specs::rules::Decide::cancel_outcome))]
@@ -112,7 +112,7 @@ fn amended(t: Terms, old: Response, e: Event) -> Response
 {
     Response {
         sequence: e.sequence,
-        size: lower(e.f16, t.size),
+        size: e.f16.min(t.size),
         price: e.f20,
         participant: e.participant,
         customer: old.customer,
@@ -181,9 +181,9 @@ fn bid_quotes(q: Quotes, price: u32, customer: bool) -> Quotes
     ensures { result ≡ bid_quotes q price customer }
 {
     Quotes {
-        nbb: higher(q.nbb, price),
+        nbb: q.nbb.max(price),
         nbo: q.nbo,
-        bb: higher(q.bb, price),
+        bb: q.bb.max(price),
         bo: q.bo,
         bidmark: bid_mark(q, price, customer),
         offermark: q.offermark,
@@ -201,7 +201,7 @@ fn is_move(q: Quotes, price: u32, customer: bool) -> bool
 fn exceeds(t: Terms, q: Quotes) -> bool
     ensures { result ≡ ltb t.initiating (bound_by t q) }
 {
-    wide(t.initiating) < bound_by(t, q)
+    u64::from(t.initiating) < bound_by(t, q)
 }
 
 #[tactic(auto, unfolding(crate::specs::rules::Decide::buy_limit_outcome))]

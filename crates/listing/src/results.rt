@@ -13,7 +13,7 @@ use board::Board;
 use fills::write_lent;
 
 impl Writer<'_> {
-    // A line for each of the fills, three words each. Answers the sum of their quantities, in the same loop: two cost 1 to 3 percent of an ending.
+    // A line for each of the fills, three words each. Answers the sum of their quantities, in the same loop: two cost about 1 percent of an ending.
     fn fills(&mut self, words: &[u32]) -> u64
         requires few { length words.now ≤ 390 }
         requires room { Fits self.old (fill_lines (fills_in words.now)) }
