@@ -9,7 +9,6 @@ ghost use Rattle.words.specs.inside.Writing.{WroteBytes};
 
 use crate::lines::{put_end, put_fill, put_total};
 use auction::Head;
-use base::wide;
 use board::Board;
 use fills::write_lent;
 
@@ -20,11 +19,9 @@ fn put_fills(out: &mut [u8], at: usize, words: &[u32], n: usize) -> usize
     ensures upper_bound { result ≤ at + 68 * n }
 {
     let mut w = at;
-    let mut i = 0;
-    while i < n {
+    for i in 0..n {
         let k = 3 * i;
         w = put_fill(out, w, words[k], words[k + 1], words[k + 2]);
-        i += 1;
     }
     w
 }
@@ -35,10 +32,8 @@ fn sum_of(words: &[u32], n: usize) -> u64
     ensures { result ≡ traded (fills_in n words.now) }
 {
     let mut sum = 0;
-    let mut i = 0;
-    while i < n {
-        sum += wide(words[3 * i + 2]);
-        i += 1;
+    for i in 0..n {
+        sum += u64::from(words[3 * i + 2]);
     }
     sum
 }
