@@ -18,6 +18,7 @@ fn has_ended(h: Head) -> bool
 }
 
 // The terms at the ending.
+#[tactic(auto, unfolding(crate::specs::rules::Fills::deal_of))]
 fn deal_of(h: Head) -> Deal
     ensures { result ≡ deal_of h }
 {

@@ -42,9 +42,6 @@ pub fills-none : (n : ℕ) (ws : List ℕ) (i : ℕ) → n ≤ i → fills_from 
 unfolding fills_in
 fills-none n ws i h = let e : n - i ≡ 0 = omega arith in rw e
 
-pub fills-all : (n : ℕ) (ws : List ℕ) → fills_in n ws ≡ fills_from n ws 0
-fills-all n ws = rw (sub-zero n)
-
 -- ---- the fills of an auction that has ended, as `write_fills` leaves them
 
 pub record Reported (a : Auction) (n : ℕ) (ws : List ℕ) : Type 0 where
