@@ -8,7 +8,7 @@ ghost use Rattle.auction.specs.rules.Accept.{counted_offer, initiating_of, tick_
 use crate::{Auction, Ending, Head, Market, Quotes, Terms};
 use base::Refusal;
 use mirror::buy_order;
-use tape::Order;
+use tape::{Mode, Order, Side};
 use words::bits::mark;
 
 // BO as it is quoted, or what counts as BO in the initiating price: BO, or the displayed price minus the collar of a collared order on the other side.
@@ -55,7 +55,7 @@ fn first_bound(o: Order) -> u64
 fn guaranteed(o: Order) -> u64
     ensures { (result ≡ guaranteed_of o) × (result ≤ 4294967296) }
 {
-    if o.mode == 2 {
+    if o.mode == Mode::AutoMatch as u8 {
         return u64::from(initiating(o));
     }
     u64::from(o.stop).max(first_bound(o))
@@ -189,5 +189,5 @@ pub fn accept(o: Order) -> Result<Auction, Refusal>
     ensures { result ≡ accept_of o }
 {
     order_refusal(o)?;
-    Ok(opened_by(o.side == 2, buy_order(o)))
+    Ok(opened_by(o.side == Side::Sell as u8, buy_order(o)))
 }

@@ -9,7 +9,7 @@ ghost use Rattle.auction.specs.rules.Range.{bound_by};
 use auction::{Ending, Market, Quotes, Terms, bound_by};
 use base::Refusal;
 use board::{Found, Response};
-use tape::{Event, Kind};
+use tape::{Event, Kind, Side};
 use words::bits::mark;
 
 // What the board tells of an event: the place that a response would take, and the GTX that is named.
@@ -85,7 +85,7 @@ fn place(s: Sight, r: Response, ending: Ending) -> Result<Deed, Refusal>
 fn gtx(t: Terms, s: Sight, e: Event) -> Result<Deed, Refusal>
     ensures { result ≡ gtx_outcome t s e }
 {
-    if e.side == 1 {
+    if e.side == Side::Buy as u8 {
         return Err(Refusal::OwnSide);
     }
     if t.initiating < e.f16 {
@@ -182,11 +182,9 @@ fn bid_quotes(q: Quotes, price: u32, customer: bool) -> Quotes
 {
     Quotes {
         nbb: q.nbb.max(price),
-        nbo: q.nbo,
         bb: q.bb.max(price),
-        bo: q.bo,
         bidmark: bid_mark(q, price, customer),
-        offermark: q.offermark,
+        ..q
     }
 }
 
@@ -223,7 +221,7 @@ fn buy_limit(t: Terms, q: Quotes, e: Event) -> Result<Deed, Refusal>
 fn limit(t: Terms, q: Quotes, s: Sight, e: Event) -> Result<Deed, Refusal>
     ensures { result ≡ limit_outcome t q s e }
 {
-    if e.side == 1 {
+    if e.side == Side::Buy as u8 {
         return buy_limit(t, q, e);
     }
     sell_limit(t, q, s, e)
@@ -233,7 +231,7 @@ fn limit(t: Terms, q: Quotes, s: Sight, e: Event) -> Result<Deed, Refusal>
 fn market(e: Event) -> Result<Deed, Refusal>
     ensures { result ≡ market_outcome e }
 {
-    if e.side == 1 {
+    if e.side == Side::Buy as u8 {
         return does(Change::Nothing, Ending::Same);
     }
     let m = Market {

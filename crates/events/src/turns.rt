@@ -77,18 +77,9 @@ fn stay(answer: Answer, h: Head) -> Turn
 fn by_time(h: Head) -> Head
     ensures { result ≡ ended_by_time h }
 {
-    let terms = h.terms;
-    let quotes = h.quotes;
-    let clock = h.clock;
-    let market = h.market;
     Head {
-        terms,
-        quotes,
-        sequence: h.sequence,
-        clock,
         ending: Ending::Time,
-        market,
-        offered: h.offered,
+        ..h
     }
 }
 
@@ -134,18 +125,14 @@ fn offered_after(n: u32, c: Change) -> u32
 fn head_after(h: Head, e: Event, c: Change, ending: Ending) -> Head
     ensures { result ≡ head_after h e c ending }
 {
-    let terms = h.terms;
-    let quotes = quotes_after(h.quotes, c);
-    let market = market_after(h.market, c);
-    let offered = offered_after(h.offered, c);
     Head {
-        terms,
-        quotes,
+        quotes: quotes_after(h.quotes, c),
         sequence: e.sequence,
         clock: e.time,
         ending,
-        market,
-        offered,
+        market: market_after(h.market, c),
+        offered: offered_after(h.offered, c),
+        ..h
     }
 }
 

@@ -6,7 +6,7 @@ ghost use Rattle.std.specs.Prelude.{◌≡◌};
 ghost use Rattle.mirror.specs.rules.Mirror.{with_mark, mirrored_marks, mirrored_side, mirrored_unless, mirrored_order, mirrored_priced, mirrored_market, mirrored_quotes, mirrored_amend, mirrored_event, buy_order, buy_event};
 
 use base::mirror;
-use tape::{Event, Kind, Order};
+use tape::{Event, Kind, Mode, Order, Side};
 use words::bits::{test, with_bit, without_bit};
 
 // The marks with mark i set or clear.
@@ -32,11 +32,11 @@ fn mirror_marks(m: u8) -> u8
 fn mirror_side(s: u8) -> u8
     ensures { result ≡ mirrored_side s }
 {
-    if s == 1 {
-        return 2;
+    if s == Side::Buy as u8 {
+        return Side::Sell as u8;
     }
-    if s == 2 {
-        return 1;
+    if s == Side::Sell as u8 {
+        return Side::Buy as u8;
     }
     s
 }
@@ -51,28 +51,22 @@ fn mirror_unless(none: bool, p: u32) -> u32
     mirror(p)
 }
 
-// There is no stop in mode 2, and no collared order where the displayed price is 0. The collar is a difference of prices.
+// There is no stop by auto-match, and no collared order where the displayed price is 0. The collar is a difference of prices.
 #[tactic(auto, unfolding(crate::specs::rules::Mirror::mirrored_order))]
 fn mirror_order(o: Order) -> Order
     ensures { result ≡ mirrored_order o }
 {
     Order {
         side: mirror_side(o.side),
-        mode: o.mode,
         marks: mirror_marks(o.marks),
-        size: o.size,
         limit: mirror(o.limit),
-        stop: mirror_unless(o.mode == 2, o.stop),
+        stop: mirror_unless(o.mode == Mode::AutoMatch as u8, o.stop),
         nbb: mirror(o.nbo),
         nbo: mirror(o.nbb),
         bb: mirror(o.bo),
         bo: mirror(o.bb),
-        time: o.time,
-        opens: o.opens,
-        closes: o.closes,
-        interval: o.interval,
         displayed: mirror_unless(o.displayed == 0, o.displayed),
-        collar: o.collar,
+        ..o
     }
 }
 
@@ -81,41 +75,45 @@ fn mirror_order(o: Order) -> Order
 fn mirror_priced(e: Event) -> Event
     ensures { result ≡ mirrored_priced e }
 {
-    let mut n = e;
-    n.side = mirror_side(e.side);
-    n.f16 = mirror(e.f16);
-    n
+    Event {
+        side: mirror_side(e.side),
+        f16: mirror(e.f16),
+        ..e
+    }
 }
 
 #[tactic(auto, unfolding(crate::specs::rules::Mirror::mirrored_market))]
 fn mirror_market(e: Event) -> Event
     ensures { result ≡ mirrored_market e }
 {
-    let mut n = e;
-    n.side = mirror_side(e.side);
-    n
+    Event {
+        side: mirror_side(e.side),
+        ..e
+    }
 }
 
 #[tactic(auto, unfolding(crate::specs::rules::Mirror::mirrored_quotes))]
 fn mirror_quotes(e: Event) -> Event
     ensures { result ≡ mirrored_quotes e }
 {
-    let mut n = e;
-    n.marks = mirror_marks(e.marks);
-    n.f12 = mirror(e.f16);
-    n.f16 = mirror(e.f12);
-    n.f20 = mirror(e.f24);
-    n.f24 = mirror(e.f20);
-    n
+    Event {
+        marks: mirror_marks(e.marks),
+        f12: mirror(e.f16),
+        f16: mirror(e.f12),
+        f20: mirror(e.f24),
+        f24: mirror(e.f20),
+        ..e
+    }
 }
 
 #[tactic(auto, unfolding(crate::specs::rules::Mirror::mirrored_amend))]
 fn mirror_amend(e: Event) -> Event
     ensures { result ≡ mirrored_amend e }
 {
-    let mut n = e;
-    n.f20 = mirror(e.f20);
-    n
+    Event {
+        f20: mirror(e.f20),
+        ..e
+    }
 }
 
 // A cancel has nothing to mirror, and what is of no kind has no sides.
@@ -137,7 +135,7 @@ fn mirror_event(e: Event) -> Event
 pub fn buy_order(o: Order) -> Order
     ensures { result ≡ buy_order o }
 {
-    if o.side == 2 {
+    if o.side == Side::Sell as u8 {
         return mirror_order(o);
     }
     o

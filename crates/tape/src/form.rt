@@ -5,6 +5,7 @@ ghost use Rattle.tape.specs.rules.Form.{all_from, collar_formed, order_formed, i
 use crate::event::Event;
 use crate::kind::Kind;
 use crate::order::Order;
+use crate::side::{Mode, Side};
 use words::bits::mark;
 
 // There is no collared order, or its displayed price, the collar and the result are prices. The result of a sell is their sum; that of a buy, the difference, is a price where the collar is below the displayed price.
@@ -15,7 +16,8 @@ fn collar_form(side: u8, displayed: u32, collar: u32) -> bool
     ((displayed == 0) & (collar == 0))
         | (((1 <= displayed) & (displayed <= 999999))
             & (1 <= collar)
-            & (((side == 2) & (sum <= 999999)) | ((side != 2) & (collar < displayed))))
+            & (((side == Side::Sell as u8) & (sum <= 999999))
+                | ((side != Side::Sell as u8) & (collar < displayed))))
 }
 
 // Every field of an order is in its range: one test with no branch.
@@ -23,12 +25,13 @@ fn collar_form(side: u8, displayed: u32, collar: u32) -> bool
 pub fn order_form(o: Order) -> bool
     ensures { result ≡ order_formed o }
 {
-    ((1 <= o.side) & (o.side <= 2))
-        & ((1 <= o.mode) & (o.mode <= 3))
+    ((Side::Buy as u8 <= o.side) & (o.side <= Side::Sell as u8))
+        & ((Mode::Stop as u8 <= o.mode) & (o.mode <= Mode::AutoMatchLimit as u8))
         & (o.marks <= 15)
         & (o.size <= 100000)
         & ((1 <= o.limit) & (o.limit <= 999999))
-        & (((o.mode == 2) & (o.stop == 0)) | ((o.mode != 2) & ((1 <= o.stop) & (o.stop <= 999999))))
+        & (((o.mode == Mode::AutoMatch as u8) & (o.stop == 0))
+            | ((o.mode != Mode::AutoMatch as u8) & ((1 <= o.stop) & (o.stop <= 999999))))
         & ((1 <= o.nbb) & (o.nbb <= 999999))
         & ((1 <= o.nbo) & (o.nbo <= 999999))
         & (o.bb <= 999999)

@@ -7,6 +7,7 @@ mod form;
 mod kind;
 mod order;
 mod records;
+mod side;
 mod trailer;
 
 pub use event::{Event, event_bytes, read_event, record_at, write_event};
@@ -14,6 +15,7 @@ pub use form::{event_form, order_form};
 pub use kind::{Kind, UnknownKind};
 pub use order::{Order, read_order, write_order};
 pub use records::{order_in, record_in};
+pub use side::{Mode, Side};
 pub use trailer::{Trailer, last_trailer, length_of, open_tape, read_trailer, write_trailer};
 
 // How many bytes an order's record has.

@@ -2,7 +2,7 @@
 use mathlib.Core.Path.{◌≡◌, refl, ap, ◌∙◌}
 use mathlib.Core.Bool.{Bool, true, false, cond}
 use mathlib.Core.List.{List, [], ◌∷◌}
-use Prim.Native.Nat.{ℕ, suc, ◌+◌, ◌-◌, ◌*◌, ◌/◌, ◌%◌, ◌^◌, ◌≤◌, ◌<◌, min, max}
+use Prim.Native.Nat.{ℕ, suc, ◌+◌, ◌*◌, ◌/◌, ◌%◌, ◌^◌, ◌≤◌, ◌<◌, min, max}
 use native.Mathlib.Omega.{arith}
 use lib.Dec.{eqb}
 use lib.ListN.{length, get_or}
@@ -15,44 +15,13 @@ use Rattle.board.specs.rules.Board.{no_response, live_in}
 use Rattle.board.proofs.LiveLaws.{none-live, first_live, Sifted, sift-step}
 use Rattle.share.specs.rules.Share.{fractions}
 use Rattle.share.specs.rules.Fills.{sizes}
-use Rattle.trade.specs.rules.Trade.{guarantee_of}
-use Rattle.trade.specs.inside.Code.{shared_of, contra_of, least_of, fractions_in}
+use Rattle.trade.specs.inside.Code.{shared_of, least_of, fractions_in}
 
 -- ---- numbers
-
-pub shared-is : (left C want a b : ℕ) → a ≡ min left C → b ≡ min (left - a) want → left - a - b ≡ shared_of left C want
-unfolding shared_of
-shared-is left C want a b e f = let x : left - a ≡ left - C = omega arith in rw (f, x)
 
 pub shared-le : (left C want : ℕ) → shared_of left C want ≤ left
 unfolding shared_of
 shared-le left C want = omega arith
-
--- the Contra Order's first part, and all the rest where it is to have it
-pub contra-last : (left C T want a b s c : ℕ) → a ≡ min left C → b ≡ min (left - a) want → s ≡ shared_of left C want → c ≡ min s T → b + (s - c) ≡ contra_of left C T want true
-unfolding contra_of
-contra-last left C T want a b s c e f g h =
-    let x : left - a ≡ left - C = omega arith in
-    let y : b ≡ min (left - C) want = f ∙ ap (λ (n : ℕ). min n want) x in
-    let z : s - c ≡ s - T = omega arith in
-    rw (y, z, g)
-
-pub contra-open : (left C T want a b : ℕ) → a ≡ min left C → b ≡ min (left - a) want → b ≡ contra_of left C T want false
-unfolding contra_of
-contra-open left C T want a b e f =
-    let x : left - a ≡ left - C = omega arith in
-    f ∙ ap (λ (n : ℕ). min n want) x ∙ omega arith
-
-pub contra-fits : (left C want a b s : ℕ) → a ≡ min left C → b ≡ min (left - a) want → s ≡ shared_of left C want → b + s ≤ left
-unfolding shared_of
-contra-fits left C want a b s e f g =
-    let x : left - a ≡ left - C = omega arith in
-    let y : b ≡ min (left - C) want = f ∙ ap (λ (n : ℕ). min n want) x in
-    omega arith
-
-pub guarantee-is : (size n g : ℕ) → g ≡ cond (eqb n 1) (size * 5 / 10) (size * 4 / 10) → max 1 g ≡ guarantee_of size n
-unfolding guarantee_of
-guarantee-is size n g e = rw e
 
 -- ---- a turn of a loop over the places of a word: i is the lowest of rest
 

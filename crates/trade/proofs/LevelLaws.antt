@@ -112,10 +112,6 @@ pub record Priced (d : Deal) (ps : List Response) (G : ℕ) (s : Walked) (l : Pr
   pub fits : l.customers + l.others ≤ s.rest
   pub fills : place_fills l.reported l.left (in_sequence (live_in l.customers ps)) l.contra l.shared (in_sequence (live_in l.others ps)) ≡ reported d.sell (level_fills (level_of d ps G s))
 
-pub left-same : (d : Deal) (ps : List Response) (G : ℕ) (s : Walked) → (level_of d ps G s).left ≡ s.left
-unfolding level_of
-left-same d ps G s = refl
-
 pub priced-price : (d : Deal) (G : ℕ) (s : Walked) (f : Found) (l : Price) → l ≡ priced_of d G s f → l.price ≡ f.price
 unfolding priced_of
 priced-price d G s f l e = ap (λ (x : Price). x.price) e

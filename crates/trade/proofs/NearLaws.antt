@@ -218,9 +218,6 @@ module _ (bound : ℕ) (ps : List Response) where
     over-close : bit_and near rest ≢ 0 → over ≡ bit_and near rest
     over-close z = ap (λ (b : Bool). cond b rest (bit_and near rest)) (ne_eqb (bit_and near rest) 0 z)
 
-    pub over-fits : over < 2 ^ 64
-    over-fits = ⊎_elim (λ z. rw (over-all z) h) (λ z. rw (over-close z) (omega (arith, and_le_r near rest))) (none_or (bit_and near rest))
-
     -- the lowest price
     pub look-first : (last : ℕ) (f : Found) → Near near rest → Stands bound last ps over f → Stands bound last ps rest f
     look-first last f s k =

@@ -3,7 +3,7 @@ use mathlib.Core.Path.{◌≡◌, refl, sym, ap, ap₂, ◌∙◌}
 use mathlib.Core.Bool.{Bool, true, false, cond, ◌&&◌, ◌||◌, true≢false}
 use mathlib.Core.List.{List, [], ◌∷◌}
 use mathlib.Core.Logic.{◌⊎◌, inl, inr, ⊎_elim}
-use Prim.Native.Nat.{ℕ, zero, suc, ◌+◌, ◌-◌, ◌*◌, ◌/◌, ◌%◌, ◌^◌, ◌≤◌, ◌<◌, min}
+use Prim.Native.Nat.{ℕ, zero, suc, ◌+◌, ◌-◌, ◌*◌, ◌/◌, ◌%◌, ◌^◌, ◌≤◌, ◌<◌}
 use native.Mathlib.Nat.{mul-le-mul_right}
 use native.Mathlib.Omega.{arith}
 use borrow.Author.Tests.{lt-ltb, le-ltb, le-leb, lt-leb, eq-eqb, ne_eqb}
@@ -20,12 +20,11 @@ use Rattle.board.specs.inside.Places.{Earliest}
 use Rattle.board.specs.promises.Board.{RisingFrom}
 use Rattle.board.proofs.LiveLaws.{dead-step, live-step}
 use Rattle.board.proofs.FirstLaws.{earliest-sequence}
-use Rattle.share.specs.rules.Fills.{Fill, fill_of}
+use Rattle.share.specs.rules.Fills.{fill_of}
 use Rattle.share.specs.inside.Fills.{WroteFills, written}
-use Rattle.trade.specs.declared.Given.{Given}
 use Rattle.trade.specs.declared.Hand.{Hand}
 use Rattle.trade.specs.declared.Price.{Price}
-use Rattle.trade.specs.inside.Code.{rank_of, Gives, hunting_of, hand_of, runs_on, met_of, next_fills, next_of, served_fills, served_of}
+use Rattle.trade.specs.inside.Code.{rank_of, hunting_of, hand_of, met_of, next_fills, next_of, served_of}
 use Rattle.trade.proofs.FoundLaws.{rank_rises}
 use Rattle.trade.proofs.WriteLaws.{Pick}
 
@@ -56,61 +55,6 @@ module _ (h : Hand) (l : Price) (spare at : ℕ) where
   pub others-is : h.late ≡ 0 → (next_of h l spare at ≡ hand_of true l.turns l.others l.other (cond l.turns l.shared spare) at) × (next_fills h l ≡ fill_of 0 l.reported l.contra)
   unfolding next_of next_fills
   others-is e = let p = eq-eqb h.late 0 e in (rw p refl, rw p refl)
-
--- the others, after the Contra Order's fill, which ends before n
-pub others-are : (turns : Bool) (word m shared spare n : ℕ) (words : List ℕ) (at : ℕ) (fs : List Fill) (ys : List ℕ) (h : Hand) (b : Bool) → turns ≡ b → WroteFills words at fs n ys → h ≡ hand_of true b word m (cond b shared spare) n
-    → WroteFills words at fs h.at ys × (h ≡ hand_of true turns word m (cond turns shared spare) h.at)
-others-are turns word m shared spare n words at fs ys h b e w q =
-    let f : h.at ≡ n = ap (λ (x : Hand). x.at) q ∙ (hand-kept true b word m (cond b shared spare) n).3 in
-    (rw f w, rw e (q ∙ ap (hand_of true b word m (cond b shared spare)) (sym f)))
-
-module _ (h : Hand) (l : Price) where
-  pub next-late : (spare : ℕ) (words : List ℕ) (r : Hand) → (h.late ≡ 0 → ⊥) → r ≡ hunting_of h.last h.turns h.late h.k h.at
-      → WroteFills words h.at (next_fills h l) r.at words × (r ≡ next_of h l spare r.at)
-  next-late spare words r n e =
-      let f : r.at ≡ h.at = ap (λ (x : Hand). x.at) e ∙ (hunting-kept h.last h.turns h.late h.k h.at).3 in
-      let x = late_is h l spare r.at n in
-      (rw x.1 (wrote_none words h.at r.at f), e ∙ sym x.0)
-
-  pub next-writes : h.late ≡ 0 → next_fills h l ≡ fill_of 0 l.reported l.contra
-  next-writes e = (others-is h l 0 0 e).1
-
-  pub next-others : (spare : ℕ) (words ys : List ℕ) (r : Hand) → h.late ≡ 0 → WroteFills words h.at (fill_of 0 l.reported l.contra) r.at ys
-      → r ≡ hand_of true l.turns l.others l.other (cond l.turns l.shared spare) r.at
-      → WroteFills words h.at (next_fills h l) r.at ys × (r ≡ next_of h l spare r.at)
-  next-others spare words ys r e w q = let x = others-is h l spare r.at e in (rw x.1 w, q ∙ sym x.0)
-
-  pub served-again : (c : ℕ) (r : Response) (words : List ℕ) (n : Hand) → h.edge ≤ r.sequence → n ≡ hunting_of h.last h.turns (h.run + h.late) h.k h.at
-      → WroteFills words h.at (served_fills h l c r) n.at words × (n ≡ served_of h l c r n.at)
-  unfolding served_fills served_of
-  served-again c r words n le e =
-      let f : n.at ≡ h.at = ap (λ (x : Hand). x.at) e ∙ (hunting-kept h.last h.turns (h.run + h.late) h.k h.at).3 in
-      rw (le-leb h.edge r.sequence le) (wrote_none words h.at n.at f, e)
-
-  pub served-writes : (c : ℕ) (r : Response) (g : Given) → r.sequence < h.edge → Gives h.turns l.shared l.total c h.k r.size g → served_fills h l c r ≡ fill_of r.sequence l.reported g.quantity
-  unfolding served_fills
-  served-writes c r g lt e = rw (lt-leb h.edge r.sequence lt, e.quantity)
-
-  pub served-first : (c : ℕ) (r : Response) (g : Given) (words ys : List ℕ) (run n : ℕ) → r.sequence < h.edge → Gives h.turns l.shared l.total c h.k r.size g
-      → run ≡ without_lowest h.run → WroteFills words h.at (fill_of r.sequence l.reported g.quantity) n ys
-      → WroteFills words h.at (served_fills h l c r) n ys
-      × (◌≡◌ {A = Hand} (record { last = h.last; turns = h.turns; run = run; late = h.late; unseen = 0; edge = h.edge; first = 4294967296; latest = 0; k = g.left; at = n }) (served_of h l c r n))
-  unfolding served_of
-  served-first c r g words ys run n lt e q w =
-      (rw (served-writes c r g lt e) w, rw (lt-leb h.edge r.sequence lt, q, e.left))
-
-module _ (h : Hand) (t i : ℕ) where
-  pub met-first : (run : ℕ) (r : Hand) → t < h.first → run ≡ with_bit 0 i → r ≡ runs_on h run (h.run + h.late) h.first t t → r ≡ met_of h t i
-  unfolding met_of
-  met-first run r lt e q = rw (lt-ltb t h.first lt, ← e) q
-
-  pub met-goes : (run : ℕ) (r : Hand) → h.first ≤ t → h.latest ≤ t → run ≡ with_bit h.run i → r ≡ runs_on h run h.late h.edge h.first t → r ≡ met_of h t i
-  unfolding met_of
-  met-goes run r ge le e q = rw (le-ltb t h.first ge, le-leb h.latest t le, ← e) q
-
-  pub met-late : (late edge : ℕ) (r : Hand) → h.first ≤ t → t < h.latest → late ≡ with_bit h.late i → edge ≡ min h.edge (t + 1) → r ≡ runs_on h h.run late edge h.first h.latest → r ≡ met_of h t i
-  unfolding met_of
-  met-late late edge r ge lt e f q = rw (le-ltb t h.first ge, lt-leb h.latest t lt, ← e, ← f) q
 
 -- where one was served, none is to be looked at
 pub served-looks : (h : Hand) (l : Price) (c : ℕ) (r : Response) (at : ℕ) → 0 < (served_of h l c r at).run → (served_of h l c r at).unseen ≡ 0
@@ -200,9 +144,6 @@ pub record Serves (ps : List Response) (h : Hand) : Type 0 where
   pub near : (j : ℕ) → bit_at h.late j ≡ true → h.edge ≤ seq_at ps j + 1
   pub before : (j k : ℕ) → j < k → bit_at h.late j ≡ true → bit_at h.run k ≡ true → seq_at ps k < h.edge → seq_at ps k < seq_at ps j
   pub looks : (0 < h.unseen) ⊎ ((h.first < 4294967296) × (0 < h.run + h.late)) → Looks ps h
-
-pub fit : {ps : List Response} {h : Hand} → Serves ps h → rest_of h < 2 ^ 64
-fit s = s.fits
 
 -- ---- how it begins
 

@@ -1,9 +1,8 @@
 -- What the writers' proofs lean on: their fills, a response at a time.
-use mathlib.Core.Path.{◌≡◌, refl, sym, ap, ap₂, ◌∙◌}
+use mathlib.Core.Path.{◌≡◌, refl, sym, ap, ◌∙◌}
 use mathlib.Core.Bool.{Bool, true, false, cond}
 use mathlib.Core.List.{List, [], ◌∷◌, ◌++◌}
-use Prim.Native.Nat.{ℕ, zero, suc, ◌+◌, ◌-◌, ◌*◌, ◌/◌, ◌%◌, ◌≤◌, ◌<◌, min, max}
-use native.Mathlib.Nat.{mul-zero, zero-div}
+use Prim.Native.Nat.{ℕ, ◌+◌, ◌-◌, ◌*◌, ◌/◌, ◌%◌, ◌≤◌, ◌<◌, min}
 use native.Mathlib.Omega.{arith}
 use borrow.Author.Tests.{le-leb, lt-leb, lt-ltb}
 use lib.Dec.{ltb, eqb}
@@ -18,11 +17,9 @@ use Rattle.board.proofs.LiveLaws.{none-live}
 use Rattle.board.proofs.SequenceLaws.{sequence-shuffles}
 use Rattle.share.specs.rules.Share.{floors, fractions, leftover_count, how_many, one_each, shares, in_turn}
 use Rattle.share.specs.rules.Fills.{fill_of, sizes}
-use Rattle.share.specs.inside.Cut.{one_by, spare_by, by_cut, Cuts}
-use Rattle.share.proofs.ShareLaws.{room}
+use Rattle.share.specs.inside.Cut.{by_cut, Cuts}
 use Rattle.share.proofs.CutLaws.{many-cons, one-each-cut}
-use Rattle.trade.specs.inside.Code.{each_fills, dealt, quantity_of, remainder_of, share_fills, Gives}
-use Rattle.trade.specs.declared.Given.{Given}
+use Rattle.trade.specs.inside.Code.{each_fills, dealt, quantity_of, remainder_of, share_fills}
 
 -- ---- a turn of a loop by sequence: i is the place of the lowest sequence of rest
 
@@ -53,11 +50,6 @@ each_none p turns R T c k ps = rw (none_left ps)
 
 pub fill-some : (k p q : ℕ) → 0 < q → length (fill_of k p q) ≡ 1
 fill-some k p q h = rw (lt-ltb 0 q h)
-
--- one member's part, and one more, is at most its size, and at most one where it has none
-pub part-fits : (R T s : ℕ) → R < T → R * s / T + 1 ≤ max s 1
-part-fits R T zero h = simp (mul-zero, zero-div) (omega arith)
-part-fits R T (suc s) h = omega (arith, room R T (suc s) h (omega arith))
 
 -- ---- sums do not go by order
 
@@ -125,18 +117,6 @@ only (q ∷ []) n l e = let f : q ≡ n = omega arith in rw f
 only (q ∷ x ∷ qs) n l e = absurd (omega arith)
 
 -- ---- what one is given
-
-pub gives-turns : (R T c k s q : ℕ) → q ≡ min k s → k ≤ 4294967295 → Gives true R T c k s (record { quantity = q; left = k - q })
-gives-turns R T c k s q e h = record { quantity = e; left = ap (λ (n : ℕ). k - n) e; small = omega arith }
-
-pub gives-parts : (R T c k s part x : ℕ) (one : Given) → R < T → s ≤ 4294967295 → part ≡ R * s / T → x ≡ R * s % T → one.quantity ≡ one_by c k x → one.left ≡ spare_by c k x → one.quantity ≤ 1
-    → Gives false R T c k s (record { quantity = part + one.quantity; left = one.left })
-gives-parts R T c k s part x one h l e f q r m =
-    record {
-      quantity = ap₂ (λ (y z : ℕ). y + z) e (q ∙ ap (one_by c k) f);
-      left = r ∙ ap (spare_by c k) f;
-      small = omega (arith, part-fits R T s h, e);
-    }
 
 pub remainder-le : (turns : Bool) (R T c k s : ℕ) → remainder_of turns R T c k s ≤ k
 remainder-le true R T c k s = omega arith
