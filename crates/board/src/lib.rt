@@ -7,6 +7,7 @@ ghost use Rattle.board.specs.rules.Board.{no_response, response_at, empty_board,
 ghost use Rattle.words.specs.rules.Bits.{clear_in};
 
 use words::bits;
+use words::bits::Places;
 
 // A response that stands on the board: a GTX response, or a limit order. The participant is the firm behind it.
 #[derive(Clone, Copy)]
@@ -120,17 +121,11 @@ pub fn is_named(r: Response, sequence: u32, any: bool) -> bool
 pub fn find(b: Board, sequence: u32, any: bool) -> Option<Found>
     ensures { result ≡ found any b sequence }
 {
-    let mut rest = b.live;
-    while rest != 0 {
-        let i = bits::first_set(rest) as usize;
-        let r = b.places[i];
-        if is_named(r, sequence, any) {
-            return Some(Found {
-                place: i,
-                response: r,
-            });
+    for place in Places::of(b.live) {
+        let response = b.places[place];
+        if is_named(response, sequence, any) {
+            return Some(Found { place, response });
         }
-        rest = bits::without_lowest(rest);
     }
     None
 }

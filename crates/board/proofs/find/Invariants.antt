@@ -4,9 +4,6 @@ use mathlib.Core.Path.{◌≡◌}
 use Rattle.board.specs.rules.Board.{find_in, is_named, find_named}
 use Rattle.board.proofs.find.Given as goal
 
-abbrev pub invariant-loop-rest : goal.invariant-loop-rest
-invariant-loop-rest l =
-    (l.rest < 2 ^ 64) × (find_in (is_named l.any l.sequence) l.rest l.b.places ≡ find_named l.any l.b l.sequence)
-
-abbrev pub decreases-loop-rest : goal.decreases-loop-rest
-decreases-loop-rest l = l.rest
+abbrev pub invariant-loop-place : goal.invariant-loop-place
+invariant-loop-place l =
+    (l.place-iterator.left < 2 ^ 64) × (find_in (is_named l.any l.sequence) l.place-iterator.left l.b.places ≡ find_named l.any l.b l.sequence)
