@@ -14,15 +14,19 @@ class Worker:
     def __init__(self, work):
         self.value, self.file = None, in_memory()
         self.pipe, theirs = os.pipe()
+        # A signal that comes between the fork and `serve` would have the child end the work of others, which is the parent's to do.
+        mask = signal.pthread_sigmask(signal.SIG_BLOCK, (signal.SIGINT, signal.SIGTERM))
         self.pid = os.fork()
         if self.pid == 0:
-            self.serve(work)
+            self.serve(work, mask)
+        signal.pthread_sigmask(signal.SIG_SETMASK, mask)
         os.close(theirs)
 
-    def serve(self, work):
-        signal.signal(signal.SIGINT, signal.SIG_DFL)
+    def serve(self, work, mask):
         try:
             try:
+                signal.signal(signal.SIGINT, signal.SIG_DFL)
+                signal.pthread_sigmask(signal.SIG_SETMASK, mask)
                 result = (True, work())
             except Trouble as t:
                 result = (False, str(t))
