@@ -2,7 +2,7 @@
 
 #![tactic(auto)]
 
-ghost use Rattle.std.specs.Prelude.{◌≡◌, ◌≤◌, IfOk, MatchResult};
+ghost use Rattle.std.specs.Prelude.{◌≡◌, ◌≤◌, IfErr, IfOk, MatchResult};
 ghost use Rattle.io.specs.Counts.{IsPrefixLen};
 
 use std::fmt::InlineText;
@@ -100,7 +100,9 @@ pub fn read_tape<R: Read>(from: &mut R, tape: &mut [u8]) -> Result<usize, Stoppe
 const PATH_MAX: usize = 4096;
 
 // Opens the file of a name for reading, or says why it can't be opened.
-pub fn open<R: Files>(rt: &R, name: &[u8]) -> Result<R::File, SystemError> {
+pub fn open<R: Files>(rt: &R, name: &[u8]) -> Result<R::File, SystemError>
+    ensures { IfErr result (λ error. error.number ≤ 4095) }
+{
     if name.len() >= PATH_MAX {
         return Err(TOO_LONG);
     }
