@@ -27,7 +27,10 @@ def read(commit):
             with open(path) as f:
                 found[path] = f.read()
     else:
-        packed = subprocess.run(("git", "archive", commit, "crates"), check=True, stdout=subprocess.PIPE).stdout
+        packed = subprocess.run(("git", "archive", commit, "crates"), stdout=subprocess.PIPE, stderr=subprocess.PIPE)
+        if packed.returncode:
+            sys.exit("design_count: %s: no such commit here" % commit)
+        packed = packed.stdout
         with tarfile.open(fileobj=io.BytesIO(packed)) as tar:
             for member in tar.getmembers():
                 if re.match(r"crates/\w+/(?:src/\w+\.rt|proofs/.*\.antt)$", member.name):
