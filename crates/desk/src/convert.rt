@@ -15,7 +15,8 @@ fn moved(form: Form, tape: &[u8], out: &mut [u8]) -> Result<usize, Trouble>
     Ok(length as usize)
 }
 
-// The tape on standard input in a form, onto standard output.
+// The tape on standard input in a form, onto standard output. Its buffers are on its own frame: in `main` they would be on each subcommand's stack.
+#[inline(never)]
 pub(crate) fn convert(rt: &impl Print, stdin: &mut impl Read, form: Form) -> Result<(), Trouble> {
     let mut tape = [0u8; MOST];
     let mut out = [0u8; MOST];

@@ -48,6 +48,8 @@ fn open(record: &[u8]) -> Result<Auction, Refusal> {
     auction::accept(tape::read_order(record)?)
 }
 
+// Its lines, too, are on its own frame.
+#[inline(never)]
 pub(crate) fn follow(
     rt: &(impl Print + Eprint),
     stdin: &mut impl Read,

@@ -109,6 +109,8 @@ fn firms(rt: &impl Print, tape: Tape, opened: Auction) -> io::Result<()> {
 
 // ---- the tape on standard input
 
+// Its buffers, too, are on its own frame.
+#[inline(never)]
 pub(crate) fn look_at(rt: &impl Print, stdin: &mut impl Read, look: Look) -> Result<(), Trouble> {
     let mut bytes = [0u8; MOST];
     let n = input::read_tape(stdin, &mut bytes)?;

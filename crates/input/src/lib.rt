@@ -38,6 +38,8 @@ impl From<io::Error> for SystemError {
 }
 
 impl From<SystemError> for u64 {
+    ghost from_gives = { λ error number. number ≡ error.number };
+
     fn from(error: SystemError) -> u64 {
         u64::from(error.number)
     }
@@ -124,7 +126,7 @@ pub fn read_file<R: Files>(rt: &R, name: &[u8], tape: &mut [u8]) -> Result<usize
 }
 
 // A line on standard error: what failed, and the system's words for the number of why. Where that line can't be written, nothing says so.
-pub fn fail<R: Eprint>(rt: &R, what: &str, error: impl Into<u64>) {
-    let words = Words(i32::try_from(error.into()).unwrap_or(0));
+pub fn fail<R: Eprint>(rt: &R, what: &str, error: u64) {
+    let words = Words(i32::try_from(error).unwrap_or(0));
     let _ = eprintln!(rt; "{what}: {words}");
 }

@@ -6,7 +6,7 @@ use Prim.Native.Nat.{ℕ}
 use Rattle.words.specs.rules.Bytes.{word_at}
 use Rattle.tape.specs.rules.Records.{order_words, order_of, order_spare, read_order, width_of, event_words, event_of, event_spare, record_at, trailer_words, trailer_of, read_trailer}
 use Rattle.tape.specs.rules.Tape.{last_trailer, open_tape, order_in, record_in, records_from, records_of, tape_of}
-use Rattle.auction.specs.rules.Accept.{auction_of}
+use Rattle.auction.specs.rules.Accept.{auction_of, Accepts}
 use Rattle.run.specs.rules.Run.{run_of}
 use Rattle.run.proofs.Figures.{Computed}
 use Rattle.listing.specs.rules.Text.{text, digits, decimal}
@@ -28,6 +28,14 @@ pub case-e : (wide : Bool) → listing_of (tape_e wide) ≡ listing_e
 unfolding Lists
 case-e true = refl
 case-e false = refl
+
+pub accepts-c : Accepts example_order
+unfolding Lists
+accepts-c = refl
+
+pub accepts-e : Accepts order_e
+unfolding Lists
+accepts-e = refl
 
 pub watch-c : watch_lines (auction_of example_order) (example_response ∷ example_response ∷ []) ≡ watch_c
 unfolding Lists

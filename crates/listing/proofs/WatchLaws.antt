@@ -25,7 +25,7 @@ use Rattle.listing.specs.rules.Listing.{field, refused_line, side_text, auction_
 use Rattle.listing.specs.rules.Watch.{lines_room, shown_length, shown_bytes, watch_line, watch_lines, watched_of}
 use Rattle.listing.specs.promises.Watching.{Shows, none, more, Watching}
 use Rattle.listing.proofs.LengthLaws.{refused-short, auction-short, watched-short, end-lines-short}
-use Rattle.listing.proofs.Examples.{watch-c, watch-moved, watch-e}
+use Rattle.listing.proofs.Examples.{accepts-c, accepts-e, watch-c, watch-moved, watch-e}
 use Rattle.words.specs.inside.Writing.{WroteBytes}
 
 module _ (line xs : List ℕ) where
@@ -107,6 +107,8 @@ shows a (e ∷ es) t b (more {t = u} out h rest) =
 pub watching : Watching
 watching =
     record {
+      accepts-c = accepts-c;
+      accepts-e = accepts-e;
       case-c = watch-c;
       case-moved = watch-moved;
       case-e = watch-e;

@@ -248,10 +248,10 @@ module _ (o : Order) (f : order_formed o ≡ true) where
       (then _ _ (λ i. ltb (left.size i) 50 && one-cent-national i && not (improved-is i)) NationalCentWide
       refl)))))))))))
 
-pub order-number : (o : Order) → paper_of (accept_of o) ≡ order_number o
+pub order-number : (o : Order) → paper_of (accept_of o) ≡ order_number o (auction_of o)
 unfolding accept_of order_refusal
 order-number o = go (order_formed o) refl
   where
-    go : (t : Bool) → order_formed o ≡ t → paper_of (result_and (cond (not t) (Err OrderOutOfForm) (buy_refusal (buy_order o))) (Ok (auction_of o))) ≡ order_number o
+    go : (t : Bool) → order_formed o ≡ t → paper_of (result_and (cond (not t) (Err OrderOutOfForm) (buy_refusal (buy_order o))) (Ok (auction_of o))) ≡ order_number o (auction_of o)
     go true f = buy-is o f ∙ sym (simp f)
     go false f = sym (simp f)

@@ -29,4 +29,4 @@ figures = refl
 
 pub firm-figures : FirmFigures
 unfolding Computed participant_of
-firm-figures = (refl, refl)
+firm-figures = (refl, refl, refl, refl)

@@ -23,10 +23,14 @@ fn main(rt: HostRuntime) {
     let mut out = [0u8; ROOM];
     let tape = match input::read_tape(&mut rt.stdin(), &mut tape) {
         Ok(n) => &tape[..n],
-        Err(stopped) => return input::fail(&rt, "runner: standard input", stopped.error),
+        Err(stopped) => return input::fail(&rt, "runner: standard input", stopped.error.into()),
     };
     let n = answer(tape, &mut out);
     if let Err(error) = rt.write_all(&out[..n]) {
-        input::fail(&rt, "runner: standard output", SystemError::from(error));
+        input::fail(
+            &rt,
+            "runner: standard output",
+            SystemError::from(error).into(),
+        );
     }
 }

@@ -4,7 +4,7 @@ use Rattle.board.specs.promises.Board.{Good}
 use Rattle.tape.specs.declared.event.Event.{Event}
 use Rattle.auction.specs.declared.Auction.{Auction}
 use Rattle.auction.specs.declared.Head.{Head}
-use Rattle.auction.specs.rules.Accept.{auction_of}
+use Rattle.auction.specs.rules.Accept.{auction_of, Accepts}
 use Rattle.events.specs.rules.Step.{step_of}
 use Rattle.run.specs.rules.Run.{run}
 use Rattle.run.specs.promises.Figures.{event, gtx}
@@ -47,6 +47,9 @@ pub data Shows : Auction → List Event → List ℕ → Auction → Type 0 wher
       → Shows a (e ∷ es) (take (watched_of a e out).length (shown_bytes (watch_line a e) out) ++ t) c
 
 pub record Watching : Type 0 where
+  -- the orders of the examples are accepted
+  pub accepts-c : Accepts example_order
+  pub accepts-e : Accepts order_e
   pub case-c : watch_lines (auction_of example_order) (example_response ∷ example_response ∷ []) ≡ watch_c
   pub case-moved : watch_lines (auction_of example_order) moved ≡ watch_moved
   pub case-e : watch_lines (auction_of order_e) (no_event 1 ∷ market_e ∷ no_event 3 ∷ []) ≡ watch_e

@@ -26,8 +26,8 @@ use Rattle.promise.specs.promises.Below.{Below}
 pub record Promise : Type 0 where
   -- 1. Every tape is answered: `REFUSED` and its number, or an auction's listing; whatever room is lent for it
   pub answered : (s : List ℕ) → Answered s
-  -- an order is accepted, or refused with the first number that its own fields give
-  pub order-number : (o : Order) → paper_of (accept_of o) ≡ order_number o
+  -- an order is accepted and opens its auction, or is refused with the first number that its own fields give
+  pub order-number : (o : Order) → paper_of (accept_of o) ≡ order_number o (auction_of o)
   pub roomed : (s out : List ℕ) → Roomed s out
   pub filling : (a : Auction) (xs : List ℕ) (start : ℕ) → Filling a xs start
   pub numbered : Numbered

@@ -5,8 +5,6 @@ use Rattle.words.specs.rules.Bits.{bit_at}
 use Rattle.tape.specs.declared.order.Order.{Order}
 use Rattle.tape.specs.rules.Form.{order_formed}
 use Rattle.exact.specs.rules.EitherSide.{better, worse_of}
-use Rattle.auction.specs.declared.Auction.{Auction}
-use Rattle.auction.specs.rules.Accept.{auction_of}
 use Rattle.promise.specs.rules.Answers.{Paper, no, yes}
 use Rattle.promise.specs.rules.Sides.{is_sell, initiating_price}
 use Rattle.promise.specs.rules.Events.{first_quoted, bound_at}
@@ -24,9 +22,9 @@ module _ (o : Order) where
   abbrev pub one_cent_better : ℕ
   one_cent_better = cond (is_sell o) (o.nbb + 1) (o.nbo - 1)
 
-  -- the order's number, or the auction that it opens
-  abbrev pub order_number : Paper Auction
-  order_number =
+  -- the order's number, or what stands for one that none refuses
+  abbrev pub order_number : {A : Type 0} → A → Paper A
+  order_number opened =
       -- a field outside its stated form
       cond (not (order_formed o)) (no 1)
       -- BB > NBB or BO < NBO
@@ -45,4 +43,4 @@ module _ (o : Order) where
       -- the stop or auto-match limit beyond the initiating price; mode 2 has neither
       (cond (not (eqb o.mode 2) && better (is_sell o) (initiating_price o) o.stop) (no 11)
       (cond (ltb o.size 50 && eqb (o.nbo - o.nbb) 1 && not (eqb guaranteed_price one_cent_better)) (no 12)
-      (yes (auction_of o))))))))))))))
+      (yes opened)))))))))))))

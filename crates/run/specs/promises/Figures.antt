@@ -6,7 +6,7 @@ use Rattle.share.specs.rules.Fills.{Fill, fill}
 use Rattle.tape.specs.declared.order.Order.{Order}
 use Rattle.tape.specs.declared.event.Event.{Event}
 use Rattle.auction.specs.rules.Firm.{participant_of}
-use Rattle.auction.specs.rules.Accept.{accept_of}
+use Rattle.auction.specs.rules.Accept.{accept_of, Accepts}
 use Rattle.auction.specs.rules.Range.{range_of}
 use Rattle.auction.specs.promises.Collared.{recollared}
 use Rattle.fills.specs.rules.Fills.{auction_fills}
@@ -246,7 +246,9 @@ firms_at_end o es = map (participant_of (played o es)) (1 ∷ 2 ∷ 3 ∷ 4 ∷ 
 
 abbrev pub FirmFigures : Type 0
 FirmFigures =
-    (firms_at_end (order 1 1 100 110 108) (by 7 (gtx 1 30 105) ∷ by 9 (amend 2 1 20 106) ∷ by 5 (offer 3 10 107) ∷ by 6 (gtx 4 10 107) ∷ by 8 (cancel 5 4) ∷ by 3 (market 6 2 4) ∷ [])
+    Accepts (order 1 1 100 110 108)
+    × (firms_at_end (order 1 1 100 110 108) (by 7 (gtx 1 30 105) ∷ by 9 (amend 2 1 20 106) ∷ by 5 (offer 3 10 107) ∷ by 6 (gtx 4 10 107) ∷ by 8 (cancel 5 4) ∷ by 3 (market 6 2 4) ∷ [])
     ≡ None ∷ Some 9 ∷ Some 5 ∷ None ∷ None ∷ None ∷ [])
+    × Accepts (order 2 1 100 100 102)
     × (firms_at_end (order 2 1 100 100 102) (by 7 (gtx_buy 1 30 105) ∷ by 9 (amend 2 1 20 104) ∷ by 5 (bid 3 10 103) ∷ by 6 (gtx_buy 4 10 103) ∷ by 8 (cancel 5 4) ∷ by 3 (market 6 1 4) ∷ [])
     ≡ None ∷ Some 9 ∷ Some 5 ∷ None ∷ None ∷ None ∷ [])

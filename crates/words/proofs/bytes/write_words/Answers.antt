@@ -8,7 +8,7 @@ returns-then-saturating_sub-ws c = sym (row_out _ _ _ (omega arith))
 pub loop-i-preserved : goal.loop-i-preserved
 loop-i-preserved c =
     let a = c.args in
-    word_more a.out.now c.loop-i.out a.ws.now a.at c.loop-i.i c.loop-i.invariant (omega arith) (omega arith) (rw c.copy_from_slice.ensures.after c.to_le_bytes-word.ensures)
+    word_more a.out.now c.loop-i.out a.ws.now a.at c.loop-i.i c.loop-i.invariant (omega arith) (omega arith) (rw (c.copy_from_slice.ensures.after, c.to_le_bytes-word.ensures))
 
 pub returns : goal.returns
 returns c =
