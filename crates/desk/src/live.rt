@@ -48,7 +48,7 @@ fn open(record: &[u8]) -> Result<Auction, Refusal> {
     auction::accept(tape::read_order(record)?)
 }
 
-// Its lines, too, are on its own frame.
+// An auction by its records as they come. Its lines are on its own frame: in `main` they would be on each subcommand's stack.
 #[inline(never)]
 pub(crate) fn follow(
     rt: &(impl Print + Eprint),

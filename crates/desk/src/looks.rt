@@ -109,7 +109,7 @@ fn firms(rt: &impl Print, tape: Tape, opened: Auction) -> io::Result<()> {
 
 // ---- the tape on standard input
 
-// Its buffers, too, are on its own frame.
+// Its buffers are on its own frame: in `main` they would be on each subcommand's stack.
 #[inline(never)]
 pub(crate) fn look_at(rt: &impl Print, stdin: &mut impl Read, look: Look) -> Result<(), Trouble> {
     let mut bytes = [0u8; MOST];

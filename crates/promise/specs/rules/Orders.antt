@@ -22,7 +22,7 @@ module _ (o : Order) where
   abbrev pub one_cent_better : ℕ
   one_cent_better = cond (is_sell o) (o.nbb + 1) (o.nbo - 1)
 
-  -- the order's number, or what stands for one that none refuses
+  -- the order's number, or what is given for an order that no test refuses
   abbrev pub order_number : {A : Type 0} → A → Paper A
   order_number opened =
       -- a field outside its stated form
